@@ -1,0 +1,44 @@
+// Arithmetic modulo q. Every function takes any u32; the results are below q.
+ghost use mathlib.Core.Path.{_≡_};
+ghost use Rattle.lists.specs.Lists.{allBelow};
+ghost use Rattle.field.specs.Field.{q, add, sub, mul};
+
+// q = 8,380,417, at the two widths in which the code needs it.
+pub const Q: u32 = 8380417;
+
+pub const Q64: u64 = 8380417;
+
+// a + b modulo q.
+pub fn add_mod(a: u32, b: u32) -> u32
+    ensures { λ r. ⌜ r ≡ add q a b ⌝ }
+{
+    ((a as u64 + b as u64) % Q64) as u32
+}
+
+// a - b modulo q.
+pub fn sub_mod(a: u32, b: u32) -> u32
+    ensures { λ r. ⌜ r ≡ sub q a b ⌝ }
+{
+    ((a as u64 + (Q - b % Q) as u64) % Q64) as u32
+}
+
+// a × b modulo q.
+pub fn mul_mod(a: u32, b: u32) -> u32
+    ensures { λ r. ⌜ r ≡ mul q a b ⌝ }
+{
+    ((a as u64 * b as u64) % Q64) as u32
+}
+
+// Question 6 of a list: is every number below q?
+pub fn all_below_q(numbers: &[u32]) -> bool
+    ensures { λ r. ⌜ r ≡ allBelow q (now (numbers .entry)) ⌝ }
+{
+    let mut i = 0;
+    while i < numbers.len() {
+        if numbers[i] >= Q {
+            return false;
+        }
+        i += 1;
+    }
+    true
+}

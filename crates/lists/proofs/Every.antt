@@ -1,0 +1,106 @@
+-- Tests of every member of a list: one member, and a loop that stops at the first that fails.
+use mathlib.Core.Path.{_≡_, refl, sym, ap, _∙_}
+use mathlib.Core.Bool.{Bool, true, false, _&&_}
+use mathlib.Core.List.{List, [], _∷_, _++_}
+use Prim.Native.Nat.{ℕ, zero, suc, _+_, _≤_, _<_}
+use native.Mathlib.Numerals.{add-one}
+use native.Mathlib.Nat.{zero-add, add-zero}
+use native.Mathlib.Omega.{arith}
+use native.Mathlib.Decide.{decLt}
+use lib.Dec.{ltb}
+use borrow.Author.Tests.{ltb-true, lt-ltb, le-ltb}
+use lib.ListN.{length, getD, drop, drop-of-length-le}
+use lib.Seq.{drop-cons}
+use Rattle.lists.specs.Lists.{every, allBelow, allTo, listFrom, joinFrom}
+use Rattle.lists.proofs.Questions.{both-yes}
+
+-- ---- the loop: its invariant is that the rest passes just if the whole does
+
+module _ (f : ℕ → Bool) (xs : List ℕ) (i : ℕ) where
+  pub every-again : i < length xs → f (getD xs i 0) ≡ true → every f (drop i xs) ≡ every f xs → every f (drop (i + 1) xs) ≡ every f xs
+  unfolding every
+  every-again h e inv = rw add-one (rw (drop-cons xs i 0 h, e) at inv)
+
+  pub every-stop : i < length xs → f (getD xs i 0) ≡ false → every f (drop i xs) ≡ every f xs → false ≡ every f xs
+  unfolding every
+  every-stop h e inv = rw (drop-cons xs i 0 h, e) at inv
+
+  pub every-end : length xs ≤ i → every f (drop i xs) ≡ every f xs → true ≡ every f xs
+  unfolding every
+  every-end h inv = rw (drop-of-length-le xs h) at inv
+
+-- the same for numbers below m
+module _ (m : ℕ) (xs : List ℕ) (i : ℕ) where
+  abbrev less : ℕ → Bool
+  less x = ltb x m
+
+  pub below-again : i < length xs → getD xs i 0 < m → allBelow m (drop i xs) ≡ allBelow m xs → allBelow m (drop (i + 1) xs) ≡ allBelow m xs
+  unfolding allBelow
+  below-again h e inv = every-again less xs i h (lt-ltb (getD xs i 0) m e) inv
+
+  pub below-stop : i < length xs → m ≤ getD xs i 0 → allBelow m (drop i xs) ≡ allBelow m xs → false ≡ allBelow m xs
+  unfolding allBelow
+  below-stop h e inv = every-stop less xs i h (le-ltb (getD xs i 0) m e) inv
+
+  pub below-end : length xs ≤ i → allBelow m (drop i xs) ≡ allBelow m xs → true ≡ allBelow m xs
+  unfolding allBelow
+  below-end h inv = every-end less xs i h inv
+
+-- ---- one member
+
+pub every-at : {A : Type 0} (f : A → Bool) (xs : List A) (i : ℕ) (d : A) → every f xs ≡ true → i < length xs → f (getD xs i d) ≡ true
+unfolding every
+every-at f [] i d e h = absurd (omega arith)
+every-at f (x ∷ xs) zero d e h = both-yes (f x) (every f xs) e .0
+every-at f (x ∷ xs) (suc i) d e h = every-at f xs i d (both-yes (f x) (every f xs) e .1) (omega arith)
+
+-- a number at any place of a list whose numbers are below m
+pub below-at : (m : ℕ) (xs : List ℕ) (i : ℕ) → 0 < m → allBelow m xs ≡ true → getD xs i 0 < m
+unfolding allBelow every
+below-at m [] i pos e = pos
+below-at m (x ∷ xs) zero pos e = ltb-true x m (both-yes (ltb x m) (allBelow m xs) e .0)
+below-at m (x ∷ xs) (suc i) pos e = below-at m xs i pos (both-yes (ltb x m) (allBelow m xs) e .1)
+
+-- ---- lists that are made of others
+
+pub every-append : {A : Type 0} (t : A → Bool) (xs ys : List A) → every t xs ≡ true → every t ys ≡ true → every t (xs ++ ys) ≡ true
+unfolding every
+every-append t [] ys h k = k
+every-append t (x ∷ xs) ys h k =
+    let b = both-yes (t x) (every t xs) h in
+    rw (b .0) (every-append t xs ys (b .1) k)
+
+pub every-listFrom : {A : Type 0} (t : A → Bool) (i n : ℕ) (f : ℕ → A) → ((x : ℕ) → x < n → t (f (i + x)) ≡ true) → every t (listFrom i n f) ≡ true
+unfolding every listFrom
+every-listFrom t i zero f h = refl
+every-listFrom t i (suc n) f h =
+    rw (rw add-zero at (h 0 (omega arith)))
+    (every-listFrom t (suc i) n f (λ x l. let s : i + suc x ≡ suc i + x = omega arith in rw s at (h (suc x) (omega arith))))
+
+pub every-listTo : {A : Type 0} (t : A → Bool) (n : ℕ) (f : ℕ → A) → ((x : ℕ) → x < n → t (f x) ≡ true) → every t (listFrom 0 n f) ≡ true
+every-listTo t n f h = every-listFrom t 0 n f (λ x l. let s : 0 + x ≡ x = zero-add x in rw s (h x l))
+
+pub every-join : {A : Type 0} (t : A → Bool) (i n : ℕ) (f : ℕ → List A) → ((x : ℕ) → x < n → every t (f (i + x)) ≡ true) → every t (joinFrom i n f) ≡ true
+unfolding joinFrom every
+every-join t i zero f h = refl
+every-join t i (suc n) f h =
+    every-append t (f i) _ (rw add-zero at (h 0 (omega arith)))
+    (every-join t (suc i) n f (λ x l. let s : i + suc x ≡ suc i + x = omega arith in rw s at (h (suc x) (omega arith))))
+
+-- ---- a test of every number below n
+
+pub allTo-at : (n : ℕ) (f : ℕ → Bool) (i : ℕ) → allTo n f ≡ true → i < n → f i ≡ true
+unfolding allTo
+allTo-at zero f i e h = absurd (omega arith)
+allTo-at (suc n) f i e h = go (decLt i n) (allTo-at n f i (both-yes (allTo n f) (f n) e .0))
+  where
+    go : Dec (i < n) → (i < n → f i ≡ true) → f i ≡ true
+    go (yes p) ih = ih p
+    go (no p) ih =
+        let s : i ≡ n = omega arith in
+        rw s (both-yes (allTo n f) (f n) e .1)
+
+pub allTo-yes : (n : ℕ) (f : ℕ → Bool) → ((i : ℕ) → i < n → f i ≡ true) → allTo n f ≡ true
+unfolding allTo
+allTo-yes zero f h = refl
+allTo-yes (suc n) f h = rw (allTo-yes n f (λ i l. h i (omega arith))) (h n (omega arith))

@@ -1,0 +1,120 @@
+-- A list with a run of its places replaced by an index function, and what stands where in it.
+use mathlib.Core.Path.{_≡_, refl, sym, ap, _∙_}
+use mathlib.Core.List.{List, [], _∷_, _++_}
+use mathlib.Core.Bool.{Bool, true, false, cond}
+use lib.Dec.{ltb}
+use borrow.Author.Tests.{lt-ltb, le-ltb}
+use Prim.Native.Nat.{ℕ, zero, suc, _+_, _-_, _≤_, _<_}
+use native.Mathlib.Omega.{arith}
+use native.Mathlib.Numerals.{add-one}
+use lib.ListN.{length, getD, set, drop, length-set}
+use native.Mathlib.Nat.{zero-add, add-zero, add-suc, add-assoc}
+use lib.Seq.{getD-set-same, getD-set-other, ext-getD, drop-set-lt}
+use native.Mathlib.Decide.{decLt}
+use Rattle.lists.specs.Lists.{fill, listTo, inFront}
+use Rattle.lists.proofs.Lists.{length-listFrom, getD-listTo, prefix-is}
+
+-- a turn of a loop that stores f n at i + n
+pub fill-none : (s : List ℕ) (i : ℕ) (f : ℕ → ℕ) → fill s i 0 f ≡ s
+unfolding fill
+fill-none s i f = refl
+
+pub fill-more : (s : List ℕ) (i n : ℕ) (f : ℕ → ℕ) → fill s i (n + 1) f ≡ set (fill s i n f) (i + n) (f n)
+unfolding fill
+fill-more s i n f = rw add-one
+
+pub length-fill : (s : List ℕ) (i n : ℕ) (f : ℕ → ℕ) → length (fill s i n f) ≡ length s
+unfolding fill
+length-fill s i zero f = refl
+length-fill s i (suc n) f = length-set (fill s i n f) (i + n) (f n) ∙ length-fill s i n f
+
+-- a place before the run, and one behind it, is as it was
+pub fill-before : (s : List ℕ) (i n : ℕ) (f : ℕ → ℕ) (j : ℕ) → j < i → getD (fill s i n f) j 0 ≡ getD s j 0
+unfolding fill
+fill-before s i zero f j h = refl
+fill-before s i (suc n) f j h = getD-set-other (fill s i n f) (i + n) j (f n) 0 (omega arith) ∙ fill-before s i n f j h
+
+pub fill-behind : (s : List ℕ) (i n : ℕ) (f : ℕ → ℕ) (j : ℕ) → i + n ≤ j → getD (fill s i n f) j 0 ≡ getD s j 0
+unfolding fill
+fill-behind s i zero f j h = refl
+fill-behind s i (suc n) f j h = getD-set-other (fill s i n f) (i + n) j (f n) 0 (omega arith) ∙ fill-behind s i n f j (omega arith)
+
+-- place k of the run
+pub fill-at : (s : List ℕ) (i n : ℕ) (f : ℕ → ℕ) (k : ℕ) → i + n ≤ length s → k < n → getD (fill s i n f) (i + k) 0 ≡ f k
+unfolding fill
+fill-at s i zero f k r h = absurd (omega arith)
+fill-at s i (suc n) f k r h = go (decLt k n) (λ p. fill-at s i n f k (omega arith) p)
+  where
+    go : Dec (k < n) → (k < n → getD (fill s i n f) (i + k) 0 ≡ f k) → getD (set (fill s i n f) (i + n) (f n)) (i + k) 0 ≡ f k
+    go (yes p) ih = getD-set-other (fill s i n f) (i + n) (i + k) (f n) 0 (omega arith) ∙ ih p
+    go (no p) ih =
+        let e : n ≡ k = omega arith in
+        rw e (getD-set-same (fill s i k f) (i + k) (f k) 0 (omega (arith, length-fill s i k f)))
+
+-- ---- a run from place 0, with no `0 +` before an index
+
+pub front-more : (s : List ℕ) (n : ℕ) (f : ℕ → ℕ) → fill s 0 (n + 1) f ≡ set (fill s 0 n f) n (f n)
+front-more s n f = fill-more s 0 n f ∙ ap (λ (k : ℕ). set (fill s 0 n f) k (f n)) (zero-add n)
+
+pub front-at : (s : List ℕ) (n : ℕ) (f : ℕ → ℕ) (k : ℕ) → n ≤ length s → k < n → getD (fill s 0 n f) k 0 ≡ f k
+front-at s n f k r h = rw zero-add at (fill-at s 0 n f k (omega arith) h)
+
+pub front-behind : (s : List ℕ) (n : ℕ) (f : ℕ → ℕ) (j : ℕ) → n ≤ j → getD (fill s 0 n f) j 0 ≡ getD s j 0
+front-behind s n f j h = fill-behind s 0 n f j (omega arith)
+
+-- ---- any place of it
+
+-- place j of a list with a run replaced
+abbrev pub inRun : List ℕ → ℕ → ℕ → (ℕ → ℕ) → ℕ → ℕ
+inRun s i n f j = cond (ltb j i) (getD s j 0) (cond (ltb j (i + n)) (f (j - i)) (getD s j 0))
+
+pub getD-fill : (s : List ℕ) (i n : ℕ) (f : ℕ → ℕ) → i + n ≤ length s → (j : ℕ) → getD (fill s i n f) j 0 ≡ inRun s i n f j
+getD-fill s i n f r j = go (decLt j i) (decLt j (i + n))
+  where
+    go : Dec (j < i) → Dec (j < i + n) → getD (fill s i n f) j 0 ≡ inRun s i n f j
+    go (yes a) d = rw (lt-ltb j i a) (fill-before s i n f j a)
+    go (no a) (yes b) =
+        let e : i + (j - i) ≡ j = omega arith in
+        rw (le-ltb j i (omega arith), lt-ltb j (i + n) b) (rw e at (fill-at s i n f (j - i) r (omega arith)))
+    go (no a) (no b) = rw (le-ltb j i (omega arith), le-ltb j (i + n) (omega arith)) (fill-behind s i n f j (omega arith))
+
+-- ---- written in front: a list by its index function, and then what stood there
+
+drop-fill : (s : List ℕ) (n m : ℕ) (f : ℕ → ℕ) → n ≤ m → drop m (fill s 0 n f) ≡ drop m s
+unfolding fill
+drop-fill s zero m f h = refl
+drop-fill s (suc n) m f h = drop-set-lt m (fill s 0 n f) (0 + n) (f n) (omega arith) ∙ drop-fill s n m f (omega arith)
+
+pub front-is : (s : List ℕ) (n : ℕ) (f : ℕ → ℕ) → n ≤ length s → fill s 0 n f ≡ inFront (listTo n f) s
+front-is s n f h =
+    let e : length (listTo n f) ≡ n = length-listFrom 0 n f in
+    sym (prefix-is (listTo n f) (fill s 0 n f) 0 (omega (arith, length-fill s 0 n f)) (λ x l. front-at s n f x h (omega arith) ∙ sym (getD-listTo n f x 0 (omega arith))))
+    ∙ ap (λ (r : List ℕ). listTo n f ++ r) (drop-fill s n (length (listTo n f)) f (omega arith))
+
+-- a list written whole
+pub whole-is : (s : List ℕ) (n : ℕ) (f : ℕ → ℕ) → length s ≡ n → fill s 0 n f ≡ listTo n f
+whole-is s n f h =
+    ext-getD 0 _ _ (length-fill s 0 n f ∙ h ∙ sym (length-listFrom 0 n f))
+    (λ x l. let b : x < n = omega (arith, length-fill s 0 n f) in front-at s n f x (omega arith) b ∙ sym (getD-listTo n f x 0 b))
+
+-- two runs, one behind the other, are one
+pub fill-join : (s : List ℕ) (i n m : ℕ) (f g : ℕ → ℕ) → ((k : ℕ) → k < m → g k ≡ f (n + k)) → fill (fill s i n f) (i + n) m g ≡ fill s i (n + m) f
+unfolding fill
+fill-join s i n zero f g e = rw (add-zero n)
+fill-join s i n (suc m) f g e =
+    rw (add-suc n m, fill-join s i n m f g (λ k h. e k (omega arith)), e m (omega arith), add-assoc i n m)
+
+pub fill-same : (s : List ℕ) (i n : ℕ) (f g : ℕ → ℕ) → ((k : ℕ) → k < n → f k ≡ g k) → fill s i n f ≡ fill s i n g
+unfolding fill
+fill-same s i zero f g e = refl
+fill-same s i (suc n) f g e = rw (fill-same s i n f g (λ k h. e k (omega arith)), e n (omega arith))
+
+-- a run made elsewhere and copied
+pub fill-copy : (s t z : List ℕ) (a n : ℕ) (f : ℕ → ℕ) → t ≡ fill z 0 n f → n ≤ length z → fill s a n (λ k. getD t k 0) ≡ fill s a n f
+fill-copy s t z a n f e r = fill-same s a n (λ k. getD t k 0) f (λ k h. ap (λ (l : List ℕ). getD l k 0) e ∙ front-at z n f k r h)
+
+-- two such runs, one after the other
+pub copy-two : (s s₁ s₂ t u y z : List ℕ) (a b n : ℕ) (f g : ℕ → ℕ) → t ≡ fill y 0 n f → u ≡ fill z 0 n g → n ≤ length y → n ≤ length z →
+    s₁ ≡ fill s a n (λ k. getD t k 0) → s₂ ≡ fill s₁ b n (λ k. getD u k 0) → s₂ ≡ fill (fill s a n f) b n g
+copy-two s s₁ s₂ t u y z a b n f g et eu ry rz e₁ e₂ =
+    e₂ ∙ fill-copy s₁ u z b n g eu rz ∙ ap (λ (l : List ℕ). fill l b n g) (e₁ ∙ fill-copy s t y a n f et ry)

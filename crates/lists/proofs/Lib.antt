@@ -1,0 +1,7 @@
+-- The laws of the words for lists and answers.
+pub mod Indicators
+pub mod Questions
+pub mod Every
+pub mod Lists
+pub mod Fill
+pub mod Part

@@ -1,0 +1,3 @@
+-- The words for lists and answers.
+pub mod Answers
+pub mod Lists

@@ -1,0 +1,1 @@
+// The words for lists and answers in which the meaning of the product is written, and their laws. No functions.
