@@ -1,11 +1,11 @@
 // Plain rounding of ML-DSA coefficients: high part, low part and bound verdict, and the digits of a number.
 ghost use mathlib.Core.Path.{_≡_};
-ghost use Prim.Native.Nat.{_+_, _<_, _≤_};
+ghost use Prim.Native.Nat.{_+_, _-_, _/_, _%_, _<_, _≤_};
 ghost use lib.IntN.{subℕ, natAbs};
 ghost use Rattle.lists.specs.Lists.{every};
 ghost use Rattle.field.specs.Field.{q};
 ghost use Rattle.rounding.specs.Sets.{scaleOf, base};
-ghost use Rattle.rounding.specs.Questions.{boundOk};
+ghost use Rattle.rounding.specs.Questions.{boundOk, keyOk, askSettings};
 ghost use Rattle.rounding.specs.Plain.{highPart, lowPart, centred, inside};
 ghost use Rattle.rounding.specs.Digits.{splitOf};
 ghost use Rattle.rounding.specs.Calls.{partNo, verdictNo, highCall, lowCall, verdictCall};
@@ -44,10 +44,242 @@ pub enum Verdict {
     No(u32),
 }
 
-// How many values a digit has. (Callers have asked question 1.)
+// ---- Constants. (Callers have asked question 1.)
+
+// How many values a digit has.
 pub fn base_of(set: usize, digit: usize) -> u32
     requires { ⌜ (set < 2) × (digit < 5) ⌝ }
-    ensures { λ r. ⌜ (r ≡ base (scaleOf set) digit) × (0 < r) × (r ≤ 45) ⌝ }
+    ensures { λ r. ⌜ (r ≡ base (scaleOf set) digit) × (1 ≤ r) × (r ≤ 45) ⌝ }
 {
     BASES[set][digit]
+}
+
+// The step α.
+pub fn alpha_of(set: usize) -> u32
+    requires { ⌜ set < 2 ⌝ }
+    ensures { λ r. ⌜ (r ≡ scaleOf set .alpha) × (2 ≤ r) × (r ≤ 523776) ⌝ }
+{
+    ALPHAS[set]
+}
+
+// The parts s.
+pub fn parts_of(set: usize) -> u32
+    requires { ⌜ set < 2 ⌝ }
+    ensures { λ r. ⌜ (r ≡ scaleOf set .parts) × (1 ≤ r) × (r ≤ 44) ⌝ }
+{
+    PARTS[set]
+}
+
+// A number and its five digits.
+pub fn split_number(set: usize, x: u32) -> Split
+    requires { ⌜ set < 2 ⌝ }
+    ensures { λ r. ⌜ r ≡ splitOf (scaleOf set) x ⌝ }
+{
+    let b0 = base_of(set, 0);
+    let b1 = base_of(set, 1);
+    let b2 = base_of(set, 2);
+    let b3 = base_of(set, 3);
+    let x1 = x / b0;
+    let x2 = x1 / b1;
+    let x3 = x2 / b2;
+    let x4 = x3 / b3;
+    Split {
+        number: x,
+        digits: [x % b0, x1 % b1, x2 % b2, x3 % b3, x4],
+    }
+}
+
+// ---- Questions that several calls ask
+
+// Question 3.
+pub fn bound_ok(kind: u32, bound: u32) -> bool
+    ensures { λ r. ⌜ r ≡ boundOk kind bound ⌝ }
+{
+    if kind == 0 {
+        return bound == 0;
+    }
+    if bound < 1 {
+        return false;
+    }
+    bound <= 4190208
+}
+
+// Question 4, of one key.
+pub fn key_ok(key: u32) -> bool
+    ensures { λ r. ⌜ r ≡ keyOk key ⌝ }
+{
+    if key < 1 {
+        return false;
+    }
+    key < Q
+}
+
+// Questions 1 to 3: the first no, or 0.
+pub fn settings_no(number: u32, set: u32, kind: u32, n: u32, bound: u32) -> u32
+    ensures { λ r. ⌜ r ≡ askSettings number set kind n bound 0 ⌝ }
+{
+    if number >= 2 {
+        return 1;
+    }
+    if set >= 2 {
+        return 1;
+    }
+    if kind >= 2 {
+        return 1;
+    }
+    if n < 1 {
+        return 2;
+    }
+    if n > 8 {
+        return 2;
+    }
+    if !bound_ok(kind, bound) {
+        return 3;
+    }
+    0
+}
+
+// ---- High and low part
+
+// The first no of a call for a part, or 0.
+fn part_no(set: u32, w: u32) -> u32
+    ensures { λ r. ⌜ r ≡ partNo set w ⌝ }
+{
+    if set >= 2 {
+        return 1;
+    }
+    if w >= Q {
+        return 6;
+    }
+    0
+}
+
+// w′ for a step.
+fn shift(alpha: u32, w: u32) -> u32
+    requires { ⌜ (2 ≤ alpha) × (alpha ≤ 523776) × (w < q) ⌝ }
+    ensures { λ r. ⌜ r ≡ (w + (alpha / 2 - 1)) % q ⌝ }
+{
+    (w + (alpha / 2 - 1)) % Q
+}
+
+// The high part of a number below q.
+fn high_of(set: usize, w: u32) -> u32
+    requires { ⌜ (set < 2) × (w < q) ⌝ }
+    ensures { λ r. ⌜ r ≡ highPart (scaleOf set) w ⌝ }
+{
+    let alpha = alpha_of(set);
+    let shifted = shift(alpha, w);
+    if shifted == Q - 1 {
+        return 0;
+    }
+    shifted / alpha
+}
+
+// a - b.
+fn difference(a: u32, b: u32) -> i32
+    requires { ⌜ (a < 2147483648) × (b < 2147483648) ⌝ }
+    ensures { λ r. ⌜ r ≡ subℕ a b ⌝ }
+{
+    (a as i32) - (b as i32)
+}
+
+// The low part of a number below q.
+fn low_of(set: usize, w: u32) -> i32
+    requires { ⌜ (set < 2) × (w < q) ⌝ }
+    ensures { λ r. ⌜ r ≡ lowPart (scaleOf set) w ⌝ }
+{
+    let alpha = alpha_of(set);
+    let half = alpha / 2;
+    let shifted = shift(alpha, w);
+    if shifted == Q - 1 {
+        return difference(0, half);
+    }
+    difference(shifted % alpha, half - 1)
+}
+
+// The high part of a coefficient.
+pub fn high_part(set: u32, w: u32) -> High
+    ensures { λ r. ⌜ r ≡ highCall set w ⌝ }
+{
+    let no = part_no(set, w);
+    if no != 0 {
+        return High::No(no);
+    }
+    High::Part(high_of(set as usize, w))
+}
+
+// The low part of a coefficient, signed.
+pub fn low_part(set: u32, w: u32) -> Low
+    ensures { λ r. ⌜ r ≡ lowCall set w ⌝ }
+{
+    let no = part_no(set, w);
+    if no != 0 {
+        return Low::No(no);
+    }
+    Low::Part(low_of(set as usize, w))
+}
+
+// ---- Verdict
+
+// The absolute size of a centred number.
+fn size(x: u32) -> u32
+    ensures { λ r. ⌜ r ≡ natAbs (centred q x) ⌝ }
+{
+    if x <= (Q - 1) / 2 {
+        return x;
+    }
+    if x < Q {
+        return Q - x;
+    }
+    x - Q
+}
+
+// Is every number's size below the bound?
+fn all_inside(bound: u32, numbers: &[u32]) -> bool
+    ensures { λ r. ⌜ r ≡ every (inside q bound) (now (numbers .entry)) ⌝ }
+{
+    let mut i = 0;
+    while i < numbers.len() {
+        if size(numbers[i]) >= bound {
+            return false;
+        }
+        i += 1;
+    }
+    true
+}
+
+// The first no of a verdict, or 0.
+fn verdict_no(set: u32, bound: u32, numbers: &[u32]) -> u32
+    ensures { λ r. ⌜ r ≡ verdictNo set bound (now (numbers .entry)) ⌝ }
+{
+    if set >= 2 {
+        return 1;
+    }
+    if numbers.len() < 1 {
+        return 2;
+    }
+    if numbers.len() > 8 {
+        return 2;
+    }
+    if !bound_ok(1, bound) {
+        return 3;
+    }
+    if !all_below_q(numbers) {
+        return 6;
+    }
+    0
+}
+
+// Has every coefficient, centred, an absolute size below the bound?
+pub fn bound_verdict(set: u32, bound: u32, numbers: &[u32]) -> Verdict
+    ensures { λ r. ⌜ r ≡ verdictCall set bound (now (numbers .entry)) ⌝ }
+{
+    let no = verdict_no(set, bound, numbers);
+    if no != 0 {
+        return Verdict::No(no);
+    }
+    if all_inside(bound, numbers) {
+        return Verdict::Is(1);
+    }
+    Verdict::Is(0)
 }

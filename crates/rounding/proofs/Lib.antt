@@ -1,0 +1,6 @@
+-- Laws of the constants, of the plain meaning and of what the rounds compute.
+pub mod Sets
+pub mod Signed
+pub mod Differences
+pub mod Decompose
+pub mod Ready
