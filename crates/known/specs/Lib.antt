@@ -1,0 +1,2 @@
+-- Known results.
+pub mod Known
