@@ -31,27 +31,21 @@ residue m (negsuc x) = (m - suc x % m) % m
 pub record T0 : Type 0 where
   -- one argument serves both sets
   pub sets : (set : ℕ) → set < 2 → Lawful (scaleOf set)
-
   -- 01's high part is Decompose's (its low part is by definition); high × α + low is w modulo q
   pub high : (p : Scale) → Lawful p → (w : ℕ) → w < p .modulus → pos (highPart p w) ≡ decompose p w .high
   pub join : (p : Scale) → Lawful p → (w : ℕ) → w < p .modulus → residue (p .modulus) (pos (highPart p w) *ℤ pos (p .alpha) +ℤ lowPart p w) ≡ w
-
   -- the digits of a number join to the number, and each is below its base
   pub digits : (p : Scale) (x : ℕ) → digit p x 0 + base p 0 * (digit p x 1 + base p 1 * (digit p x 2 + base p 2 * (digit p x 3 + base p 3 * digit p x 4))) ≡ x
   pub digit-below : (p : Scale) → Lawful p → (x i : ℕ) → x < p .modulus → i < 5 → digit p x i < base p i
-
   -- mixed radix: carry and zero digit of y + r, digit by digit, and the top
   pub carry : (p : Scale) → Lawful p → (y r i : ℕ) → i < 4 → carryInto p y r (suc i) ≡ bit (leb (base p i) (digit p r i + (digit p y i + carryInto p y r i)))
   pub zero : (p : Scale) → Lawful p → (y r i : ℕ) → i < 4 → zeroDigit p y r i ≡ bit (eqb ((digit p r i + (digit p y i + carryInto p y r i)) % base p i) 0)
   pub top : (p : Scale) → Lawful p → (y r : ℕ) → topSum p y r ≡ (y + r) / p .alpha
-
   -- t(d) − C is the high part, whatever r and ρ
   pub result : (p : Scale) → Lawful p → (w r ρ : ℕ) → w < p .modulus → r < p .modulus → ρ < p .modulus
       → highResult p ρ (sub (p .modulus) (shifted p w) r) r ≡ highPart p w
-
   -- the zero check
   pub check : (m k : ℕ) → 0 < m → m % (k + 1) ≤ gap m k → (ρ n : ℕ) → ρ < m → n ≤ k → checkResult m k ρ (checkOpens m k ρ n) ≡ bit (eqb n 0)
-
   -- BOUND: a comparison digit by digit, and a coefficient is inside, whatever r
   pub compare : (p : Scale) → Lawful p → (r t i : ℕ) → r < p .modulus → t < p .modulus → i < 5
       → belowUpTo p r t (suc i) ≡ bit (ltb (digit p r i) (digit p t i)) + bit (eqb (digit p r i) (digit p t i)) * belowUpTo p r t i

@@ -29,12 +29,12 @@ returns c =
 loop-again : tie.Need-loop-again Inv-loop μ-loop
 unfolding inside
 loop-again c = (
-      search needs,
-      every-again (inside q (c .before .before .before .before .before .before .args .bound)) _ _
-          (c .before .before .before .loop-test .taken)
-          (ap (λ (n : ℕ). ltb n (c .before .before .before .before .before .before .args .bound)) (sym (c .before .size .ensures)) ∙ lt-ltb _ _ (c .if1 .left))
-          (c .before .before .before .before .loop .inv .1),
-    )
+  search needs,
+  every-again (inside q (c .before .before .before .before .before .before .args .bound)) _ _
+      (c .before .before .before .loop-test .taken)
+      (ap (λ (n : ℕ). ltb n (c .before .before .before .before .before .before .args .bound)) (sym (c .before .size .ensures)) ∙ lt-ltb _ _ (c .if1 .left))
+      (c .before .before .before .before .loop .inv .1),
+)
 
 returns-2 : tie.Need-returns-2 Inv-loop μ-loop
 returns-2 c = every-end (inside q (c .before .before .before .args .bound)) _ _ (c .loop-test .left) (c .before .loop .inv .1)

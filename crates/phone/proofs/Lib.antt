@@ -1,0 +1,3 @@
+-- Laws for the exported functions.
+pub mod Refusals
+pub mod Widen

@@ -1,0 +1,2 @@
+-- Answers as single numbers.
+pub mod Codes

@@ -1,0 +1,38 @@
+// What the phone's app calls, written in Rust: plain arithmetic as C functions on numbers. Built as a static library.
+ghost use mathlib.Core.Path.{_≡_};
+ghost use Prim.Native.Nat.{_*_, _<_};
+ghost use lib.IntN.{pos};
+ghost use Rattle.rounding.specs.Calls.{highCall, lowCall};
+ghost use Rattle.phone.specs.Codes.{highCode, lowCode};
+use rounding::High;
+use rounding::Low;
+
+// A refusal as one number.
+fn refusal(no: u32) -> i64
+    requires { ⌜ no < 2147483648 ⌝ }
+    ensures { λ r. ⌜ r ≡ pos (no * 4294967296) ⌝ }
+{
+    (no as u64 * 4294967296) as i64
+}
+
+// The high part of a coefficient, or the number of the first no times 2^32.
+#[no_mangle]
+pub extern "C" fn high_part(set: u32, w: u32) -> i64
+    ensures { λ r. ⌜ r ≡ highCode (highCall set w) ⌝ }
+{
+    match rounding::high_part(set, w) {
+        High::Part(part) => (part as u64) as i64,
+        High::No(no) => refusal(no),
+    }
+}
+
+// The low part of a coefficient, signed, or the number of the first no times 2^32.
+#[no_mangle]
+pub extern "C" fn low_part(set: u32, w: u32) -> i64
+    ensures { λ r. ⌜ r ≡ lowCode (lowCall set w) ⌝ }
+{
+    match rounding::low_part(set, w) {
+        Low::Part(part) => part as i64,
+        Low::No(no) => refusal(no),
+    }
+}
