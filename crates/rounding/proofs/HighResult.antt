@@ -19,15 +19,15 @@ use Rattle.rounding.proofs.ZeroCheck.{check-is}
 
 -- C as an indicator: the low part of the sum is 0, and its top digit above s
 abbrev pub wrap : Scale → ℕ → ℕ → ℕ
-wrap p low d = bit (eqb low 0) * over p d
+wrap p low d = bit (eqb low 0) * over (p .parts) d
 
 -- ---- the two forms of each definition
 module _ (p : Scale) where
-  top-below : (d : ℕ) → d < p .parts → top p d ≡ d
+  top-below : (d : ℕ) → d < p .parts → top (p .parts) d ≡ d
   unfolding top
   top-below d h = rw (lt-ltb d (p .parts) h)
 
-  top-above : (d : ℕ) → p .parts ≤ d → top p d ≡ d - p .parts
+  top-above : (d : ℕ) → p .parts ≤ d → top (p .parts) d ≡ d - p .parts
   unfolding top
   top-above d h = rw (le-ltb d (p .parts) h)
 
@@ -39,7 +39,7 @@ module _ (p : Scale) where
   unfolding highOfShifted
   high-other {w} h c = rw (ne-eqb w (p .modulus - 1) h) (split-div c)
 
-  wrap-le : (low d : ℕ) → wrap p low d ≤ top p d
+  wrap-le : (low d : ℕ) → wrap p low d ≤ top (p .parts) d
   wrap-le low d =
       elim (lt-view (p .parts) d) [
         | lt-is a e ↦ rw (e, mul-one (bit (eqb low 0)), top-above d (omega arith)) (omega (arith, bit-le (eqb low 0)))
@@ -48,7 +48,7 @@ module _ (p : Scale) where
 
 module _ (p : Scale) (ok : Lawful p) where
   -- x is y + r, d and l its quotient and remainder by α; below the modulus
-  sum-low : (x d l : ℕ) → Split x (p .alpha) d l → x < p .modulus → top p d - wrap p l d ≡ highOfShifted p x
+  sum-low : (x d l : ℕ) → Split x (p .alpha) d l → x < p .modulus → top (p .parts) d - wrap p l d ≡ highOfShifted p x
   sum-low x d l c h =
       elim (lt-view d (p .parts)) [
         | lt-is a e ↦
@@ -61,7 +61,7 @@ module _ (p : Scale) (ok : Lawful p) where
       ]
 
   -- past the modulus: d is s + e, and w = x − modulus
-  sum-high : (x e l w : ℕ) → Split x (p .alpha) (p .parts + e) l → w + p .modulus ≡ x → w + 1 < p .modulus → top p (p .parts + e) - wrap p l (p .parts + e) ≡ highOfShifted p w
+  sum-high : (x e l w : ℕ) → Split x (p .alpha) (p .parts + e) l → w + p .modulus ≡ x → w + 1 < p .modulus → top (p .parts) (p .parts + e) - wrap p l (p .parts + e) ≡ highOfShifted p w
   sum-high x zero l w c h k =
       let v : Split w (p .alpha) 0 (l - 1) = record { parts = omega (arith, ok); small = omega (arith, ok) } in
       rw (top-above p (p .parts + 0) (omega arith), high-other p {w = w} (λ z. omega arith) v) (omega arith)
@@ -77,7 +77,7 @@ module _ (p : Scale) (ok : Lawful p) where
             rw (i, high-other p {w = w} (λ z. omega arith) v) (omega arith)
       ])
 
-  pub high-sum : (y r : ℕ) → y < p .modulus → r < p .modulus → top p ((y + r) / p .alpha) - wrap p ((y + r) % p .alpha) ((y + r) / p .alpha) ≡ highOfShifted p ((y + r) % p .modulus)
+  pub high-sum : (y r : ℕ) → y < p .modulus → r < p .modulus → top (p .parts) ((y + r) / p .alpha) - wrap p ((y + r) % p .alpha) ((y + r) / p .alpha) ≡ highOfShifted p ((y + r) % p .modulus)
   high-sum y r hy hr =
       let c = split (y + r) {b = p .alpha} (ok .some-alpha) in
       let d : ℕ = (y + r) / p .alpha in
@@ -90,7 +90,7 @@ module _ (p : Scale) (ok : Lawful p) where
       ]
 
   -- t(d) is below the modulus
-  pub top-small : (y r : ℕ) → y < p .modulus → r < p .modulus → top p ((y + r) / p .alpha) < p .modulus
+  pub top-small : (y r : ℕ) → y < p .modulus → r < p .modulus → top (p .parts) ((y + r) / p .alpha) < p .modulus
   top-small y r hy hr =
       let c = split (y + r) {b = p .alpha} (ok .some-alpha) in
       let d : ℕ = (y + r) / p .alpha in
@@ -105,7 +105,7 @@ module _ (p : Scale) (ok : Lawful p) where
   pub missing-zero : (y r : ℕ) → bit (eqb (missing p y r) 0) ≡ wrap p ((y + r) % p .alpha) (topSum p y r)
   unfolding missing
   missing-zero y r =
-      let g : ℕ = over p (topSum p y r) in
+      let g : ℕ = over (p .parts) (topSum p y r) in
       let z : ℕ = sumTo 4 (zeroDigit p y r) in
       let b : g ≤ 1 = bit-le (ltb (p .parts) (topSum p y r)) in
       let view : Zeros 4 z ((y + r) % p .alpha) = subst (λ (u : ℕ). Zeros 4 z ((y + r) % u)) (unit-alpha p ok) (zeros-view p ok y r 4 (omega arith)) in
@@ -130,11 +130,11 @@ module _ (p : Scale) (ok : Lawful p) where
       let hy : y < m = mod-lt (shifted p w + (m - r % m)) pos in
       let c : wrapOf p ρ y r ≡ wrap p ((y + r) % p .alpha) ((y + r) / p .alpha) =
       check-is m 5 pos (ok .checks) ρ (missing p y r) hρ (missing-le y r) ∙ missing-zero y r ∙ ap (wrap p ((y + r) % p .alpha)) (top-is p ok y r) in
-      let t : top p (topSum p y r) ≡ top p ((y + r) / p .alpha) = ap (top p) (top-is p ok y r) in
+      let t : top (p .parts) (topSum p y r) ≡ top (p .parts) ((y + r) / p .alpha) = ap (top (p .parts)) (top-is p ok y r) in
       let le = wrap-le p ((y + r) % p .alpha) ((y + r) / p .alpha) in
       let small = top-small y r hy hr in
       let back : (y + r) % m ≡ shifted p w = rw (mod-eq-of-lt hr) (unmask m (shifted p w) r (omega arith) ∙ mod-mod (w + (p .alpha / 2 - 1)) m) in
       ap₂ (sub m) t c
-      ∙ ap (λ (x : ℕ). (top p ((y + r) / p .alpha) + (m - x)) % m) (mod-eq-of-lt {n = wrap p ((y + r) % p .alpha) ((y + r) / p .alpha)} (omega arith))
-      ∙ mod-sub m (top p ((y + r) / p .alpha)) (wrap p ((y + r) % p .alpha) ((y + r) / p .alpha)) small le
+      ∙ ap (λ (x : ℕ). (top (p .parts) ((y + r) / p .alpha) + (m - x)) % m) (mod-eq-of-lt {n = wrap p ((y + r) % p .alpha) ((y + r) / p .alpha)} (omega arith))
+      ∙ mod-sub m (top (p .parts) ((y + r) / p .alpha)) (wrap p ((y + r) % p .alpha) ((y + r) / p .alpha)) small le
       ∙ high-sum y r hy hr ∙ ap (highOfShifted p) back

@@ -10,6 +10,14 @@ use Rattle.rounding.specs.Digits.{digit}
 
 -- ---- HIGH: the digits of y + r, from those of y and r
 
+-- "t(d) = d below s, else d − s"
+unfoldable pub top : ℕ → ℕ → ℕ
+top s d = cond (ltb d s) d (d - s)
+
+-- G sums "where d > s"
+abbrev pub over : ℕ → ℕ → ℕ
+over s d = bit (ltb s d)
+
 module _ (p : Scale) where
   -- what a 1 in digit i is worth: the product of the bases below it
   unfoldable pub unit : ℕ → ℕ
@@ -28,17 +36,9 @@ module _ (p : Scale) where
   abbrev pub topSum : ℕ → ℕ → ℕ
   topSum y r = digit p r 4 + (digit p y 4 + carryInto y r 4)
 
-  -- "t(d) = d below s, else d − s"
-  unfoldable pub top : ℕ → ℕ
-  top d = cond (ltb d (p .parts)) d (d - p .parts)
-
-  -- G: "where d > s"
-  abbrev pub over : ℕ → ℕ
-  over d = bit (ltb (p .parts) d)
-
   -- "Round 6 zero-checks 5 − (z0 + z1 + z2 + z3 + G)"
   unfoldable pub missing : ℕ → ℕ → ℕ
-  missing y r = 5 - (sumTo 4 (zeroDigit y r) + over (topSum y r))
+  missing y r = 5 - (sumTo 4 (zeroDigit y r) + over (p .parts) (topSum y r))
 
 -- ---- The zero check of n, 0 to K, modulo m
 
@@ -60,7 +60,7 @@ wrapOf p ρ y r = checkResult (p .modulus) 5 ρ (checkOpens (p .modulus) 5 ρ (m
 
 -- "Round 7 opens F − C"
 abbrev pub highResult : Scale → ℕ → ℕ → ℕ → ℕ
-highResult p ρ y r = sub (p .modulus) (top p (topSum p y r)) (wrapOf p ρ y r)
+highResult p ρ y r = sub (p .modulus) (top (p .parts) (topSum p y r)) (wrapOf p ρ y r)
 
 -- ---- BOUND
 
