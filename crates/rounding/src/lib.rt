@@ -70,8 +70,8 @@ pub fn parts_of(set: usize) -> u32
     PARTS[set]
 }
 
-// A number and its five digits.
-pub fn split_number(set: usize, x: u32) -> Split
+// A number and its five digits, by the bases that the table has for the set.
+fn split_by(set: usize, x: u32) -> Split
     requires { ⌜ set < 2 ⌝ }
     ensures { λ r. ⌜ r ≡ splitOf (scaleOf set) x ⌝ }
 {
@@ -87,6 +87,17 @@ pub fn split_number(set: usize, x: u32) -> Split
         number: x,
         digits: [x % b0, x1 % b1, x2 % b2, x3 % b3, x4],
     }
+}
+
+// A number and its five digits. Each branch has constant bases, so that the compiler divides by multiplying.
+pub fn split_number(set: usize, x: u32) -> Split
+    requires { ⌜ set < 2 ⌝ }
+    ensures { λ r. ⌜ r ≡ splitOf (scaleOf set) x ⌝ }
+{
+    if set == 0 {
+        return split_by(0, x);
+    }
+    split_by(1, x)
 }
 
 // ---- Questions that several calls ask
@@ -162,8 +173,8 @@ fn shift(alpha: u32, w: u32) -> u32
     (w + (alpha / 2 - 1)) % Q
 }
 
-// The high part of a number below q.
-fn high_of(set: usize, w: u32) -> u32
+// The high part of a number below q, by the table's step for the set.
+fn high_by(set: usize, w: u32) -> u32
     requires { ⌜ (set < 2) × (w < q) ⌝ }
     ensures { λ r. ⌜ r ≡ highPart (scaleOf set) w ⌝ }
 {
@@ -175,6 +186,17 @@ fn high_of(set: usize, w: u32) -> u32
     shifted / alpha
 }
 
+// The high part of a number below q; each branch has a constant step.
+fn high_of(set: usize, w: u32) -> u32
+    requires { ⌜ (set < 2) × (w < q) ⌝ }
+    ensures { λ r. ⌜ r ≡ highPart (scaleOf set) w ⌝ }
+{
+    if set == 0 {
+        return high_by(0, w);
+    }
+    high_by(1, w)
+}
+
 // a - b.
 fn difference(a: u32, b: u32) -> i32
     requires { ⌜ (a < 2147483648) × (b < 2147483648) ⌝ }
@@ -183,8 +205,8 @@ fn difference(a: u32, b: u32) -> i32
     (a as i32) - (b as i32)
 }
 
-// The low part of a number below q.
-fn low_of(set: usize, w: u32) -> i32
+// The low part of a number below q, by the table's step for the set.
+fn low_by(set: usize, w: u32) -> i32
     requires { ⌜ (set < 2) × (w < q) ⌝ }
     ensures { λ r. ⌜ r ≡ lowPart (scaleOf set) w ⌝ }
 {
@@ -195,6 +217,17 @@ fn low_of(set: usize, w: u32) -> i32
         return difference(0, half);
     }
     difference(shifted % alpha, half - 1)
+}
+
+// The low part of a number below q; each branch has a constant step.
+fn low_of(set: usize, w: u32) -> i32
+    requires { ⌜ (set < 2) × (w < q) ⌝ }
+    ensures { λ r. ⌜ r ≡ lowPart (scaleOf set) w ⌝ }
+{
+    if set == 0 {
+        return low_by(0, w);
+    }
+    low_by(1, w)
 }
 
 // The high part of a coefficient.

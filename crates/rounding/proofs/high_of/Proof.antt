@@ -1,23 +1,22 @@
 -- `rounding::high_of` meets its contract.
 use borrow.Author.Needs.{needs}
-use mathlib.Core.Path.{sym, _∙_, ap}
-use Prim.Native.Nat.{ℕ, _+_, _-_, _/_, _%_}
-use borrow.Author.Tests.{eq-eqb, ne-eqb}
-use Rattle.field.specs.Field.{q}
-use Rattle.rounding.specs.Plain.{highOfShifted}
+use mathlib.Core.Path.{_≡_, sym, ap, _∙_}
+use Prim.Native.Nat.{ℕ}
+use native.Mathlib.Omega.{arith}
+use Rattle.rounding.specs.Sets.{scaleOf}
+use Rattle.rounding.specs.Plain.{highPart}
 use Rattle.rounding.proofs.high_of.Statement.{statement}
 use Rattle.rounding.proofs.high_of.Tie as tie
 
 returns : tie.Need-returns
-unfolding highOfShifted
 returns c =
-    rw (← c .before .before .alpha-of .ensures .0, ← c .before .shift .ensures, eq-eqb _ _ (c .if1 .taken))
+    let zero : c .before .before .args .set ≡ 0 = omega arith in
+    c .high-by .ensures ∙ ap (λ (s : ℕ). highPart (scaleOf s) (c .before .before .args .w)) (sym zero)
 
 returns-2 : tie.Need-returns-2
-unfolding highOfShifted
 returns-2 c =
-    rw (← c .before .before .alpha-of .ensures .0, ← c .before .shift .ensures, ne-eqb _ _ (c .if1 .left))
+    let one : c .before .before .args .set ≡ 1 = omega arith in
+    c .high-by2 .ensures ∙ ap (λ (s : ℕ). highPart (scaleOf s) (c .before .before .args .w)) (sym one)
 
 pub high-of-spec : {M : Type 1} → statement M
-high-of-spec =
-    tie.close (tie.spec (λ c κs. search needs) (λ c κs. search needs) (λ c. search needs) returns (λ c. search needs) returns-2)
+high-of-spec = tie.close (tie.spec (λ c κs. search needs) returns (λ c κs. search needs) returns-2)
