@@ -1,9 +1,22 @@
 //! The C functions of the proved library libphone. All unsafe code of this crate is here.
 
+use crate::Expected;
+
 mod c {
     extern "C" {
         pub fn high_part(set: u32, w: u32) -> i64;
         pub fn low_part(set: u32, w: u32) -> i64;
+        pub fn message_form(
+            side: u32,
+            set: u32,
+            kind: u32,
+            n: u32,
+            bound: u32,
+            round: u32,
+            serial: u32,
+            message: *const u8,
+            length: usize,
+        ) -> u32;
     }
 }
 
@@ -17,4 +30,22 @@ pub fn high_part(set: u32, w: u32) -> i64 {
 pub fn low_part(set: u32, w: u32) -> i64 {
     // SAFETY: takes and returns numbers only, and is proved to answer for every set and w.
     unsafe { c::low_part(set, w) }
+}
+
+pub fn message_form(expected: &Expected, message: &[u8]) -> u32 {
+    // SAFETY: pointer and length are those of one slice, lent for the whole call; the function only
+    // reads it, keeps no pointer, and is proved to answer for all numbers and every slice.
+    unsafe {
+        c::message_form(
+            expected.side,
+            expected.set,
+            expected.kind,
+            expected.n,
+            expected.bound,
+            expected.round,
+            expected.serial,
+            message.as_ptr(),
+            message.len(),
+        )
+    }
 }

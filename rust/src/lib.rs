@@ -1,4 +1,5 @@
-//! High and low parts of ML-DSA coefficients, worked out by a proved static library.
+//! High and low parts of ML-DSA coefficients and the form of messages, worked out by a proved
+//! static library.
 //!
 //! A coefficient `w` is a number below [`Q`]. With the step α of its set, `w` splits into a high
 //! part and a signed low part, as Decompose of FIPS 204 (Algorithm 36, α = 2γ2) does it:
@@ -34,6 +35,8 @@
 //! assert_eq!(high_part(0, Q), Err(Refusal::NotBelowQ));
 //! assert_eq!(high_part(2, Q), Err(Refusal::SideSetOrKind));
 //! ```
+//!
+//! [`message_form`] tests the form of a message before it is taken further.
 
 #![deny(unsafe_code)]
 #![deny(unsafe_op_in_unsafe_fn)]
@@ -41,8 +44,10 @@
 
 #[allow(unsafe_code)]
 mod ffi;
+mod form;
 mod refusal;
 
+pub use form::{message_form, Expected};
 pub use refusal::Refusal;
 
 /// The modulus q of ML-DSA. Coefficients are numbers below it.

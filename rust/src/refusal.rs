@@ -4,7 +4,8 @@ use std::fmt;
 /// Why a call was refused: the first of its questions that was answered no.
 ///
 /// The questions have fixed numbers, 1 to 14, and each call asks some of them in a fixed order.
-/// [`high_part`](crate::high_part) and [`low_part`](crate::low_part) ask 1 and 6.
+/// [`high_part`](crate::high_part) and [`low_part`](crate::low_part) ask 1 and 6,
+/// [`message_form`](crate::message_form) asks 1, 2, 3, 8, 10, 11 and 12.
 ///
 /// # Examples
 ///

@@ -1,6 +1,6 @@
 -- Tests of every member of a list: one member, and a loop that stops at the first that fails.
 use mathlib.Core.Path.{_≡_, refl, sym, ap, _∙_}
-use mathlib.Core.Bool.{Bool, true, false, _&&_}
+use mathlib.Core.Bool.{Bool, true, false, _&&_, and-false}
 use mathlib.Core.List.{List, [], _∷_, _++_}
 use Prim.Native.Nat.{ℕ, zero, suc, _+_, _≤_, _<_}
 use native.Mathlib.Numerals.{add-one}
@@ -12,7 +12,7 @@ use borrow.Author.Tests.{ltb-true, lt-ltb, le-ltb}
 use lib.ListN.{length, getD, drop, drop-of-length-le}
 use lib.Seq.{drop-cons}
 use Rattle.lists.specs.Lists.{every, allBelow, allTo, listFrom, joinFrom}
-use Rattle.lists.proofs.Questions.{both-yes}
+use Rattle.lists.proofs.Questions.{both-yes, and-yes}
 
 -- ---- the loop: its invariant is that the rest passes just if the whole does
 
@@ -61,6 +61,14 @@ below-at m [] i pos e = pos
 below-at m (x ∷ xs) zero pos e = ltb-true x m (both-yes (ltb x m) (allBelow m xs) e .0)
 below-at m (x ∷ xs) (suc i) pos e = below-at m xs i pos (both-yes (ltb x m) (allBelow m xs) e .1)
 
+-- below m is below every larger number
+pub below-more : (m n : ℕ) → m ≤ n → (xs : List ℕ) → allBelow m xs ≡ true → allBelow n xs ≡ true
+unfolding allBelow every
+below-more m n h [] e = refl
+below-more m n h (x ∷ xs) e =
+    let b = both-yes (ltb x m) (allBelow m xs) e in
+    and-yes (ltb x n) (allBelow n xs) (lt-ltb x n (omega (arith, ltb-true x m (b .0)))) (below-more m n h xs (b .1))
+
 -- ---- lists that are made of others
 
 pub every-append : {A : Type 0} (t : A → Bool) (xs ys : List A) → every t xs ≡ true → every t ys ≡ true → every t (xs ++ ys) ≡ true
@@ -104,3 +112,14 @@ pub allTo-yes : (n : ℕ) (f : ℕ → Bool) → ((i : ℕ) → i < n → f i �
 unfolding allTo
 allTo-yes zero f h = refl
 allTo-yes (suc n) f h = rw (allTo-yes n f (λ i l. h i (omega arith))) (h n (omega arith))
+
+pub allTo-no : (n : ℕ) (f : ℕ → Bool) (i : ℕ) → i < n → f i ≡ false → allTo n f ≡ false
+unfolding allTo
+allTo-no zero f i h e = absurd (omega arith)
+allTo-no (suc n) f i h e = go (decLt i n) (λ l. allTo-no n f i l e)
+  where
+    go : Dec (i < n) → (i < n → allTo n f ≡ false) → (allTo n f && f n) ≡ false
+    go (yes l) ih = rw (ih l)
+    go (no l) ih =
+        let s : n ≡ i = omega arith in
+        rw (s, e) (and-false (allTo i f))

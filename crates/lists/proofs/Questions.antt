@@ -34,6 +34,10 @@ and-left a b p = rw p
 pub and-right : (a b : Bool) → a ≡ true → b ≡ false → (a && b) ≡ false
 and-right a b p q = rw p q
 
+pub and-true : (b : Bool) → (b && true) ≡ b
+and-true true = refl
+and-true false = refl
+
 -- what a function that answers a question has told
 pub told-yes : (r b : Bool) → r ≡ b → not r ≡ false → b ≡ true
 told-yes r b p q = sym p ∙ not-false r q

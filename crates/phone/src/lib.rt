@@ -1,8 +1,10 @@
-// What the phone's app calls, written in Rust: plain arithmetic as C functions on numbers. Built as a static library.
+// What the phone's app, written in Rust, calls: plain arithmetic and the form test of messages, as C functions on numbers and
+// byte slices. Built as a static library.
 ghost use mathlib.Core.Path.{_≡_};
 ghost use Prim.Native.Nat.{_*_, _<_};
 ghost use lib.IntN.{pos};
 ghost use Rattle.rounding.specs.Calls.{highCall, lowCall};
+ghost use Rattle.message.specs.Message.{formNo};
 ghost use Rattle.phone.specs.Codes.{highCode, lowCode};
 use rounding::High;
 use rounding::Low;
@@ -35,4 +37,21 @@ pub extern "C" fn low_part(set: u32, w: u32) -> i64
         Low::Part(part) => part as i64,
         Low::No(no) => refusal(no),
     }
+}
+
+// The form test of a message for a receiver: 0, or the number of the first no.
+#[no_mangle]
+pub extern "C" fn message_form(
+    side: u32,
+    set: u32,
+    kind: u32,
+    n: u32,
+    bound: u32,
+    round: u32,
+    serial: u32,
+    message: &[u8],
+) -> u32
+    ensures { λ r. ⌜ r ≡ formNo 1 side set kind n bound round serial (now (message .entry)) ⌝ }
+{
+    message::message_form(side, set, kind, n, bound, round, serial, message)
 }

@@ -1,0 +1,58 @@
+-- `message::message_form` meets its contract.
+use Rattle.message.proofs.Form.{settings-stop, settings-skip, settings-fit}
+use Rattle.message.specs.Message.{formNo}
+use Rattle.lists.proofs.Questions.{walk}
+use mathlib.Core.Path.{sym, _∙_}
+use native.Mathlib.Omega.{arith}
+use Rattle.rounding.proofs.Ready.{settings-ready}
+use borrow.Author.Needs.{needs}
+use Rattle.message.proofs.message_form.Statement.{statement}
+use Rattle.message.proofs.message_form.Tie as tie
+
+returns : tie.Need-returns
+unfolding formNo
+returns c =
+    let a = c .before .before .before .args in
+    settings-stop (a .side) (a .set) (a .kind) (a .n) (a .bound) _ _ (c .before .settings-no .ensures) (c .if1 .taken)
+
+returns-2 : tie.Need-returns-2
+unfolding formNo
+returns-2 c =
+    let a = c .before .before .before .before .args in
+    settings-skip (a .side) (a .set) (a .kind) (a .n) (a .bound) _ _ _ (c .before .before .settings-no .ensures) (c .before .if1 .left) (search walk depth 20)
+
+returns-3 : tie.Need-returns-3
+unfolding formNo
+returns-3 c =
+    let a = c .before .before .before .before .before .args in
+    settings-skip (a .side) (a .set) (a .kind) (a .n) (a .bound) _ _ _ (c .before .before .before .settings-no .ensures) (c .before .before .if1 .left) (search walk depth 20)
+
+returns-4 : tie.Need-returns-4
+unfolding formNo
+returns-4 c =
+    let a = c .before .before .before .before .before .before .args in
+    settings-skip (a .side) (a .set) (a .kind) (a .n) (a .bound) _ _ _ (c .before .before .before .before .settings-no .ensures) (c .before .before .before .if1 .left) (search walk depth 20)
+
+form-no-requires : tie.Need-form-no-requires
+form-no-requires c κs =
+    let a = c .before .before .before .before .before .before .args in
+    let no = sym (c .before .before .before .before .settings-no .ensures) ∙ c .before .before .before .if1 .left in
+    settings-fit (a .side) (a .set) (a .kind) (a .n) (a .bound) (a .round) (settings-ready (a .side) (a .set) (a .kind) (a .n) (a .bound) 0 no) (omega arith)
+
+returns-5 : tie.Need-returns-5
+unfolding formNo
+returns-5 c =
+    let a = c .before .before .before .before .before .before .before .args in
+    settings-skip (a .side) (a .set) (a .kind) (a .n) (a .bound) _ _ _ (c .before .before .before .before .before .settings-no .ensures) (c .before .before .before .before .if1 .left) (search walk depth 20)
+
+pub message-form-spec : {M : Type 1} → statement M
+message-form-spec =
+    tie.close
+    (tie.spec
+    (λ c κs. search needs)
+    returns
+    returns-2
+    returns-3
+    returns-4
+    form-no-requires
+    returns-5)

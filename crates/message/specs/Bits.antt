@@ -1,0 +1,26 @@
+-- Bits: a run of bits is one number, its most significant bit first.
+use Prim.Native.Nat.{ℕ, _+_, _*_, _-_, _/_, _%_, _^_}
+use mathlib.Core.List.{List, [], _∷_}
+use Rattle.lists.specs.Lists.{listTo}
+
+-- the bytes that hold so many bits, and how many zero bits fill the last
+abbrev pub bytesFor : ℕ → ℕ
+bytesFor bits = (bits + 7) / 8
+
+abbrev pub padding : ℕ → ℕ
+padding bits = 8 * bytesFor bits - bits
+
+-- a number of so many bits as bytes: "Zero bits fill the last byte"
+unfoldable pub packed : ℕ → ℕ → List ℕ
+packed bits x =
+    let n = bytesFor bits in
+    let padded = x * 2 ^ padding bits in
+    listTo n (λ (k : ℕ). padded / 2 ^ (8 * (n - 1 - k)) % 256)
+
+-- bytes as one number, behind the number x
+unfoldable pub numberOn : ℕ → List ℕ → ℕ
+numberOn x [] = x
+numberOn x (b ∷ bs) = numberOn (x * 256 + b) bs
+
+abbrev pub numberOf : List ℕ → ℕ
+numberOf bytes = numberOn 0 bytes

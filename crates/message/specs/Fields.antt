@@ -1,0 +1,43 @@
+-- Bit fields in bytes, and the header: what the functions over them are promised with.
+use Prim.Native.Nat.{ℕ, _+_, _*_, _-_, _/_, _%_, _^_, _≤_, _<_}
+use mathlib.Core.List.{List}
+use lib.ListN.{length}
+use Rattle.lists.specs.Lists.{inFront}
+use Rattle.message.specs.Bits.{packed, numberOf}
+use Rattle.message.specs.Lengths.{headerBits, messageBits}
+use Rattle.message.specs.Message.{fieldsBehind}
+use Rattle.message.specs.declared.Header.{Header}
+
+-- the number in the first bits
+unfoldable pub firstBits : List ℕ → ℕ → ℕ
+firstBits bytes bits = numberOf bytes / 2 ^ (8 * length bytes - bits)
+
+-- the field of so many bits that begins at bit `at`
+unfoldable pub bitsAt : List ℕ → ℕ → ℕ → ℕ
+bitsAt bytes at width = firstBits bytes (at + width) % 2 ^ width
+
+-- the first `at` bits and then a field; zero bits fill its last byte, and what stands behind stays
+unfoldable pub putBits : List ℕ → ℕ → ℕ → ℕ → List ℕ
+putBits bytes at width value = inFront (packed (at + width) (firstBits bytes at * 2 ^ width + value)) bytes
+
+-- the same of all the fields behind a header
+unfoldable pub putFields : List ℕ → List ℕ → List ℕ
+putFields bytes fields = inFront (packed (messageBits (length fields)) (fieldsBehind (firstBits bytes headerBits) fields)) bytes
+
+-- byte k of a number of so many bytes
+abbrev pub byteOf : ℕ → ℕ → ℕ → ℕ
+byteOf count x k = x / 2 ^ (8 * (count - 1 - k)) % 256
+
+abbrev pub headerWith : ℕ → ℕ → ℕ → ℕ → ℕ → ℕ → ℕ → Header
+headerWith sender set kind n round bound serial =
+    record { sender = sender; set = set; kind = kind; n = n; round = round; bound = bound; serial = serial }
+
+-- each part of a header fits its width (a serial always does)
+pub record HeaderFits (sender set kind n round bound : ℕ) : Type 0 where
+  pub sender-fits : sender < 2
+  pub set-fits : set < 2
+  pub kind-fits : kind < 2
+  pub n-some : 1 ≤ n
+  pub n-fits : n ≤ 8
+  pub round-fits : round < 8
+  pub bound-fits : bound < 2 ^ 23

@@ -1,0 +1,59 @@
+-- Messages.
+use Prim.Native.Nat.{ℕ, zero, suc, _+_, _*_, _-_, _/_, _%_, _^_}
+use mathlib.Core.Bool.{Bool, _&&_}
+use mathlib.Core.List.{List, [], _∷_}
+use lib.Dec.{eqb, leb, ltb}
+use lib.ListN.{length}
+use Rattle.lists.specs.Answers.{ask}
+use Rattle.lists.specs.Lists.{allTo}
+use Rattle.field.specs.Field.{q}
+use Rattle.rounding.specs.Questions.{askSettings}
+use Rattle.message.specs.Bits.{padding, packed, numberOf}
+use Rattle.message.specs.Lengths.{roundOk, fieldBits, fieldCount, messageBits, messageLength}
+
+-- "sender 1 bit, set 1, kind 1, N − 1 in 3, round 3, B 23, serial 32"
+unfoldable pub headerNumber : ℕ → ℕ → ℕ → ℕ → ℕ → ℕ → ℕ → ℕ
+headerNumber sender set kind n bound round serial =
+    (((((sender * 2 ^ 1 + set) * 2 ^ 1 + kind) * 2 ^ 3 + (n - 1)) * 2 ^ 3 + round) * 2 ^ 23 + bound) * 2 ^ 32 + serial
+
+-- the header and then the fields as one number
+unfoldable pub fieldsBehind : ℕ → List ℕ → ℕ
+fieldsBehind x [] = x
+fieldsBehind x (f ∷ fs) = fieldsBehind (x * 2 ^ fieldBits + f) fs
+
+-- a message, from its header's number and its fields
+unfoldable pub messageOf : ℕ → List ℕ → List ℕ
+messageOf header fields = packed (messageBits (length fields)) (fieldsBehind header fields)
+
+-- ---- Reading a message of so many fields
+
+abbrev pub headerIn : ℕ → List ℕ → ℕ
+headerIn fields message = numberOf message / 2 ^ (padding (messageBits fields) + fieldBits * fields)
+
+unfoldable pub fieldIn : ℕ → List ℕ → ℕ → ℕ
+fieldIn fields message f =
+    numberOf message / 2 ^ (padding (messageBits fields) + fieldBits * (fields - 1 - f)) % 2 ^ fieldBits
+
+-- Question 12: "Fields below q, padding zero?"
+unfoldable pub fieldsOk : ℕ → List ℕ → Bool
+fieldsOk fields message =
+    let field = fieldIn fields message in
+    allTo fields (λ (f : ℕ). ltb (field f) q) && eqb (numberOf message % 2 ^ padding (messageBits fields)) 0
+
+-- Questions 10 to 12 of a message for the receiver, and then the rest:
+-- "Message length exact?" "Header equal to mine, with the other sender?" "Fields below q, padding zero?"
+unfoldable pub askForm : ℕ → ℕ → ℕ → ℕ → ℕ → ℕ → ℕ → ℕ → List ℕ → ℕ → ℕ
+askForm k receiver set kind n bound round serial message rest =
+    let fields = fieldCount k kind n round in
+    ask (eqb (length message) (messageLength k kind n round)) 10
+    (ask (eqb (headerIn fields message) (headerNumber (1 - receiver) set kind n bound round serial)) 11
+    (ask (fieldsOk fields message) 12
+    rest))
+
+-- "Form test: 1, 2, 3, 8 (round 1 to 7, serial above 0), 10 to 12", k keys a side
+unfoldable pub formNo : ℕ → ℕ → ℕ → ℕ → ℕ → ℕ → ℕ → ℕ → List ℕ → ℕ
+formNo k receiver set kind n bound round serial message =
+    askSettings receiver set kind n bound
+    (ask (roundOk round && leb 1 serial) 8
+    (askForm k receiver set kind n bound round serial message
+    0))

@@ -1,0 +1,42 @@
+-- What is proved of messages, as types: what is written is read again.
+use Prim.Native.Nat.{ℕ, _-_, _%_, _^_, _<_}
+use mathlib.Core.Path.{_≡_}
+use mathlib.Core.Bool.{true}
+use mathlib.Core.List.{List, [], _∷_}
+use lib.ListN.{length, getD}
+use Rattle.lists.specs.Lists.{allBelow}
+use Rattle.field.specs.Field.{q}
+use Rattle.message.specs.Bits.{bytesFor, padding, numberOf}
+use Rattle.message.specs.Lengths.{headerBits, fieldBits, fieldCount, messageBits}
+use Rattle.message.specs.Message.{headerNumber, messageOf, headerIn, fieldIn, fieldsOk, askForm}
+use Rattle.message.specs.Fields.{HeaderFits}
+
+-- a header of 64 bits and fields of 23
+pub record Sized (header : ℕ) (fields : List ℕ) : Type 0 where
+  pub header-fits : header < 2 ^ headerBits
+  pub fields-fit : allBelow (2 ^ fieldBits) fields ≡ true
+
+pub record RoundTrip : Type 0 where
+  -- a message is bytes, as many as its bits need
+  pub bytes : (h : ℕ) (fs : List ℕ) (j : ℕ) → getD (messageOf h fs) j 0 < 256
+  pub size : (h : ℕ) (fs : List ℕ) → length (messageOf h fs) ≡ bytesFor (messageBits (length fs))
+  -- header, fields and filling come back
+  pub header : (h : ℕ) (fs : List ℕ) → Sized h fs → headerIn (length fs) (messageOf h fs) ≡ h
+  pub field : (h : ℕ) (fs : List ℕ) → Sized h fs → (f : ℕ) → f < length fs → fieldIn (length fs) (messageOf h fs) f ≡ getD fs f 0
+  pub filling : (h : ℕ) (fs : List ℕ) → Sized h fs → numberOf (messageOf h fs) % 2 ^ padding (messageBits (length fs)) ≡ 0
+  -- fields below q pass question 12
+  pub fields-pass : (h : ℕ) (fs : List ℕ) → h < 2 ^ headerBits → allBelow q fs ≡ true → fieldsOk (length fs) (messageOf h fs) ≡ true
+  -- a header is 64 bits, and tells its parts
+  pub header-size : {sender set kind n round bound : ℕ} → HeaderFits sender set kind n round bound → (serial : ℕ) → serial < 2 ^ 32
+      → headerNumber sender set kind n bound round serial < 2 ^ headerBits
+  pub header-tells : {sender set kind n round bound sender′ set′ kind′ n′ round′ bound′ : ℕ} (serial serial′ : ℕ)
+      → HeaderFits sender set kind n round bound → serial < 2 ^ 32 → HeaderFits sender′ set′ kind′ n′ round′ bound′ → serial′ < 2 ^ 32
+      → headerNumber sender set kind n bound round serial ≡ headerNumber sender′ set′ kind′ n′ bound′ round′ serial′
+      → (sender ≡ sender′) × (set ≡ set′) × (kind ≡ kind′) × (n ≡ n′) × (round ≡ round′) × (bound ≡ bound′) × (serial ≡ serial′)
+  -- what the other side sends passes questions 10 to 12
+  pub accepted : {set kind n round bound : ℕ} (k receiver serial : ℕ) (fs : List ℕ) → HeaderFits receiver set kind n round bound → serial < 2 ^ 32
+      → length fs ≡ fieldCount k kind n round → allBelow q fs ≡ true
+      → (rest : ℕ) → askForm k receiver set kind n bound round serial (messageOf (headerNumber (1 - receiver) set kind n bound round serial) fs) rest ≡ rest
+  -- "Server, set 0, HIGH, N = 1, round 1, serial 1, opened share 1, check part 0"
+  pub sample : messageOf (headerNumber 0 0 0 1 0 1 1) (1 ∷ 0 ∷ [])
+      ≡ 0x00 ∷ 0x80 ∷ 0x00 ∷ 0x00 ∷ 0x00 ∷ 0x00 ∷ 0x00 ∷ 0x01 ∷ 0x00 ∷ 0x00 ∷ 0x02 ∷ 0x00 ∷ 0x00 ∷ 0x00 ∷ []

@@ -1,0 +1,368 @@
+// Messages between the two sides: their length, their bits, the header, and the form test.
+ghost use mathlib.Core.Path.{_≡_};
+ghost use mathlib.Core.Bool.{true};
+ghost use Prim.Native.Nat.{_+_, _*_, _%_, _^_, _≤_, _<_};
+ghost use lib.ListN.{length};
+ghost use Rattle.lists.specs.Lists.{fill, inFront, allBelow};
+ghost use Rattle.message.specs.Bits.{bytesFor, padding, numberOf};
+ghost use Rattle.message.specs.Lengths.{openings, fieldBits, fieldCount, messageBits, messageLength};
+ghost use Rattle.message.specs.Message.{headerNumber, messageOf, fieldIn, fieldsOk, askForm, formNo};
+ghost use Rattle.message.specs.Fields.{bitsAt, putBits, putFields, byteOf, headerWith, HeaderFits};
+use field::Q;
+use rounding::settings_no;
+
+// An opening's fields: a share, and a check part under each of the receiver's keys, of which there is one.
+pub const FIELDS_PER_OPENING: usize = 2;
+
+pub const FIELD_BITS: usize = 23;
+
+// ---- Header
+
+// What a message begins with, in this order.
+pub struct Header {
+    pub sender: u32,
+    pub set: u32,
+    pub kind: u32,
+    pub n: u32,
+    pub round: u32,
+    pub bound: u32,
+    pub serial: u32,
+}
+
+impl Header {
+    pub const SENDER_BITS: usize = 1;
+
+    pub const SET_BITS: usize = 1;
+
+    pub const KIND_BITS: usize = 1;
+
+    pub const COUNT_BITS: usize = 3;
+
+    pub const ROUND_BITS: usize = 3;
+
+    pub const BOUND_BITS: usize = 23;
+
+    pub const SERIAL_BITS: usize = 32;
+
+    pub const BITS: usize = Self::SENDER_BITS
+        + Self::SET_BITS
+        + Self::KIND_BITS
+        + Self::COUNT_BITS
+        + Self::ROUND_BITS
+        + Self::BOUND_BITS
+        + Self::SERIAL_BITS;
+
+    pub const BYTES: usize = Self::BITS / 8;
+
+    // How many values fit a width: a factor makes room for the field behind.
+    const SETS: u64 = 1 << Self::SET_BITS;
+
+    const KINDS: u64 = 1 << Self::KIND_BITS;
+
+    const COUNTS: u64 = 1 << Self::COUNT_BITS;
+
+    const ROUNDS: u64 = 1 << Self::ROUND_BITS;
+
+    const BOUNDS: u64 = 1 << Self::BOUND_BITS;
+
+    const SERIALS: u64 = 1 << Self::SERIAL_BITS;
+
+    pub fn new(
+        sender: u32,
+        set: u32,
+        kind: u32,
+        n: u32,
+        round: u32,
+        bound: u32,
+        serial: u32,
+    ) -> Header
+        ensures { λ r. ⌜ r ≡ headerWith sender set kind n round bound serial ⌝ }
+    {
+        Header {
+            sender,
+            set,
+            kind,
+            n,
+            round,
+            bound,
+            serial,
+        }
+    }
+
+    // The header's bits as one number. Callers have asked questions 1 to 3 and for the round.
+    pub fn number(self) -> u64
+        requires { ⌜ HeaderFits (self .sender) (self .set) (self .kind) (self .n) (self .round) (self .bound) ⌝ }
+        ensures { λ r. ⌜ r ≡ headerNumber (self .sender) (self .set) (self .kind) (self .n) (self .bound) (self .round) (self .serial) ⌝ }
+    {
+        let a = self.sender as u64 * Self::SETS + self.set as u64;
+        let b = a * Self::KINDS + self.kind as u64;
+        let c = b * Self::COUNTS + (self.n - 1) as u64;
+        let d = c * Self::ROUNDS + self.round as u64;
+        let e = d * Self::BOUNDS + self.bound as u64;
+        e * Self::SERIALS + self.serial as u64
+    }
+}
+
+// ---- Lengths. (Callers have asked question 2.)
+
+// How many openings a round has.
+pub fn openings_in(kind: u32, n: u32, round: u32) -> u32
+    requires { ⌜ n ≤ 8 ⌝ }
+    ensures { λ r. ⌜ (r ≡ openings kind n round) × (r ≤ 32) ⌝ }
+{
+    if round == 1 {
+        return n;
+    }
+    if round <= 5 {
+        return 4 * n;
+    }
+    if kind == 0 {
+        return n;
+    }
+    1
+}
+
+// How many fields a round's message has.
+pub fn field_count(kind: u32, n: u32, round: u32) -> usize
+    requires { ⌜ n ≤ 8 ⌝ }
+    ensures { λ r. ⌜ (r ≡ fieldCount 1 kind n round) × (r ≤ 64) ⌝ }
+{
+    FIELDS_PER_OPENING * openings_in(kind, n, round) as usize
+}
+
+// The length in bytes of a message with so many fields.
+fn length_of(fields: usize) -> usize
+    requires { ⌜ fields ≤ 64 ⌝ }
+    ensures { λ r. ⌜ r ≡ bytesFor (messageBits fields) ⌝ }
+{
+    (Header::BITS + FIELD_BITS * fields + 7) / 8
+}
+
+// The length in bytes of a round's message.
+pub fn message_length(kind: u32, n: u32, round: u32) -> usize
+    requires { ⌜ n ≤ 8 ⌝ }
+    ensures { λ r. ⌜ r ≡ messageLength 1 kind n round ⌝ }
+{
+    length_of(field_count(kind, n, round))
+}
+
+// ---- Bit fields, most significant bit first
+
+fn wide(x: u8) -> u64
+    ensures { λ r. ⌜ (r ≡ x) × (r < 256) ⌝ }
+{
+    x as u64
+}
+
+// The number in the `count` bytes from place `first` on.
+fn get_number(bytes: &[u8], first: usize, count: usize) -> u64
+    requires { ⌜ (first + count ≤ length (now bytes)) × (count ≤ 8) ⌝ }
+    ensures { λ r. ⌜ r ≡ bitsAt (now (bytes .entry)) (8 * first) (8 * count) ⌝ }
+{
+    let mut x: u64 = 0;
+    let mut k = 0;
+    while k < count {
+        x = x * 256 + wide(bytes[first + k]);
+        k += 1;
+    }
+    x
+}
+
+// The `count` bytes of x, from place `first` on.
+fn put_number(out: &mut [u8], first: usize, count: usize, x: u64)
+    requires { ⌜ (first + count ≤ length (now out)) × (count ≤ 8) ⌝ }
+    ensures { λ _. ⌜ now (out .exit) ≡ fill (now (out .entry)) first count (byteOf count x) ⌝ }
+{
+    let mut k = 0;
+    while k < count {
+        out[first + k] = ((x >> (8 * (count - 1 - k))) % 256) as u8;
+        k += 1;
+    }
+}
+
+// The field of `width` bits that begins at bit `at`.
+fn get_bits(bytes: &[u8], at: usize, width: usize) -> u32
+    requires { ⌜ (width ≤ 32) × (at + width ≤ 8 * length (now bytes)) ⌝ }
+    ensures { λ r. ⌜ r ≡ bitsAt (now (bytes .entry)) at width ⌝ }
+{
+    let used = at % 8;
+    let count = (used + width + 7) / 8;
+    let x = get_number(bytes, at / 8, count);
+    ((x >> (8 * count - used - width)) % (1u64 << width)) as u32
+}
+
+// Puts a field of `width` bits behind the first `at` bits, and zeros to the end of its last byte.
+fn put_bits(out: &mut [u8], at: usize, width: usize, value: u32)
+    requires { ⌜ (1 ≤ width) × (width ≤ 32) × (at + width ≤ 8 * length (now out)) ⌝ }
+    requires { ⌜ value < 2 ^ width ⌝ }
+    ensures { λ _. ⌜ now (out .exit) ≡ putBits (now (out .entry)) at width value ⌝ }
+{
+    let used = at % 8;
+    let count = (used + width + 7) / 8;
+    let head = wide(out[at / 8]) >> (8 - used);
+    let x = ((head << width) + value as u64) << (8 * count - used - width);
+    put_number(out, at / 8, count, x);
+}
+
+// ---- Reader
+
+// A lent slice of bytes, and the position of the next bit.
+pub struct Reader<'a> {
+    pub bytes: &'a [u8],
+    pub at: usize,
+}
+
+impl<'a> Reader<'a> {
+    // At the first bit.
+    pub fn new(bytes: &'a [u8]) -> Reader<'a>
+        ensures { λ r. ⌜ (r .bytes ≡ bytes .entry) × (r .at ≡ 0) ⌝ }
+    {
+        Reader { bytes, at: 0 }
+    }
+
+    // Moved on by some bits.
+    pub fn skip(self, bits: usize) -> Reader<'a>
+        requires { ⌜ self .at + bits < 2 ^ 64 ⌝ }
+        ensures { λ r. ⌜ (r .bytes ≡ self .entry .bytes) × (r .at ≡ self .entry .at + bits) ⌝ }
+    {
+        Reader {
+            bytes: self.bytes,
+            at: self.at + bits,
+        }
+    }
+
+    // The field of so many bits that comes next.
+    pub fn next(self, width: usize) -> u32
+        requires { ⌜ (width ≤ 32) × (self .at + width ≤ 8 * length (now (self .bytes))) ⌝ }
+        ensures { λ r. ⌜ r ≡ bitsAt (now (self .entry .bytes)) (self .entry .at) width ⌝ }
+    {
+        get_bits(self.bytes, self.at, width)
+    }
+}
+
+// The same by a reader: the functions below read by this one, and hold no reader.
+fn read_field(bytes: &[u8], at: usize, width: usize) -> u32
+    requires { ⌜ (width ≤ 32) × (at + width ≤ 8 * length (now bytes)) ⌝ }
+    ensures { λ r. ⌜ r ≡ bitsAt (now (bytes .entry)) at width ⌝ }
+{
+    Reader::new(bytes).skip(at).next(width)
+}
+
+// ---- Writing a message
+
+// Puts the fields behind the header.
+fn put_fields(out: &mut [u8], fields: &[u32])
+    requires { ⌜ (bytesFor (messageBits (length (now fields))) ≤ length (now out)) × (length (now fields) ≤ 64) ⌝ }
+    requires { ⌜ allBelow (2 ^ fieldBits) (now fields) ≡ true ⌝ }
+    ensures { λ _. ⌜ now (out .exit) ≡ putFields (now (out .entry)) (now (fields .entry)) ⌝ }
+{
+    let mut i = 0;
+    while i < fields.len() {
+        put_bits(out, Header::BITS + FIELD_BITS * i, FIELD_BITS, fields[i]);
+        i += 1;
+    }
+}
+
+// Writes a message in front of `out` and gives its length. A side's `send` has asked for the room and made the fields.
+pub fn put_message(out: &mut [u8], header: Header, fields: &[u32]) -> usize
+    requires { ⌜ HeaderFits (header .sender) (header .set) (header .kind) (header .n) (header .round) (header .bound) ⌝ }
+    requires { ⌜ (bytesFor (messageBits (length (now fields))) ≤ length (now out)) × (length (now fields) ≤ 64) ⌝ }
+    requires { ⌜ allBelow (2 ^ fieldBits) (now fields) ≡ true ⌝ }
+    ensures { λ r. ⌜ (r ≡ bytesFor (messageBits (length (now (fields .entry)))))
+        × (now (out .exit) ≡ inFront (messageOf (headerNumber (header .sender) (header .set) (header .kind) (header .n) (header .bound) (header .round) (header .serial)) (now (fields .entry))) (now (out .entry))) ⌝ }
+{
+    put_number(out, 0, Header::BYTES, header.number());
+    put_fields(out, fields);
+    length_of(fields.len())
+}
+
+// ---- Reading a message of so many fields, whose length has been asked
+
+// Field f. (The count of fields is for the promise: it fixes where the bits end.)
+pub fn field_of(message: &[u8], fields: usize, f: usize) -> u32
+    requires { ⌜ (length (now message) ≡ bytesFor (messageBits fields)) × (f < fields) × (fields ≤ 64) ⌝ }
+    ensures { λ r. ⌜ r ≡ fieldIn fields (now (message .entry)) f ⌝ }
+{
+    read_field(message, Header::BITS + FIELD_BITS * f, FIELD_BITS)
+}
+
+// The bits that fill the last byte.
+fn padding_of(message: &[u8], fields: usize) -> u32
+    requires { ⌜ (length (now message) ≡ bytesFor (messageBits fields)) × (fields ≤ 64) ⌝ }
+    ensures { λ r. ⌜ r ≡ numberOf (now (message .entry)) % 2 ^ padding (messageBits fields) ⌝ }
+{
+    let bits = Header::BITS + FIELD_BITS * fields;
+    read_field(message, bits, 8 * message.len() - bits)
+}
+
+// Question 12.
+fn fields_ok(message: &[u8], fields: usize) -> bool
+    requires { ⌜ (length (now message) ≡ bytesFor (messageBits fields)) × (fields ≤ 64) ⌝ }
+    ensures { λ r. ⌜ r ≡ fieldsOk fields (now (message .entry)) ⌝ }
+{
+    let mut f = 0;
+    while f < fields {
+        if field_of(message, fields, f) >= Q {
+            return false;
+        }
+        f += 1;
+    }
+    padding_of(message, fields) == 0
+}
+
+// Questions 10 to 12: the first no, or 0. Callers have asked questions 1 to 3 and for the round.
+pub fn form_no(
+    receiver: u32,
+    set: u32,
+    kind: u32,
+    n: u32,
+    bound: u32,
+    round: u32,
+    serial: u32,
+    message: &[u8],
+) -> u32
+    requires { ⌜ HeaderFits receiver set kind n round bound ⌝ }
+    ensures { λ r. ⌜ r ≡ askForm 1 receiver set kind n bound round serial (now (message .entry)) 0 ⌝ }
+{
+    let fields = field_count(kind, n, round);
+    if message.len() != length_of(fields) {
+        return 10;
+    }
+    let due = Header::new(1 - receiver, set, kind, n, round, bound, serial);
+    if get_number(message, 0, Header::BYTES) != due.number() {
+        return 11;
+    }
+    if !fields_ok(message, fields) {
+        return 12;
+    }
+    0
+}
+
+// The form test: the first no, or 0.
+pub fn message_form(
+    side: u32,
+    set: u32,
+    kind: u32,
+    n: u32,
+    bound: u32,
+    round: u32,
+    serial: u32,
+    message: &[u8],
+) -> u32
+    ensures { λ r. ⌜ r ≡ formNo 1 side set kind n bound round serial (now (message .entry)) ⌝ }
+{
+    let no = settings_no(side, set, kind, n, bound);
+    if no != 0 {
+        return no;
+    }
+    if round < 1 {
+        return 8;
+    }
+    if round > 7 {
+        return 8;
+    }
+    if serial < 1 {
+        return 8;
+    }
+    form_no(side, set, kind, n, bound, round, serial, message)
+}
