@@ -56,6 +56,14 @@ ahead-more i (suc k) f =
     let h : ahead (suc i) (suc k) f ≡ ahead (suc i) k f + length (f (suc i + k)) = ahead-more (suc i) k f in
     rw s (length-append (f i) _ ∙ omega (arith, h, length-append (f i) (joinFrom (suc i) k f)))
 
+-- pieces of one length
+pub ahead-fixed : {A : Type 0} (m k : ℕ) (f : ℕ → List A) → ((x : ℕ) → length (f x) ≡ m) → ahead 0 k f ≡ k * m
+unfolding joinFrom
+ahead-fixed m zero f h = omega arith
+ahead-fixed m (suc k) f h =
+    let z : 0 + k ≡ k = zero-add k in
+    omega (arith, ahead-fixed m k f h, rw z at (ahead-more 0 k f), h k)
+
 pub getD-join : {A : Type 0} (i n : ℕ) (f : ℕ → List A) (d : A) (k x : ℕ) → k < n → x < length (f (i + k)) → getD (joinFrom i n f) (ahead i k f + x) d ≡ getD (f (i + k)) x d
 unfolding joinFrom
 getD-join i zero f d k x h l = absurd (omega arith)

@@ -9,7 +9,7 @@ use borrow.Author.Tests.{ltb-true, leb-true, eqb-true, ne-eqb}
 use Rattle.lists.specs.Answers.{ask}
 use Rattle.lists.proofs.Questions.{passed, both-yes}
 use Rattle.field.specs.Field.{q}
-use Rattle.rounding.specs.Questions.{isBit, countOk, boundOk, askSettings}
+use Rattle.rounding.specs.Questions.{isBit, countOk, boundOk, askSettings, SettingsReady}
 use Rattle.rounding.specs.Calls.{partNo}
 
 pub part-ready : (set w : ℕ) → partNo set w ≡ 0 → (set < 2) × (w < q)
@@ -34,16 +34,6 @@ bound-ready kind bound e = (most (eqb kind 0) e, λ h. some (eqb kind 0) (ne-eqb
 
     some : (b : Bool) → b ≡ false → cond b (eqb bound 0) (leb 1 bound && leb bound 4190208) ≡ true → 1 ≤ bound
     some b e f = leb-true 1 bound (both-yes (leb 1 bound) (leb bound 4190208) (rw e at f) .0)
-
--- what settings that passed questions 1 to 3 are
-pub record SettingsReady (number set kind n bound : ℕ) : Type 0 where
-  pub side2 : number < 2
-  pub set2 : set < 2
-  pub kind2 : kind < 2
-  pub some : 1 ≤ n
-  pub most : n ≤ 8
-  pub bound-most : bound ≤ 4190208
-  pub bound-some : kind ≢ 0 → 1 ≤ bound
 
 module _ (number set kind n bound : ℕ) where
   pub settings-ready : (rest : ℕ) → askSettings number set kind n bound rest ≡ 0 → SettingsReady number set kind n bound
@@ -82,3 +72,9 @@ module _ (number set kind n bound : ℕ) where
   pub settings-refuse : (rest : ℕ) → askSettings number set kind n bound 0 ≢ 0 → askSettings number set kind n bound rest ≡ askSettings number set kind n bound 0
   unfolding askSettings
   settings-refuse rest = chain (isBit number && isBit set && isBit kind) (countOk n) (boundOk kind bound) rest .1
+
+  -- a chain that goes through ends with the rest
+  pub settings-rest : (rest : ℕ) → askSettings number set kind n bound rest ≡ 0 → rest ≡ 0
+  unfolding askSettings
+  settings-rest rest e =
+      passed (boundOk kind bound) 2 rest (passed (countOk n) 1 _ (passed (isBit number && isBit set && isBit kind) 0 _ e .1) .1) .1

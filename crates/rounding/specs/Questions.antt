@@ -1,5 +1,6 @@
 -- "Questions at the door" that several calls ask: 1 to 4. (Question 6 is `allBelow q`.)
-use Prim.Native.Nat.{ℕ}
+use Prim.Native.Nat.{ℕ, _≤_, _<_}
+use mathlib.Core.Logic.{_≢_}
 use mathlib.Core.Bool.{Bool, cond, _&&_}
 use mathlib.Core.List.{List}
 use lib.Dec.{ltb, leb, eqb}
@@ -33,3 +34,13 @@ askSettings number set kind n bound rest =
     (ask (countOk n) 2
     (ask (boundOk kind bound) 3
     rest))
+
+-- what settings that passed questions 1 to 3 are
+pub record SettingsReady (number set kind n bound : ℕ) : Type 0 where
+  pub side2 : number < 2
+  pub set2 : set < 2
+  pub kind2 : kind < 2
+  pub some : 1 ≤ n
+  pub most : n ≤ 8
+  pub bound-most : bound ≤ 4190208
+  pub bound-some : kind ≢ 0 → 1 ≤ bound

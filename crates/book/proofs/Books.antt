@@ -1,0 +1,124 @@
+-- What stands in the two books of a deal, that their numbers are below the modulus, and that they add up.
+use mathlib.Core.Path.{_≡_, refl, sym, ap, ap₂, _∙_}
+use mathlib.Core.Bool.{true, false, true≢false}
+use mathlib.Core.List.{List}
+use Prim.Native.Nat.{ℕ, _+_, _*_, _/_, _%_, _<_}
+use native.Mathlib.Nat.{mod-lt, mul-le-mul-right}
+use native.Mathlib.Omega.{arith}
+use lib.Arith.{digits-div, digits-mod}
+use lib.Dec.{eqb, ltb}
+use borrow.Author.Tests.{lt-ltb}
+use lib.ListN.{length, getD}
+use Rattle.lists.specs.Lists.{allBelow}
+use Rattle.lists.proofs.Indicators.{bit-le}
+use Rattle.lists.proofs.Every.{below-at, every-listTo}
+use Rattle.lists.proofs.Lists.{length-listFrom, getD-listTo}
+use Rattle.field.specs.Forms.{Adds}
+use Rattle.field.proofs.Solve.{at, _⊕_, _⊖_, _⊗_, red, solve}
+use Rattle.rounding.specs.Sets.{Scale}
+use Rattle.rounding.specs.Digits.{digit}
+use Rattle.book.specs.Book.{Entry, groupGap, shared, entryOf, maskAt, groupAt, isDrawn, drawn, phoneNumber, value, valueOf}
+use Rattle.book.specs.Book.Entry.{mask, place, left, right, product, groupMask, groupPlace}
+use Rattle.book.specs.Deal.{inOrder, serverNumber, phoneBook, serverBook}
+use Rattle.book.specs.Theorems.{Holds, Books, Values}
+use Rattle.book.proofs.Places.{places}
+
+-- ---- a side's numbers in order
+
+module _ (count width : ℕ) (f : ℕ → ℕ → ℕ) where
+  length-inOrder : length (inOrder count width f) ≡ count * width
+  length-inOrder = length-listFrom 0 (count * width) _
+
+  getD-inOrder : (k c : ℕ) → k < count → c < width → getD (inOrder count width f) (k * width + c) 0 ≡ f k c
+  getD-inOrder k c h l =
+      getD-listTo (count * width) (λ (x : ℕ). f (x / width) (x % width)) (k * width + c) 0 (omega (arith, mul-le-mul-right width h))
+      ∙ ap₂ f (digits-div k l) (digits-mod k l)
+
+  below-inOrder : (m : ℕ) → ((k c : ℕ) → f k c < m) → allBelow m (inOrder count width f) ≡ true
+  unfolding allBelow
+  below-inOrder m h =
+      every-listTo (λ (x : ℕ). ltb x m) (count * width) (λ (x : ℕ). f (x / width) (x % width)) (λ x l. lt-ltb _ m (h (x / width) (x % width)))
+
+-- ---- the two books
+
+module _ (p : Scale) (kind n width : ℕ) (factors draw : List ℕ) where
+  pub server-lt : 0 < p .modulus → (k c : ℕ) → serverNumber p kind n width factors draw k c < p .modulus
+  unfolding serverNumber
+  server-lt pos k c = mod-lt _ pos
+
+  phone-lt : 0 < p .modulus → allBelow (p .modulus) draw ≡ true → (k c : ℕ) → phoneNumber p kind n width draw k c < p .modulus
+  unfolding phoneNumber
+  phone-lt pos h k c = below-at (p .modulus) draw _ pos h
+
+  adds : 0 < p .modulus → (k c : ℕ) → Adds (p .modulus) (getD factors c 0) (serverNumber p kind n width factors draw k c) (phoneNumber p kind n width draw k c) (value p kind n width draw k)
+  unfolding serverNumber
+  adds pos k c =
+      let f = getD factors c 0 in
+      let v = value p kind n width draw k in
+      let h = phoneNumber p kind n width draw k c in
+      record { total = solve (p .modulus) pos (red (at f ⊗ at v ⊖ at h) ⊕ at h) (at f ⊗ at v) (omega arith) }
+
+  pub books : Books p kind n width factors draw
+  unfolding serverBook phoneBook
+  books =
+      record {
+        server-length = length-inOrder (shared p kind n) width (serverNumber p kind n width factors draw);
+        phone-length = length-inOrder (shared p kind n) width (phoneNumber p kind n width draw);
+        server-at = getD-inOrder (shared p kind n) width (serverNumber p kind n width factors draw);
+        phone-at = getD-inOrder (shared p kind n) width (phoneNumber p kind n width draw);
+        server-below = λ pos. below-inOrder (shared p kind n) width (serverNumber p kind n width factors draw) (p .modulus) (server-lt pos);
+        phone-below = λ pos h. below-inOrder (shared p kind n) width (phoneNumber p kind n width draw) (p .modulus) (phone-lt pos h);
+        adds = adds;
+      }
+
+-- ---- the joined values
+
+module _ (p : Scale) (kind n width : ℕ) (draw : List ℕ) where
+  -- what stands at a place decides the value there
+  pub value-holds : (k : ℕ) (e : Entry) → Holds p kind n k e → value p kind n width draw k ≡ valueOf p kind n width draw k e
+  unfolding value
+  value-holds k e h = ap (λ (e : Entry). valueOf p kind n width draw k e) (h .1)
+
+  pub value-drawn : (k : ℕ) → isDrawn (entryOf p kind n k) ≡ true → value p kind n width draw k ≡ drawn p kind n width draw k
+  unfolding value
+  value-drawn k h = by (entryOf p kind n k) h
+    where
+      by : (e : Entry) → isDrawn e ≡ true → valueOf p kind n width draw k e ≡ drawn p kind n width draw k
+      by (mask c) h = refl
+      by (left c t) h = refl
+      by (right c t) h = refl
+      by (groupMask g) h = refl
+      by (place c i j) h = absurd (true≢false (sym h))
+      by (product c t) h = absurd (true≢false (sym h))
+      by (groupPlace g j) h = absurd (true≢false (sym h))
+
+  -- a place that holds a drawn entry
+  pub drawn-holds : (k : ℕ) (e : Entry) → Holds p kind n k e → isDrawn e ≡ true → value p kind n width draw k ≡ drawn p kind n width draw k
+  drawn-holds k e h i = value-drawn k (ap isDrawn (h .1) ∙ i)
+
+  value-below : 1 < p .modulus → allBelow (p .modulus) draw ≡ true → (k : ℕ) → value p kind n width draw k < p .modulus
+  unfolding value drawn
+  value-below pos h k = by (entryOf p kind n k)
+    where
+      by : (e : Entry) → valueOf p kind n width draw k e < p .modulus
+      by (mask c) = below-at (p .modulus) draw _ (omega arith) h
+      by (left c t) = below-at (p .modulus) draw _ (omega arith) h
+      by (right c t) = below-at (p .modulus) draw _ (omega arith) h
+      by (groupMask g) = below-at (p .modulus) draw _ (omega arith) h
+      by (place c i j) = omega (arith, bit-le (eqb j (digit p (drawn p kind n width draw (maskAt p kind c)) i)))
+      by (product c t) = mod-lt _ (omega arith)
+      by (groupPlace g j) = omega (arith, bit-le (eqb j (drawn p kind n width draw (groupAt p kind n g) / groupGap p kind n)))
+
+  pub values : Values p kind n width draw
+  values =
+      let h = places p kind n in
+      record {
+        below = value-below;
+        of-mask = λ c b. drawn-holds _ _ (h .of-mask c b) refl;
+        of-vector = λ c i j b l m. value-holds _ _ (h .of-vector c i j b l m) ∙ rw (drawn-holds _ _ (h .of-mask c b) refl);
+        of-left = λ c t b l. drawn-holds _ _ (h .of-left c t b l) refl;
+        of-right = λ c t b l. drawn-holds _ _ (h .of-right c t b l) refl;
+        of-product = λ c t b l. value-holds _ _ (h .of-product c t b l) ∙ rw (drawn-holds _ _ (h .of-left c t b l) refl, drawn-holds _ _ (h .of-right c t b l) refl);
+        of-group = λ g b. drawn-holds _ _ (h .of-group g b) refl;
+        of-groupPlace = λ g j b l. value-holds _ _ (h .of-groupPlace g j b l) ∙ rw (drawn-holds _ _ (h .of-group g b) refl);
+      }

@@ -1,0 +1,49 @@
+-- The draw's cursor: where the numbers of a place begin, and how far the draw goes.
+use mathlib.Core.Path.{_≡_, refl, ap}
+use mathlib.Core.List.{List, [], _∷_}
+use Prim.Native.Nat.{ℕ, zero, suc, _+_, _≤_, _<_}
+use native.Mathlib.Nat.{mul-le-mul-right}
+use native.Mathlib.Omega.{arith}
+use lib.ListN.{length, getD, take}
+use Rattle.lists.specs.Answers.{bit}
+use Rattle.rounding.specs.Sets.{Scale}
+use Rattle.book.specs.Book.{Entry, plan, shared, entryOf, isDrawn, drawnIn, drawAt, drawLength}
+use Rattle.book.specs.Book.Entry.{mask}
+use Rattle.book.specs.Theorems.{Cursor}
+
+drawnIn-more : (es : List Entry) (k : ℕ) → k < length es → drawnIn (take (suc k) es) ≡ drawnIn (take k es) + bit (isDrawn (getD es k (mask 0)))
+unfolding drawnIn
+drawnIn-more [] k h = absurd (omega arith)
+drawnIn-more (e ∷ es) zero h = omega arith
+drawnIn-more (e ∷ es) (suc k) h = omega (arith, drawnIn-more es k (omega arith))
+
+drawnIn-take : (es : List Entry) (k : ℕ) → drawnIn (take k es) ≤ drawnIn es
+unfolding drawnIn
+drawnIn-take es zero = omega arith
+drawnIn-take [] (suc k) = omega arith
+drawnIn-take (e ∷ es) (suc k) = omega (arith, drawnIn-take es k)
+
+take-all : {A : Type 0} (es : List A) → take (length es) es ≡ es
+take-all [] = refl
+take-all (e ∷ es) = ap (λ r. e ∷ r) (take-all es)
+
+module _ (p : Scale) (kind n width : ℕ) where
+  pub drawAt-none : drawAt p kind n width 0 ≡ 0
+  unfolding drawAt drawnIn
+  drawAt-none = omega arith
+
+  pub drawAt-more : (k : ℕ) → k < shared p kind n → drawAt p kind n width (suc k) ≡ drawAt p kind n width k + bit (isDrawn (entryOf p kind n k)) + width
+  unfolding drawAt
+  drawAt-more k h = omega (arith, drawnIn-more (plan p kind n) k h)
+
+  -- the numbers of a place lie within the draw
+  pub drawAt-inside : (k : ℕ) → k < shared p kind n → drawAt p kind n width k + bit (isDrawn (entryOf p kind n k)) + width ≤ drawLength p kind n width
+  unfolding drawAt drawLength
+  drawAt-inside k h = omega (arith, drawnIn-more (plan p kind n) k h, drawnIn-take (plan p kind n) (suc k), mul-le-mul-right width h)
+
+  pub drawAt-end : drawAt p kind n width (shared p kind n) ≡ drawLength p kind n width
+  unfolding drawAt drawLength
+  drawAt-end = rw (take-all (plan p kind n))
+
+  pub cursor : Cursor p kind n width
+  cursor = record { none = drawAt-none; more = drawAt-more; inside = drawAt-inside; end = drawAt-end }

@@ -1,0 +1,10 @@
+-- Laws of books, draws and the deal.
+pub mod Places
+pub mod Draws
+pub mod Sizes
+pub mod Books
+pub mod Starts
+pub mod Work
+pub mod Door
+pub mod Steps
+pub mod Laws

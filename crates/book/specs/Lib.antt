@@ -1,0 +1,5 @@
+-- Books, draws and the deal.
+pub mod Book
+pub mod Deal
+pub mod Work
+pub mod Theorems

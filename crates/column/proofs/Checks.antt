@@ -1,0 +1,136 @@
+-- Round 6 on a plain column: what each zero check checks, what it opens, and what it settles.
+use mathlib.Core.Path.{_≡_, refl, sym, ap, _∙_}
+use mathlib.Core.Bool.{Bool, true, false, cond, _&&_}
+use mathlib.Core.List.{List, [], _∷_}
+use Prim.Native.Nat.{ℕ, zero, suc, _+_, _-_, _*_, _/_, _%_, _≤_, _<_}
+use native.Mathlib.Omega.{arith}
+use native.Mathlib.Nat.{mod-eq-of-lt, one-mul, add-mod-mod}
+use lib.Dec.{eqb}
+use lib.ListN.{length, getD}
+use Rattle.lists.specs.Answers.{bit}
+use Rattle.lists.specs.Lists.{every}
+use Rattle.lists.proofs.Indicators.{eq-one, eq-zero}
+use Rattle.field.specs.Field.{sub}
+use Rattle.field.specs.Sums.{sumTo}
+use Rattle.field.specs.Forms.{Registers, value}
+use Rattle.field.proofs.Division.{mod-sub}
+use Rattle.rounding.specs.Sets.{Scale}
+use Rattle.rounding.specs.Rounds.{missing, gap, checkOpens, checkResult, insideResult}
+use Rattle.rounding.specs.Theorems.{Lawful}
+use Rattle.rounding.proofs.ZeroCheck.{index-below}
+use Rattle.book.specs.Book.{groupK, groupGap, groupAt}
+use Rattle.book.specs.Theorems.{groups}
+use Rattle.column.specs.Layout.{runningAt}
+use Rattle.column.specs.Steps.{Public, publicOf, insideForm, insides, checked, openCheck, checkEntry}
+use Rattle.column.specs.Clear.{clearRunning, clearChecked}
+use Rattle.column.proofs.Clear.{five-below, high-second}
+use Rattle.column.proofs.Gates.{Held}
+
+-- ---- a zero check of any group
+
+-- the gap of the groups, from those of both kinds
+pub group-gaps : (p : Scale) → Lawful p → (kind n : ℕ) → p .modulus % (n + 1) ≤ gap (p .modulus) n → p .modulus % (groupK kind n + 1) ≤ groupGap p kind n
+group-gaps p ok kind n h = go (eqb kind 0)
+  where
+    go : (b : Bool) → p .modulus % (cond b 5 n + 1) ≤ gap (p .modulus) (cond b 5 n)
+    go true = ok .checks
+    go false = h
+
+module _ {p : Scale} (ok : Lawful p) {kind n : ℕ} (bound : ℕ) (masked : ℕ → ℕ) {v : Registers} {d : ℕ → ℕ} (book : Held p kind n v d)
+    (gaps : p .modulus % (n + 1) ≤ gap (p .modulus) n) (g : ℕ) (here : g < groups kind n) where
+  abbrev w : Public
+  w = publicOf p kind n bound masked
+
+  pub check-opens : (x : ℕ) → value (p .modulus) 1 v (checked w g) ≡ x → value (p .modulus) 1 v (openCheck w g) ≡ checkOpens (p .modulus) (groupK kind n) (d (groupAt p kind n g)) x
+  unfolding openCheck
+  check-opens x e = rw (e, book .group g here) (add-mod-mod _ _ _)
+
+  pub check-entry : (x : ℕ) → x < p .modulus → value (p .modulus) 1 v (checkEntry w g x) ≡ checkResult (p .modulus) (groupK kind n) (d (groupAt p kind n g)) x
+  unfolding checkEntry
+  check-entry x h =
+      book .marks g (x / groupGap p kind n) here
+      (index-below (p .modulus) (groupK kind n) (omega arith) (group-gaps p ok kind n gaps) x h)
+
+-- ---- what is checked
+
+-- a public number less a form, where nothing is lost
+less-is : (m k x : ℕ) → k < m → x ≤ k → sub m (1 * k % m) x ≡ k - x
+less-is m k x h l = rw (one-mul k, mod-eq-of-lt {n = k} {m = m} h, mod-eq-of-lt {n = x} {m = m} (omega arith)) (mod-sub m k x h l)
+
+sum-most : (n : ℕ) (f : ℕ → ℕ) → ((j : ℕ) → j < n → f j ≤ 1) → sumTo n f ≤ n
+unfolding sumTo
+sum-most zero f h = omega arith
+sum-most (suc n) f h = omega (arith, sum-most n f (λ j l. h j (omega arith)), h n (omega arith))
+
+-- ys are the y of the coefficients, rs their masks
+module _ (p : Scale) (ok : Lawful p) (n bound : ℕ) (masked ys rs : ℕ → ℕ) (v : Registers) where
+  -- HIGH: five less the zeros and G
+  checked-high : (c : ℕ) → ys c < p .modulus → rs c < p .modulus → v (runningAt 1 c) ≡ clearRunning p 0 n bound (ys c) (rs c) 5 1
+      → value (p .modulus) 1 v (checked (publicOf p 0 n bound masked) c) ≡ clearChecked p 0 n bound ys rs c
+  unfolding checked clearChecked missing
+  checked-high c hy hr e =
+      ap (sub (p .modulus) (1 * 5 % p .modulus)) e
+      ∙ less-is (p .modulus) 5 (clearRunning p 0 n bound (ys c) (rs c) 5 1) (five-below p ok) (high-second p ok n bound (ys c) (rs c) hy hr 5)
+      ∙ (unfold clearRunning in refl)
+
+  -- BOUND: N less the insides
+  module _ (same : (c : ℕ) → c < n → masked c ≡ ys c) (after : (c k : ℕ) → c < n → k < 2 → v (runningAt k c) ≡ clearRunning p 1 n bound (ys c) (rs c) 5 k)
+      (small : (c : ℕ) → c < n → insideResult p bound (ys c) (rs c) ≤ 1) (most : n < p .modulus) where
+    abbrev insideOf : ℕ → ℕ
+    insideOf c = insideResult p bound (ys c) (rs c)
+
+    inside-is : (c : ℕ) → c < n → value (p .modulus) 1 v (insideForm (p .modulus) bound (masked c) c) ≡ insideOf c
+    unfolding insideForm insideResult clearRunning
+    inside-is c h = rw (same c h, after c 0 h (omega arith), after c 1 h (omega arith), one-mul) (add-mod-mod _ _ _)
+
+    insides-are : (c : ℕ) → c ≤ n → value (p .modulus) 1 v (insides (publicOf p 1 n bound masked) c) ≡ sumTo c insideOf
+    unfolding insides sumTo
+    insides-are zero h = mod-eq-of-lt (omega arith)
+    insides-are (suc c) h =
+        rw (insides-are c (omega arith), inside-is c h)
+        (mod-eq-of-lt (omega (arith, sum-most c insideOf (λ j l. small j (omega arith)), small c h)))
+
+    checked-bound : (g : ℕ) → value (p .modulus) 1 v (checked (publicOf p 1 n bound masked) g) ≡ clearChecked p 1 n bound ys rs g
+    unfolding checked clearChecked
+    checked-bound g =
+        ap (sub (p .modulus) (1 * n % p .modulus)) (insides-are n (omega arith))
+        ∙ less-is (p .modulus) n (sumTo n insideOf) most (sum-most n insideOf small)
+
+  pub checked-is : (kind : ℕ) → kind < 2 → ((c : ℕ) → c < n → masked c ≡ ys c) → ((c k : ℕ) → c < n → k < 2 → v (runningAt k c) ≡ clearRunning p kind n bound (ys c) (rs c) 5 k)
+      → ((c : ℕ) → ys c < p .modulus) → ((c : ℕ) → rs c < p .modulus) → (kind ≡ 1 → (c : ℕ) → c < n → insideResult p bound (ys c) (rs c) ≤ 1) → n < p .modulus
+      → (g : ℕ) → g < groups kind n → value (p .modulus) 1 v (checked (publicOf p kind n bound masked) g) ≡ clearChecked p kind n bound ys rs g
+  checked-is zero h same after hy hr small most g l = checked-high g (hy g) (hr g) (after g 1 l (omega arith))
+  checked-is (suc zero) h same after hy hr small most g l = checked-bound same after (small refl) most g
+  checked-is (suc (suc kind)) h same after hy hr small most g l = absurd (omega arith)
+
+-- ---- the verdict: all are inside just if as many are inside as there are
+
+data Full (n count b : ℕ) : Type 0 where
+  full : count ≡ n → b ≡ 1 → Full n count b
+  short : count < n → b ≡ 0 → Full n count b
+
+sum-front : (n : ℕ) (f : ℕ → ℕ) → sumTo (suc n) f ≡ f 0 + sumTo n (λ j. f (suc j))
+unfolding sumTo
+sum-front zero f = omega arith
+sum-front (suc n) f = omega (arith, sum-front n f)
+
+full-more : (t u : Bool) (n count : ℕ) → Full n count (bit u) → Full (suc n) (bit t + count) (bit (t && u))
+unfolding bit
+full-more true u n count (full e f) = full (omega arith) f
+full-more true u n count (short e f) = short (omega arith) f
+full-more false u n count (full e f) = short (omega arith) refl
+full-more false u n count (short e f) = short (omega arith) refl
+
+full-view : (t : ℕ → Bool) (xs : List ℕ) → Full (length xs) (sumTo (length xs) (λ j. bit (t (getD xs j 0)))) (bit (every t xs))
+unfolding every
+full-view t [] = full (unfold sumTo in refl) (unfold bit in refl)
+full-view t (x ∷ xs) = rw (sum-front (length xs) (λ j. bit (t (getD (x ∷ xs) j 0)))) (full-more (t x) (every t xs) (length xs) _ (full-view t xs))
+
+pub every-is : (t : ℕ → Bool) (xs : List ℕ) → bit (eqb (length xs - sumTo (length xs) (λ j. bit (t (getD xs j 0)))) 0) ≡ bit (every t xs)
+every-is t xs =
+    let n : ℕ = length xs in
+    let count : ℕ = sumTo n (λ j. bit (t (getD xs j 0))) in
+    elim (full-view t xs) [
+      | full e f ↦ eq-one {a = n - count} {b = 0} (omega arith) ∙ sym f
+      | short e f ↦ eq-zero {a = n - count} {b = 0} (omega arith) ∙ sym f
+    ]

@@ -1,0 +1,182 @@
+-- T1: joined columns stay joined, through every opening and every round; in one column, and in whole working slices.
+use mathlib.Core.Path.{_≡_, refl, sym, fun-ext, _∙_}
+use mathlib.Core.Bool.{Bool, true, false, cond}
+use mathlib.Core.List.{List, [], _∷_, _++_}
+use Prim.Native.Nat.{ℕ, zero, suc, _+_, _*_, _≤_, _<_}
+use native.Mathlib.Omega.{arith}
+use native.Mathlib.Nat.{mod-lt, add-zero, zero-add}
+use lib.Dec.{eqb, ltb}
+use lib.ListN.{length, getD, set, replicate, length-append, length-replicate}
+use Rattle.lists.specs.Lists.{fill}
+use Rattle.field.specs.Forms.{Registers, Form, num, reg, sum, _⊞_, _⊟_, _⊠_, value, Adds, Join}
+use Rattle.field.proofs.Congruence.{≈-eq}
+use Rattle.field.proofs.Forms.{join-value, join-put}
+use Rattle.rounding.specs.Sets.{Scale}
+use Rattle.message.specs.Lengths.{openings}
+use Rattle.book.specs.Deal.{multipliers}
+use Rattle.column.specs.Layout.{places, column, maskedIn, weights}
+use Rattle.column.specs.Steps.{Public, publicOf, opening, running}
+use Rattle.column.specs.Work.{openingOn, takenColumn, takenColumns, takenWork}
+use Rattle.column.specs.Theorems.{T1, JoinedWork, T1Work}
+use Rattle.column.proofs.Columns.{stepped, taking, maskedAfter}
+use Rattle.column.proofs.Slices.{length-work, column-work, own-work, masked-work}
+
+pub column-joins : T1
+column-joins =
+    record {
+      opening = λ w pos j round o. join-value pos j (opening w round o);
+      running = λ w pos j round opened k c. join-value pos j (running w round opened k c);
+    }
+
+-- ---- the weights of the columns add up to the multipliers
+
+getD-none : (n c : ℕ) → _≡_ {A = ℕ} (getD (replicate n 0) c 0) 0
+getD-none zero c = refl
+getD-none (suc n) zero = refl
+getD-none (suc n) (suc c) = getD-none n c
+
+padded : (xs ys : List ℕ) (n c : ℕ) → getD (xs ++ replicate n 0) c 0 + getD (replicate (length xs) 0 ++ ys) c 0 ≡ getD (xs ++ ys) c 0
+padded [] ys n c = rw (getD-none n c) (zero-add (getD ys c 0))
+padded (x ∷ xs) ys n zero = add-zero x
+padded (x ∷ xs) ys n (suc c) = padded xs ys n c
+
+module _ (keys0 keys1 : List ℕ) (same : length keys0 ≡ length keys1) where
+  weights-join : (c : ℕ) → getD (weights (length keys0) 0 keys0) c 0 + getD (weights (length keys0) 1 keys1) c 0 ≡ getD (multipliers keys0 keys1) c 0
+  unfolding weights
+  weights-join zero = refl
+  weights-join (suc c) = padded keys0 keys1 (length keys0) c
+
+  weights-length : (length (weights (length keys0) 0 keys0) ≡ length (multipliers keys0 keys1)) × (length (weights (length keys0) 1 keys1) ≡ length (multipliers keys0 keys1))
+  unfolding weights
+  weights-length = (
+    omega (arith, length-append keys0 (replicate (length keys0) 0), length-append keys0 keys1, length-replicate {A = ℕ} (length keys0) 0),
+    omega (arith, length-append (replicate (length keys0) 0) keys1, length-append keys0 keys1, length-replicate {A = ℕ} (length keys0) 0),
+  )
+
+-- ---- two working slices and the plain column
+
+module _ (p : Scale) (kind n bound : ℕ) (keys0 keys1 w₁ w₂ plain : List ℕ) (pos : 0 < p .modulus) (same : length keys0 ≡ length keys1)
+    (j : JoinedWork (p .modulus) keys0 keys1 w₁ w₂ plain) (round : ℕ) where
+  abbrev κ₁ : List ℕ
+  κ₁ = weights (length keys0) 0 keys0
+
+  abbrev κ₂ : List ℕ
+  κ₂ = weights (length keys0) 1 keys1
+
+  abbrev m : List ℕ
+  m = multipliers keys0 keys1
+
+  joined : (c : ℕ) → c < length m → Join (p .modulus) (getD m c 0) (getD κ₁ c 0) (getD κ₂ c 0) (column w₁ c) (column w₂ c) (column plain 0)
+  joined c h = record { weight = ≈-eq (weights-join keys0 keys1 same c); numbers = λ i. j .adds c i h }
+
+  same₁ : maskedIn w₁ ≡ maskedIn plain
+  same₁ = fun-ext (j .masked₁)
+
+  same₂ : maskedIn w₂ ≡ maskedIn plain
+  same₂ = fun-ext (j .masked₂)
+
+  opening-joins : (c o : ℕ) → c < length m
+      → Adds (p .modulus) (getD m c 0)
+      (openingOn (publicOf p kind n bound (maskedIn w₁)) round (getD κ₁ c 0) (column w₁ c) o)
+      (openingOn (publicOf p kind n bound (maskedIn w₂)) round (getD κ₂ c 0) (column w₂ c) o)
+      (openingOn (publicOf p kind n bound (maskedIn plain)) round 1 (column plain 0) o)
+  opening-joins c o h = rw (same₁, same₂) (join-value pos (joined c h) (opening (publicOf p kind n bound (maskedIn plain)) round o))
+
+  module _ (most : n ≤ 8) (opened : ℕ → ℕ) where
+    stepped-joins : (masked : ℕ → ℕ) (c i : ℕ) → c < length m → let w = publicOf p kind n bound masked in
+        Adds (p .modulus) (getD m c 0) (stepped w round opened (getD κ₁ c 0) (column w₁ c) i) (stepped w round opened (getD κ₂ c 0) (column w₂ c) i) (stepped w round opened 1 (column plain 0) i)
+    stepped-joins masked c i h =
+        let w = publicOf p kind n bound masked in
+        join-put 1336 n _ _ _ (join-put 1328 n _ _ _ (joined c h) (λ x. join-value pos (joined c h) (running w round opened 0 x)))
+        (λ x. join-value pos (joined c h) (running w round opened 1 x)) .numbers i
+
+    taken-joins : JoinedWork (p .modulus) keys0 keys1 (takenWork p kind n bound round opened κ₁ w₁) (takenWork p kind n bound round opened κ₂ w₂) (takenWork p kind n bound round opened (1 ∷ []) plain)
+    taken-joins =
+        let l = weights-length keys0 keys1 same in
+        record {
+          adds = λ c i h.
+              rw (
+                column-work p kind n bound round opened κ₁ w₁ most c (omega arith) (omega (arith, j .exact₁)) i,
+                column-work p kind n bound round opened κ₂ w₂ most c (omega arith) (omega (arith, j .exact₂)) i,
+                column-work p kind n bound round opened (1 ∷ []) plain most 0 (omega arith) (omega (arith, j .exact)) i,
+                same₁,
+                same₂,
+              )
+              (stepped-joins (cond (eqb round 1) opened (maskedIn plain)) c i h);
+          masked₁ = λ c. masked-work p kind n bound round opened κ₁ w₁ most (omega (arith, j .exact₁)) c ∙ (rw same₁ (sym (masked-plain c)));
+          masked₂ = λ c. masked-work p kind n bound round opened κ₂ w₂ most (omega (arith, j .exact₂)) c ∙ (rw same₂ (sym (masked-plain c)));
+          exact₁ = length-work p kind n bound round opened κ₁ w₁ most ∙ j .exact₁;
+          exact₂ = length-work p kind n bound round opened κ₂ w₂ most ∙ j .exact₂;
+          exact = length-work p kind n bound round opened (1 ∷ []) plain most ∙ j .exact;
+        }
+      where
+        masked-plain : (c : ℕ) → maskedIn (takenWork p kind n bound round opened (1 ∷ []) plain) c ≡ maskedAfter n round opened (maskedIn plain) c
+        masked-plain c = masked-work p kind n bound round opened (1 ∷ []) plain most (omega (arith, j .exact)) c
+
+-- ---- numbers below the modulus
+
+set-below : (s : List ℕ) (i x m : ℕ) → x < m → ((j : ℕ) → getD s j 0 < m) → (j : ℕ) → getD (set s i x) j 0 < m
+set-below [] i x m k h j = h j
+set-below (y ∷ s) zero x m k h zero = k
+set-below (y ∷ s) zero x m k h (suc j) = h (suc j)
+set-below (y ∷ s) (suc i) x m k h zero = h 0
+set-below (y ∷ s) (suc i) x m k h (suc j) = set-below s i x m k (λ j. h (suc j)) j
+
+fill-below : (s : List ℕ) (i n : ℕ) (f : ℕ → ℕ) (m : ℕ) → ((j : ℕ) → getD s j 0 < m) → ((j : ℕ) → f j < m) → (j : ℕ) → getD (fill s i n f) j 0 < m
+unfolding fill
+fill-below s i zero f m h k = h
+fill-below s i (suc n) f m h k = set-below (fill s i n f) (i + n) (f n) m (k n) (fill-below s i n f m h k)
+
+column-below : (s : List ℕ) (c m : ℕ) → 0 < m → ((j : ℕ) → getD s j 0 < m) → (i : ℕ) → column s c i < m
+unfolding column
+column-below s c m pos h i = go (ltb i 1344)
+  where
+    go : (b : Bool) → cond b (getD s (c * 1536 + i) 0) 0 < m
+    go true = h (c * 1536 + i)
+    go false = pos
+
+value-below : (m κ : ℕ) (r : Registers) → 0 < m → ((i : ℕ) → r i < m) → (f : Form) → value m κ r f < m
+value-below m κ r pos h (num k) = mod-lt (κ * k) pos
+value-below m κ r pos h (reg i) = h i
+value-below m κ r pos h (sum n place weight) = mod-lt _ pos
+value-below m κ r pos h (f ⊞ g) = mod-lt _ pos
+value-below m κ r pos h (f ⊟ g) = mod-lt _ pos
+value-below m κ r pos h (k ⊠ f) = mod-lt _ pos
+
+module _ (w : Public) (round : ℕ) (opened : ℕ → ℕ) (pos : 0 < w .scale .modulus) where
+  abbrev q : ℕ
+  q = w .scale .modulus
+
+  taken-below : (c κ : ℕ) (s : List ℕ) → ((j : ℕ) → getD s j 0 < q) → (j : ℕ) → getD (takenColumn w round opened c κ s) j 0 < q
+  unfolding takenColumn
+  taken-below c κ s h =
+      let v : (f : Form) → value q κ (column s c) f < q = value-below q κ (column s c) pos (column-below s c q pos h) in
+      fill-below _ (c * places + 1336) (w .n) _ q
+      (fill-below _ (c * places + 1328) (w .n) _ q
+      (fill-below s (c * places + 1344) (openings (w .kind) (w .n) round) _ q h (λ o. v (opening w round o)))
+      (λ c. v (running w round opened 0 c)))
+      (λ c. v (running w round opened 1 c))
+
+  columns-below : (κs s : List ℕ) (d : ℕ) → ((j : ℕ) → getD s j 0 < q) → (j : ℕ) → getD (takenColumns w round opened κs s d) j 0 < q
+  unfolding takenColumns
+  columns-below κs s zero h = h
+  columns-below κs s (suc d) h = taken-below d (getD κs d 0) (takenColumns w round opened κs s d) (columns-below κs s d h)
+
+work-below : (p : Scale) (kind n bound round : ℕ) (opened : ℕ → ℕ) (κs s : List ℕ) → 0 < p .modulus
+    → ((i : ℕ) → getD s i 0 < p .modulus) → ((o : ℕ) → opened o < p .modulus) → (i : ℕ) → getD (takenWork p kind n bound round opened κs s) i 0 < p .modulus
+unfolding takenWork
+work-below p kind n bound round opened κs s pos h k = go _ (eqb round 1) (columns-below (taking p kind n bound round opened (maskedIn s)) round opened pos κs s (length κs) h)
+  where
+    go : (t : List ℕ) (b : Bool) → ((i : ℕ) → getD t i 0 < p .modulus) → (i : ℕ) → getD (cond b (fill t 1376 n opened) t) i 0 < p .modulus
+    go t true l = fill-below t 1376 n opened (p .modulus) l k
+    go t false l = l
+
+pub work-joins : T1Work
+work-joins =
+    record {
+      opening = opening-joins;
+      taken = λ p kind n bound keys0 keys1 w₁ w₂ plain pos most some same j round opened. taken-joins p kind n bound keys0 keys1 w₁ w₂ plain pos same j round most opened;
+      own = λ p kind n bound round opened κs work most some l c o h k. own-work p kind n bound round opened κs work most c h (omega arith) o k;
+      bounded = λ p kind n bound round opened κs work pos most some l h k.
+          (length-work p kind n bound round opened κs work most, work-below p kind n bound round opened κs work pos h k);
+    }

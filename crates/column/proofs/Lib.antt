@@ -1,0 +1,13 @@
+-- Laws of the rounds: the code's bounds and writes, the slice at the start, joined columns (T1), the plain run (T2).
+pub mod Bounds
+pub mod Written
+pub mod Begun
+pub mod Columns
+pub mod Slices
+pub mod Joins
+pub mod Clear
+pub mod Gates
+pub mod Checks
+pub mod Start
+pub mod Rounds
+pub mod PlainRun

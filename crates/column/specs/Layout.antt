@@ -1,0 +1,65 @@
+-- The working slice: columns of 1,536 places, one after the other; a column is one number of each shared number.
+-- In a column the book comes first, then these.
+use Prim.Native.Nat.{ℕ, _+_, _*_, _-_}
+use mathlib.Core.Bool.{cond, _&&_}
+use mathlib.Core.List.{List, [], _∷_, _++_}
+use lib.Dec.{eqb, leb, ltb}
+use lib.ListN.{getD, replicate}
+use Rattle.lists.specs.Lists.{listTo, joinTo}
+use Rattle.field.specs.Forms.{Registers}
+use Rattle.rounding.specs.Sets.{Scale}
+use Rattle.book.specs.Book.{shared, widthOf}
+
+abbrev pub places : ℕ
+places = 1536
+
+-- "working slice 4,608 numbers", with k keys a side
+abbrev pub workLength : ℕ → ℕ
+workLength k = widthOf k * places
+
+-- the input of coefficient c
+abbrev pub inputAt : ℕ → ℕ
+inputAt c = 1320 + c
+
+-- the two running registers of coefficient c, k = 0 the first and k = 1 the second.
+-- HIGH: the first is the carry, after round 5 F, after round 6 F − C; the second is z0 + z1 + .. so far, after round 5 also G.
+-- BOUND: hi's result and lo's; after round 6 the first of coefficient 0 is the zero check's result
+abbrev pub runningAt : ℕ → ℕ → ℕ
+runningAt k c = 1328 + 8 * k + c
+
+-- behind the registers: this side's own numbers for the openings of the round that it took last
+abbrev pub ownAt : ℕ → ℕ
+ownAt o = 1344 + o
+
+-- in column 0 alone: the y that round 1 opened, of coefficient c
+abbrev pub maskedAt : ℕ → ℕ
+maskedAt c = 1376 + c
+
+-- the registers of column c: 0 behind the last of them, so that no form reads there
+unfoldable pub column : List ℕ → ℕ → Registers
+column work c i = cond (ltb i (ownAt 0)) (getD work (c * places + i) 0) 0
+
+-- this side's own numbers in column c
+unfoldable pub ownIn : List ℕ → ℕ → ℕ → ℕ
+ownIn work c o = getD work (c * places + ownAt o) 0
+
+-- the masked numbers that the slice holds, of eight coefficients at most
+unfoldable pub maskedIn : List ℕ → ℕ → ℕ
+maskedIn work c = cond (ltb c 8) (getD work (maskedAt c) 0) 0
+
+-- "Begin sets the whole working slice, numbers without a use to 0": place i of column c, from inputs and book,
+-- which hold n and `count` shared numbers of `width` numbers each
+unfoldable pub begunPlace : ℕ → ℕ → ℕ → List ℕ → List ℕ → ℕ → ℕ → ℕ
+begunPlace count n width inputs book c i =
+    cond (ltb i count) (getD book (i * width + c) 0)
+    (cond (leb (inputAt 0) i && ltb i (inputAt n)) (getD inputs ((i - inputAt 0) * width + c) 0)
+    0)
+
+unfoldable pub begunWork : Scale → ℕ → ℕ → ℕ → List ℕ → List ℕ → List ℕ
+begunWork p kind n width inputs book =
+    joinTo width (λ (c : ℕ). listTo places (begunPlace (shared p kind n) n width inputs book c))
+
+-- "Adding a public k: the server adds k to its share, and each side adds own key × k to its part under its own key":
+-- what a public 1 adds to each column on side `number`, with k keys a side
+unfoldable pub weights : ℕ → ℕ → List ℕ → List ℕ
+weights k number keys = cond (eqb number 0) (1 ∷ keys ++ replicate k 0) (0 ∷ replicate k 0 ++ keys)

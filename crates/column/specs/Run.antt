@@ -1,0 +1,38 @@
+-- The plain run: the steps at weight 1, on one column that holds the plain values.
+use Prim.Native.Nat.{ℕ, zero, suc}
+use mathlib.Core.List.{List, [], _∷_}
+use lib.ListN.{getD}
+use Rattle.lists.specs.Lists.{listTo}
+use Rattle.rounding.specs.Sets.{Scale}
+use Rattle.message.specs.Lengths.{openings}
+use Rattle.book.specs.Book.{shared, value}
+use Rattle.column.specs.Layout.{column, maskedIn, begunWork}
+use Rattle.column.specs.Steps.{publicOf}
+use Rattle.column.specs.Work.{openingOn, takenWork}
+
+-- width: of the draw that the book's values are taken from
+module _ (p : Scale) (kind n bound width : ℕ) (draw secret : List ℕ) where
+  -- the book's values, in book order
+  unfoldable pub plainBook : List ℕ
+  plainBook = listTo (shared p kind n) (value p kind n width draw)
+
+  -- the plain column at the start
+  unfoldable pub plainStart : List ℕ
+  plainStart = begunWork p kind n 1 secret plainBook
+
+  -- the opened numbers of a round, from the plain column before it
+  unfoldable pub openedFrom : ℕ → List ℕ → List ℕ
+  openedFrom round work =
+      listTo (openings kind n round) (openingOn (publicOf p kind n bound (maskedIn work)) round 1 (column work 0))
+
+  -- the plain column after a number of rounds
+  unfoldable pub plainAfter : ℕ → List ℕ
+  plainAfter zero = plainStart
+  plainAfter (suc rounds) =
+      let work = plainAfter rounds in
+      let numbers = openedFrom (suc rounds) work in
+      takenWork p kind n bound (suc rounds) (λ (o : ℕ). getD numbers o 0) (1 ∷ []) work
+
+  -- the opened numbers of the round that follows a number of rounds
+  unfoldable pub plainOpened : ℕ → List ℕ
+  plainOpened rounds = openedFrom (suc rounds) (plainAfter rounds)

@@ -1,0 +1,130 @@
+-- The steps of the seven rounds on one column, as linear forms with public coefficients: what is opened, and what the
+-- running registers become. c is a coefficient, i a digit, k the first (0) or second (1) gate and running register.
+use Prim.Native.Nat.{ℕ, zero, suc, _+_, _-_, _*_, _/_, _%_}
+use mathlib.Core.Bool.{cond, _&&_}
+use lib.Dec.{eqb, leb, ltb}
+use Rattle.lists.specs.Answers.{bit}
+use Rattle.field.specs.Forms.{Form, num, reg, sum, _⊞_, _⊟_, _⊠_}
+use Rattle.rounding.specs.Sets.{Scale, base}
+use Rattle.rounding.specs.Digits.{digit}
+use Rattle.rounding.specs.Rounds.{threshold}
+use Rattle.book.specs.Book.{groupK, groupGap, maskAt, vectorAt, tripleAt, groupAt}
+use Rattle.column.specs.Layout.{inputAt, runningAt}
+use Rattle.column.specs.Weights.{weigh, ruleOf}
+
+-- what both sides know of a run: scale, kind, N, B, and the y that round 1 opened
+pub record Public : Type 0 where
+  pub scale : Scale
+  pub kind : ℕ
+  pub n : ℕ
+  pub bound : ℕ
+  pub masked : ℕ → ℕ
+
+abbrev pub publicOf : Scale → ℕ → ℕ → ℕ → (ℕ → ℕ) → Public
+publicOf p kind n bound masked = record { scale = p; kind = kind; n = n; bound = bound; masked = masked }
+
+-- the number whose digits gate k looks at: y for HIGH; for BOUND the threshold hi (k = 0) or lo
+unfoldable pub lookedAt : ℕ → ℕ → ℕ → ℕ → ℕ → ℕ
+lookedAt m kind bound k y = cond (eqb kind 0) y (threshold m bound k y)
+
+-- its digit i
+abbrev pub digitOf : Public → ℕ → ℕ → ℕ → ℕ
+digitOf w c i k = digit (w .scale) (lookedAt (w .scale .modulus) (w .kind) (w .bound) k (w .masked c)) i
+
+-- the limit of a rule: the digit's base, for digit 4 s
+unfoldable pub limitOf : Scale → ℕ → ℕ
+limitOf p i = cond (ltb i 4) (base p i) (p .parts)
+
+-- ---- Gates: addend + u × v
+
+-- A, Z, F, G, or the sum below Ti; with up = 1 "the same with yi + 1"
+unfoldable pub vectorSum : Public → ℕ → ℕ → ℕ → ℕ → Form
+vectorSum w c i k up =
+    sum (base (w .scale) i) (vectorAt (w .scale) (w .kind) c i)
+    (weigh (ruleOf (w .kind) i k) (limitOf (w .scale) i) (digitOf w c i k + up))
+
+-- HIGH: "Next carry = A + ci × (A′ − A); zi = Z + ci × (Z′ − Z)", F and G "chosen by c4 in the same way"; the z's and G are
+-- added up in the second register. BOUND: "(sum of digit i's vector below Ti) + (entry at Ti) × (result so far), the entry as u"
+unfoldable pub addend : Public → ℕ → ℕ → ℕ → Form
+addend w c i k = cond (eqb (w .kind) 0 && eqb k 1) (reg (runningAt 1 c) ⊞ vectorSum w c i k 0) (vectorSum w c i k 0)
+
+unfoldable pub factorU : Public → ℕ → ℕ → ℕ → Form
+factorU w c i k = cond (eqb (w .kind) 0) (reg (runningAt 0 c)) (reg (vectorAt (w .scale) (w .kind) c i + digitOf w c i k))
+
+unfoldable pub factorV : Public → ℕ → ℕ → ℕ → Form
+factorV w c i k = cond (eqb (w .kind) 0) (vectorSum w c i k 1 ⊟ vectorSum w c i k 0) (reg (runningAt k c))
+
+-- "Products use triples in the order named": the place of a; b and c follow
+abbrev pub tripleOf : Public → ℕ → ℕ → ℕ → ℕ
+tripleOf w c i k = tripleAt (w .scale) (w .kind) c (2 * (i - 1) + k)
+
+-- ---- What is opened
+
+-- the public number that round 1 adds: α/2 − 1, or B − 1
+unfoldable pub shiftOf : ℕ → ℕ → ℕ → ℕ
+shiftOf alpha kind bound = cond (eqb kind 0) (alpha / 2 - 1) (bound - 1)
+
+-- "Round 1 opens y = (w′ − r), or (v + B − 1 − r) for BOUND"
+unfoldable pub openInput : Public → ℕ → Form
+openInput w c = reg (inputAt c) ⊞ num (shiftOf (w .scale .alpha) (w .kind) (w .bound)) ⊟ reg (maskAt (w .scale) (w .kind) c)
+
+-- "Product of u and v: open u − a, then v − b": part 0, part 1
+unfoldable pub openFactor : Public → ℕ → ℕ → ℕ → ℕ → Form
+openFactor w c i k part = cond (eqb part 0) (factorU w c i k) (factorV w c i k) ⊟ reg (tripleOf w c i k + part)
+
+-- "A coefficient is inside by hi's result − lo's result, + 1 if hi < lo"
+unfoldable pub insideForm : ℕ → ℕ → ℕ → ℕ → Form
+insideForm m bound y c = reg (runningAt 0 c) ⊟ reg (runningAt 1 c) ⊞ num (bit (ltb (threshold m bound 0 y) (threshold m bound 1 y)))
+
+-- the sum of the insides of the first coefficients
+unfoldable pub insides : Public → ℕ → Form
+insides w zero = num 0
+insides w (suc c) = insides w c ⊞ insideForm (w .scale .modulus) (w .bound) (w .masked c) c
+
+-- "Round 6 zero-checks 5 − (z0 + z1 + z2 + z3 + G)", or "N − the sum of insides"
+unfoldable pub checked : Public → ℕ → Form
+checked w g = num (groupK (w .kind) (w .n)) ⊟ cond (eqb (w .kind) 0) (reg (runningAt 1 g)) (insides w (w .n))
+
+-- "Zero check of n, 0 to K: open ρ + g × n", of group g
+unfoldable pub openCheck : Public → ℕ → Form
+openCheck w g =
+    reg (groupAt (w .scale) (w .kind) (w .n) g) ⊞ groupGap (w .scale) (w .kind) (w .n) ⊠ checked w g
+
+-- opening o of a round. Rounds 2 to 5: "coefficient by coefficient", two gates each, u then v. "Round 7 opens F − C", or the check's result
+unfoldable pub opening : Public → ℕ → ℕ → Form
+opening w round o =
+    cond (eqb round 1) (openInput w o)
+    (cond (leb round 5) (openFactor w (o / 4) (round - 1) (o / 2 % 2) (o % 2))
+    (cond (eqb round 6) (openCheck w o)
+    (reg (runningAt 0 o))))
+
+-- ---- What the opened numbers make of the running registers
+
+-- addend + u × v: "result e × v + f × u + c − e × f"
+unfoldable pub gateResult : Public → ℕ → ℕ → ℕ → ℕ → ℕ → Form
+gateResult w c i k e f =
+    addend w c i k ⊞ e ⊠ factorV w c i k ⊞ f ⊠ factorU w c i k ⊞ reg (tripleOf w c i k + 2) ⊟ num (e * f % w .scale .modulus)
+
+-- "the result is the vector's entry at the opened number divided by g, rounded down", of group g
+unfoldable pub checkEntry : Public → ℕ → ℕ → Form
+checkEntry w g x = reg (groupAt (w .scale) (w .kind) (w .n) g + 1 + x / groupGap (w .scale) (w .kind) (w .n))
+
+-- the group of coefficient c: its own for HIGH, the one of all for BOUND
+unfoldable pub groupOf : ℕ → ℕ → ℕ
+groupOf kind c = cond (eqb kind 0) c 0
+
+-- round 6: HIGH's F − C; BOUND's result, in the first register of coefficient 0. The others stay
+unfoldable pub afterCheck : Public → ℕ → ℕ → ℕ → Form
+afterCheck w c k x =
+    cond (eqb k 0)
+    (cond (eqb (w .kind) 0) (reg (runningAt 0 c) ⊟ checkEntry w c x)
+    (cond (eqb c 0) (checkEntry w 0 x) (reg (runningAt 0 c))))
+    (reg (runningAt k c))
+
+-- the running register k of coefficient c after a round: "Digit 0 needs no product", then the gates, then the zero check
+unfoldable pub running : Public → ℕ → (ℕ → ℕ) → ℕ → ℕ → Form
+running w round opened k c =
+    cond (eqb round 1) (vectorSum w c 0 k 0)
+    (cond (leb round 5) (gateResult w c (round - 1) k (opened (4 * c + 2 * k)) (opened (4 * c + 2 * k + 1)))
+    (cond (eqb round 6) (afterCheck w c k (opened (groupOf (w .kind) c)))
+    (reg (runningAt k c))))

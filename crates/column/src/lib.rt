@@ -1,0 +1,803 @@
+// The seven rounds on a side's working slice: what each column gives to a round's openings, and what the opened
+// numbers make of it. Every step is a linear form with public coefficients, the same in every column.
+ghost use mathlib.Core.Path.{_≡_};
+ghost use mathlib.Core.Logic.{_≢_};
+ghost use mathlib.Core.List.{List};
+ghost use Prim.Native.Nat.{ℕ, _+_, _*_, _/_, _≤_, _<_};
+ghost use lib.Dec.{ltb, leb, eqb};
+ghost use lib.ListN.{length, getD};
+ghost use Rattle.lists.specs.Answers.{bit};
+ghost use Rattle.lists.specs.Lists.{fill};
+ghost use Rattle.field.specs.Field.{q, add, sub, mul};
+ghost use Rattle.field.specs.Forms.{value, sum};
+ghost use Rattle.rounding.specs.Sets.{scaleOf};
+ghost use Rattle.rounding.specs.Digits.{digit};
+ghost use Rattle.rounding.specs.Rounds.{top, threshold, gap};
+ghost use Rattle.message.specs.Lengths.{openings};
+ghost use Rattle.book.specs.Book.{groupK};
+ghost use Rattle.column.specs.Layout.{places, ownAt, runningAt, column, maskedIn};
+ghost use Rattle.column.specs.Weights.{weigh, ruleOf};
+ghost use Rattle.column.specs.Steps.{publicOf, lookedAt, limitOf, vectorSum, addend, factorU, factorV, tripleOf, shiftOf, openInput, openFactor, insideForm, insides, checked, openCheck, gateResult, groupOf, checkEntry, afterCheck, running};
+ghost use Rattle.column.specs.Work.{openingOn, runningOn, takenColumn, takenColumns, takenWork};
+ghost use Rattle.column.specs.Calls.{publicBy, Ready, Held, HeldAll};
+use book::group_at;
+use book::group_gap;
+use book::mask_at;
+use book::triple_at;
+use book::vector_at;
+use field::Q64;
+use field::add_mod;
+use field::mul_mod;
+use field::sub_mod;
+use message::openings_in;
+use rounding::Split;
+use rounding::alpha_of;
+use rounding::base_of;
+use rounding::parts_of;
+use rounding::split_number;
+
+// The places of a column, and where in it stand the inputs, the two running registers of each coefficient, this side's
+// own numbers for the openings, and (in column 0 alone) the masked numbers.
+const PLACES: usize = 1536;
+
+const INPUT: usize = 1320;
+
+const FIRST: usize = 1328;
+
+const SECOND: usize = 1336;
+
+const OWN: usize = 1344;
+
+const MASKED: usize = 1376;
+
+// The room for a column's own numbers in the slice that take_work is handed: no round has more openings.
+const OWN_ROOM: usize = 32;
+
+// What both sides know of a run, but for the opened numbers. Every function below asks that these have passed questions
+// 1 to 3, and that the lent slices have the room it needs: crate side calls them after its questions.
+pub struct Settings {
+    pub set: usize,
+    pub kind: u32,
+    pub n: usize,
+    pub bound: u32,
+}
+
+// How the entries of a digit's vector are summed.
+pub enum Rule {
+    Carry,
+    Zero,
+    Top,
+    Over,
+    Below,
+}
+
+// ---- Sums over a digit's vector
+
+// 1 where the test passes, else 0.
+fn less(a: u32, b: u32) -> u32
+    ensures { λ r. ⌜ (r ≡ bit (ltb a b)) × (r ≤ 1) ⌝ }
+{
+    if a < b { 1 } else { 0 }
+}
+
+fn not_above(a: u32, b: u32) -> u32
+    ensures { λ r. ⌜ (r ≡ bit (leb a b)) × (r ≤ 1) ⌝ }
+{
+    if a <= b { 1 } else { 0 }
+}
+
+fn equal(a: u32, b: u32) -> u32
+    ensures { λ r. ⌜ (r ≡ bit (eqb a b)) × (r ≤ 1) ⌝ }
+{
+    if a == b { 1 } else { 0 }
+}
+
+// t(d).
+fn top_of(s: u32, d: u32) -> u32
+    ensures { λ r. ⌜ (r ≡ top s d) × (r ≤ d) ⌝ }
+{
+    if d < s { d } else { d - s }
+}
+
+// The public weight of entry j for the public digit d.
+fn weigh_entry(rule: Rule, b: u32, d: u32, j: u32) -> u32
+    requires { ⌜ (1 ≤ b) × (b ≤ 45) × (d ≤ 65536) × (j < 64) ⌝ }
+    ensures { λ r. ⌜ (r ≡ weigh rule b d j) × (r < 131072) ⌝ }
+{
+    match rule {
+        Rule::Carry => not_above(b, j + d),
+        Rule::Zero => equal((j + d) % b, 0),
+        Rule::Top => top_of(b, j + d),
+        Rule::Over => less(b, j + d),
+        Rule::Below => less(j, d),
+    }
+}
+
+fn times(a: u32, b: u32) -> u64
+    requires { ⌜ a < 131072 ⌝ }
+    ensures { λ r. ⌜ (r ≡ a * b) × (r < 562949953421312) ⌝ }
+{
+    a as u64 * b as u64
+}
+
+// Register i of column `col`.
+fn register(work: &[u32], col: usize, i: usize) -> u32
+    requires { ⌜ ((col + 1) * places ≤ length (now work)) × (i < ownAt 0) ⌝ }
+    ensures { λ r. ⌜ r ≡ column (now (work .entry)) col i ⌝ }
+{
+    work[col * PLACES + i]
+}
+
+// n registers from a place on, each times its weight by the rule. The sum is reduced once.
+fn weighted_sum(work: &[u32], col: usize, place: usize, n: usize, rule: Rule, b: u32, d: u32) -> u32
+    requires { ⌜ ((col + 1) * places ≤ length (now work)) × (place + n ≤ ownAt 0) × (n ≤ 64) × (1 ≤ b) × (b ≤ 45) × (d ≤ 65536) ⌝ }
+    ensures { λ r. ⌜ ((κ : ℕ) → r ≡ value q κ (column (now (work .entry)) col) (sum n place (weigh rule b d))) ⌝ }
+{
+    let mut total: u64 = 0;
+    let mut j = 0;
+    while j < n {
+        total = total
+            + times(
+                weigh_entry(rule, b, d, j as u32),
+                register(work, col, place + j),
+            );
+        j += 1;
+    }
+    (total % Q64) as u32
+}
+
+// ---- Digits. (k is the first (0) or second (1) gate and running register of a coefficient.)
+
+// hi (k = 0) or lo.
+fn threshold_of(bound: u32, k: usize, y: u32) -> u32
+    requires { ⌜ (bound ≤ 4190208) × (1 ≤ bound) ⌝ }
+    ensures { λ r. ⌜ r ≡ threshold q bound k y ⌝ }
+{
+    if k == 0 {
+        return sub_mod(2 * bound - 1, y);
+    }
+    sub_mod(0, y)
+}
+
+// The number whose digits gate k looks at.
+fn looked_at(kind: u32, bound: u32, k: usize, y: u32) -> u32
+    requires { ⌜ (bound ≤ 4190208) × (kind ≢ 0 → 1 ≤ bound) ⌝ }
+    ensures { λ r. ⌜ r ≡ lookedAt q kind bound k y ⌝ }
+{
+    if kind == 0 {
+        return y;
+    }
+    threshold_of(bound, k, y)
+}
+
+// Digit i of a number that is split.
+fn entry(split: Split, i: usize) -> u32
+    requires { ⌜ i < 5 ⌝ }
+    ensures { λ r. ⌜ r ≡ getD (split .digits) i 0 ⌝ }
+{
+    split.digits[i]
+}
+
+// Digit i of the number that gate k looks at, y being the coefficient's masked number.
+fn digit_of(settings: Settings, y: u32, i: usize, k: usize) -> u32
+    requires { ⌜ Ready settings ⌝ }
+    requires { ⌜ i < 5 ⌝ }
+    ensures { λ r. ⌜ (r ≡ digit (scaleOf (settings .set)) (lookedAt q (settings .kind) (settings .bound) k y) i) × (r < 65536) ⌝ }
+{
+    let x = looked_at(settings.kind, settings.bound, k, y);
+    let split = split_number(settings.set, x);
+    entry(split, i)
+}
+
+fn rule_of(kind: u32, i: usize, k: usize) -> Rule
+    ensures { λ r. ⌜ r ≡ ruleOf kind i k ⌝ }
+{
+    if kind == 0 {
+        if i < 4 {
+            if k == 0 {
+                return Rule::Carry;
+            }
+            return Rule::Zero;
+        }
+        if k == 0 {
+            return Rule::Top;
+        }
+        return Rule::Over;
+    }
+    Rule::Below
+}
+
+fn limit_of(set: usize, i: usize) -> u32
+    requires { ⌜ set < 2 ⌝ }
+    ensures { λ r. ⌜ (r ≡ limitOf (scaleOf set) i) × (1 ≤ r) × (r ≤ 45) ⌝ }
+{
+    if i < 4 {
+        return base_of(set, i);
+    }
+    parts_of(set)
+}
+
+// ---- Gates: addend + u × v, of digit i of coefficient c. No public number is added: the weight does not matter.
+
+// A, Z, F, G, or the sum below Ti; with up = 1 the same with the digit + 1.
+fn vector_sum(
+    work: &[u32],
+    col: usize,
+    settings: Settings,
+    ys: [u32; 8],
+    c: usize,
+    i: usize,
+    k: usize,
+    up: u32,
+) -> u32
+    requires { ⌜ Ready settings ⌝ }
+    requires { ⌜ ((col + 1) * places ≤ length (now work)) × (c < settings .n) × (i < 5) × (up ≤ 1) ⌝ }
+    ensures { λ r. ⌜ ((κ : ℕ) → r ≡ value q κ (column (now (work .entry)) col) (vectorSum (publicBy settings ys) c i k up)) ⌝ }
+{
+    let d = digit_of(settings, ys[c], i, k) + up;
+    let place = vector_at(settings.set, settings.kind, c, i);
+    let b = base_of(settings.set, i) as usize;
+    let limit = limit_of(settings.set, i);
+    let rule = rule_of(settings.kind, i, k);
+    weighted_sum(work, col, place, b, rule, limit, d)
+}
+
+fn addend_value(
+    work: &[u32],
+    col: usize,
+    settings: Settings,
+    ys: [u32; 8],
+    c: usize,
+    i: usize,
+    k: usize,
+) -> u32
+    requires { ⌜ Ready settings ⌝ }
+    requires { ⌜ ((col + 1) * places ≤ length (now work)) × (c < settings .n) × (i < 5) × (k < 2) ⌝ }
+    ensures { λ r. ⌜ ((κ : ℕ) → r ≡ value q κ (column (now (work .entry)) col) (addend (publicBy settings ys) c i k)) ⌝ }
+{
+    let a = vector_sum(work, col, settings, ys, c, i, k, 0);
+    if settings.kind == 0 {
+        if k == 1 {
+            return add_mod(register(work, col, SECOND + c), a);
+        }
+        return a;
+    }
+    a
+}
+
+fn u_value(
+    work: &[u32],
+    col: usize,
+    settings: Settings,
+    ys: [u32; 8],
+    c: usize,
+    i: usize,
+    k: usize,
+) -> u32
+    requires { ⌜ Ready settings ⌝ }
+    requires { ⌜ ((col + 1) * places ≤ length (now work)) × (c < settings .n) × (i < 5) × (k < 2) ⌝ }
+    ensures { λ r. ⌜ ((κ : ℕ) → r ≡ value q κ (column (now (work .entry)) col) (factorU (publicBy settings ys) c i k)) ⌝ }
+{
+    if settings.kind == 0 {
+        return register(work, col, FIRST + c);
+    }
+    let t = digit_of(settings, ys[c], i, k) as usize;
+    let place = vector_at(settings.set, settings.kind, c, i);
+    register(work, col, place + t)
+}
+
+fn v_value(
+    work: &[u32],
+    col: usize,
+    settings: Settings,
+    ys: [u32; 8],
+    c: usize,
+    i: usize,
+    k: usize,
+) -> u32
+    requires { ⌜ Ready settings ⌝ }
+    requires { ⌜ ((col + 1) * places ≤ length (now work)) × (c < settings .n) × (i < 5) × (k < 2) ⌝ }
+    ensures { λ r. ⌜ ((κ : ℕ) → r ≡ value q κ (column (now (work .entry)) col) (factorV (publicBy settings ys) c i k)) ⌝ }
+{
+    if settings.kind == 0 {
+        let b = vector_sum(work, col, settings, ys, c, i, k, 1);
+        let a = vector_sum(work, col, settings, ys, c, i, k, 0);
+        return sub_mod(b, a);
+    }
+    register(work, col, FIRST + 8 * k + c)
+}
+
+// ---- What is opened. `weight` is what a public 1 adds to the column.
+
+fn shift_of(set: usize, kind: u32, bound: u32) -> u32
+    requires { ⌜ (set < 2) × (kind ≢ 0 → 1 ≤ bound) ⌝ }
+    ensures { λ r. ⌜ r ≡ shiftOf (scaleOf set .alpha) kind bound ⌝ }
+{
+    if kind == 0 {
+        return alpha_of(set) / 2 - 1;
+    }
+    bound - 1
+}
+
+// Round 1: y. What was masked before does not matter.
+fn open_input(work: &[u32], col: usize, settings: Settings, c: usize, weight: u32) -> u32
+    requires { ⌜ Ready settings ⌝ }
+    requires { ⌜ ((col + 1) * places ≤ length (now work)) × (c < settings .n) ⌝ }
+    ensures { λ r. ⌜ ((ys : List ℕ) → r ≡ value q weight (column (now (work .entry)) col) (openInput (publicBy settings ys) c)) ⌝ }
+{
+    let shift = shift_of(settings.set, settings.kind, settings.bound);
+    let place = mask_at(settings.set, settings.kind, c);
+    let a = add_mod(register(work, col, INPUT + c), mul_mod(weight, shift));
+    sub_mod(a, register(work, col, place))
+}
+
+// The triple of gate k of digit i.
+fn triple_of(settings: Settings, c: usize, i: usize, k: usize) -> usize
+    requires { ⌜ Ready settings ⌝ }
+    requires { ⌜ (c < settings .n) × (1 ≤ i) × (i < 5) × (k < 2) ⌝ }
+    ensures { λ r. ⌜ ((ys : List ℕ) → r ≡ tripleOf (publicBy settings ys) c i k) × (r ≤ 1320) ⌝ }
+{
+    triple_at(settings.set, settings.kind, c, 2 * (i - 1) + k)
+}
+
+// Rounds 2 to 5: u − a (part 0), v − b (part 1).
+fn open_factor(
+    work: &[u32],
+    col: usize,
+    settings: Settings,
+    ys: [u32; 8],
+    c: usize,
+    i: usize,
+    k: usize,
+    part: usize,
+) -> u32
+    requires { ⌜ Ready settings ⌝ }
+    requires { ⌜ ((col + 1) * places ≤ length (now work)) × (c < settings .n) × (1 ≤ i) × (i < 5) × (k < 2) × (part < 2) ⌝ }
+    ensures { λ r. ⌜ ((κ : ℕ) → r ≡ value q κ (column (now (work .entry)) col) (openFactor (publicBy settings ys) c i k part)) ⌝ }
+{
+    let place = triple_of(settings, c, i, k);
+    if part == 0 {
+        let u = u_value(work, col, settings, ys, c, i, k);
+        return sub_mod(u, register(work, col, place + part));
+    }
+    let v = v_value(work, col, settings, ys, c, i, k);
+    sub_mod(v, register(work, col, place + part))
+}
+
+// BOUND: is the coefficient with the masked number y inside?
+fn inside_value(work: &[u32], col: usize, bound: u32, y: u32, c: usize, weight: u32) -> u32
+    requires { ⌜ (bound ≤ 4190208) × (1 ≤ bound) × ((col + 1) * places ≤ length (now work)) × (c < 8) ⌝ }
+    ensures { λ r. ⌜ r ≡ value q weight (column (now (work .entry)) col) (insideForm q bound y c) ⌝ }
+{
+    let hi = threshold_of(bound, 0, y);
+    let lo = threshold_of(bound, 1, y);
+    let d = sub_mod(
+        register(work, col, FIRST + c),
+        register(work, col, SECOND + c),
+    );
+    add_mod(d, mul_mod(weight, less(hi, lo)))
+}
+
+// BOUND: the sum of the insides of the first m coefficients.
+fn insides_value(
+    work: &[u32],
+    col: usize,
+    settings: Settings,
+    ys: [u32; 8],
+    m: usize,
+    weight: u32,
+) -> u32
+    requires { ⌜ Ready settings ⌝ }
+    requires { ⌜ ((col + 1) * places ≤ length (now work)) × (m ≤ settings .n) × (1 ≤ settings .bound) ⌝ }
+    ensures { λ r. ⌜ r ≡ value q weight (column (now (work .entry)) col) (insides (publicBy settings ys) m) ⌝ }
+{
+    let mut total = mul_mod(weight, 0);
+    let mut c = 0;
+    while c < m {
+        let one = inside_value(work, col, settings.bound, ys[c], c, weight);
+        total = add_mod(total, one);
+        c += 1;
+    }
+    total
+}
+
+// The K of a zero check.
+fn most_of(kind: u32, n: usize) -> u32
+    requires { ⌜ n ≤ 8 ⌝ }
+    ensures { λ r. ⌜ r ≡ groupK kind n ⌝ }
+{
+    if kind == 0 {
+        return 5;
+    }
+    n as u32
+}
+
+// The number that group g checks for zero.
+fn checked_value(
+    work: &[u32],
+    col: usize,
+    settings: Settings,
+    ys: [u32; 8],
+    g: usize,
+    weight: u32,
+) -> u32
+    requires { ⌜ Ready settings ⌝ }
+    requires { ⌜ ((col + 1) * places ≤ length (now work)) × (g < settings .n) ⌝ }
+    ensures { λ r. ⌜ r ≡ value q weight (column (now (work .entry)) col) (checked (publicBy settings ys) g) ⌝ }
+{
+    let most = mul_mod(weight, most_of(settings.kind, settings.n));
+    if settings.kind == 0 {
+        return sub_mod(most, register(work, col, SECOND + g));
+    }
+    let inside = insides_value(work, col, settings, ys, settings.n, weight);
+    sub_mod(most, inside)
+}
+
+// Round 6: ρ + g × n.
+fn open_check(
+    work: &[u32],
+    col: usize,
+    settings: Settings,
+    ys: [u32; 8],
+    g: usize,
+    weight: u32,
+) -> u32
+    requires { ⌜ Ready settings ⌝ }
+    requires { ⌜ ((col + 1) * places ≤ length (now work)) × (g < settings .n) ⌝ }
+    ensures { λ r. ⌜ r ≡ value q weight (column (now (work .entry)) col) (openCheck (publicBy settings ys) g) ⌝ }
+{
+    let n = checked_value(work, col, settings, ys, g, weight);
+    let place = group_at(settings.set, settings.kind, settings.n, g);
+    let gap = group_gap(settings.kind, settings.n);
+    add_mod(register(work, col, place), mul_mod(gap, n))
+}
+
+// Opening o of a round.
+fn opening_value(
+    work: &[u32],
+    col: usize,
+    settings: Settings,
+    ys: [u32; 8],
+    round: u32,
+    o: usize,
+    weight: u32,
+) -> u32
+    requires { ⌜ Ready settings ⌝ }
+    requires { ⌜ ((col + 1) * places ≤ length (now work)) × (1 ≤ round) × (o < openings (settings .kind) (settings .n) round) ⌝ }
+    ensures { λ r. ⌜ r ≡ openingOn (publicBy settings ys) round weight (column (now (work .entry)) col) o ⌝ }
+{
+    if round == 1 {
+        return open_input(work, col, settings, o, weight);
+    }
+    if round <= 5 {
+        let i = (round - 1) as usize;
+        return open_factor(work, col, settings, ys, o / 4, i, o / 2 % 2, o % 2);
+    }
+    if round == 6 {
+        return open_check(work, col, settings, ys, o, weight);
+    }
+    register(work, col, FIRST + o)
+}
+
+// ---- What the opened numbers make of the running registers
+
+// addend + e × v + f × u + third − e × f.
+fn combine(addend: u32, v: u32, u: u32, third: u32, e: u32, f: u32, weight: u32) -> u32
+    ensures { λ r. ⌜ r ≡ sub q (add q (add q (add q addend (mul q e v)) (mul q f u)) third) (mul q weight (mul q e f)) ⌝ }
+{
+    let with_v = add_mod(addend, mul_mod(e, v));
+    let with_u = add_mod(with_v, mul_mod(f, u));
+    let with_third = add_mod(with_u, third);
+    sub_mod(with_third, mul_mod(weight, mul_mod(e, f)))
+}
+
+fn gate_value(
+    work: &[u32],
+    col: usize,
+    settings: Settings,
+    ys: [u32; 8],
+    c: usize,
+    i: usize,
+    k: usize,
+    e: u32,
+    f: u32,
+    weight: u32,
+) -> u32
+    requires { ⌜ Ready settings ⌝ }
+    requires { ⌜ ((col + 1) * places ≤ length (now work)) × (c < settings .n) × (1 ≤ i) × (i < 5) × (k < 2) ⌝ }
+    ensures { λ r. ⌜ r ≡ value q weight (column (now (work .entry)) col) (gateResult (publicBy settings ys) c i k e f) ⌝ }
+{
+    let place = triple_of(settings, c, i, k);
+    let a = addend_value(work, col, settings, ys, c, i, k);
+    let v = v_value(work, col, settings, ys, c, i, k);
+    let u = u_value(work, col, settings, ys, c, i, k);
+    let third = register(work, col, place + 2);
+    combine(a, v, u, third, e, f, weight)
+}
+
+// An opened number divided by the gap.
+fn index_of(kind: u32, n: usize, x: u32) -> usize
+    requires { ⌜ (n ≤ 8) × (x < q) ⌝ }
+    ensures { λ r. ⌜ (r ≡ x / gap q (groupK kind n)) × (r ≤ 9) ⌝ }
+{
+    (x / group_gap(kind, n)) as usize
+}
+
+// The entry of group g's vector for the opened number x: the zero check's result.
+fn check_entry(work: &[u32], col: usize, settings: Settings, g: usize, x: u32) -> u32
+    requires { ⌜ Ready settings ⌝ }
+    requires { ⌜ ((col + 1) * places ≤ length (now work)) × (g < 8) × (x < q) ⌝ }
+    ensures { λ r. ⌜ ((κ : ℕ) (ys : List ℕ) → r ≡ value q κ (column (now (work .entry)) col) (checkEntry (publicBy settings ys) g x)) ⌝ }
+{
+    let place = group_at(settings.set, settings.kind, settings.n, g);
+    let index = index_of(settings.kind, settings.n, x);
+    register(work, col, place + 1 + index)
+}
+
+// Whose zero check it is: its own for HIGH, the one of all for BOUND.
+fn group_of(kind: u32, c: usize) -> usize
+    ensures { λ r. ⌜ r ≡ groupOf kind c ⌝ }
+{
+    if kind == 0 {
+        return c;
+    }
+    0
+}
+
+// Round 6: HIGH's F − C; BOUND's result, for coefficient 0.
+fn after_check(work: &[u32], col: usize, settings: Settings, c: usize, k: usize, x: u32) -> u32
+    requires { ⌜ Ready settings ⌝ }
+    requires { ⌜ ((col + 1) * places ≤ length (now work)) × (c < settings .n) × (k < 2) × (x < q) ⌝ }
+    ensures { λ r. ⌜ ((κ : ℕ) (ys : List ℕ) → r ≡ value q κ (column (now (work .entry)) col) (afterCheck (publicBy settings ys) c k x)) ⌝ }
+{
+    if k == 0 {
+        if settings.kind == 0 {
+            let wrap = check_entry(work, col, settings, c, x);
+            return sub_mod(register(work, col, FIRST + c), wrap);
+        }
+        if c == 0 {
+            return check_entry(work, col, settings, 0, x);
+        }
+        return register(work, col, FIRST + c);
+    }
+    register(work, col, FIRST + 8 * k + c)
+}
+
+// Running register k of coefficient c after a round.
+fn running_value(
+    work: &[u32],
+    col: usize,
+    settings: Settings,
+    ys: [u32; 8],
+    round: u32,
+    opened: &[u32],
+    k: usize,
+    c: usize,
+    weight: u32,
+) -> u32
+    requires { ⌜ Ready settings ⌝ }
+    requires { ⌜ ((col + 1) * places ≤ length (now work)) × (1 ≤ round) × (k < 2) × (c < settings .n) ⌝ }
+    requires { ⌜ (openings (settings .kind) (settings .n) round ≤ length (now opened)) × ((o : ℕ) → getD (now opened) o 0 < q) ⌝ }
+    ensures { λ r. ⌜ r ≡ runningOn (publicBy settings ys) round (λ (o : ℕ). getD (now (opened .entry)) o 0) weight (column (now (work .entry)) col) k c ⌝ }
+{
+    if round == 1 {
+        return vector_sum(work, col, settings, ys, c, 0, k, 0);
+    }
+    if round <= 5 {
+        let i = (round - 1) as usize;
+        let e = opened[4 * c + 2 * k];
+        let f = opened[4 * c + 2 * k + 1];
+        return gate_value(work, col, settings, ys, c, i, k, e, f, weight);
+    }
+    if round == 6 {
+        let x = opened[group_of(settings.kind, c)];
+        return after_check(work, col, settings, c, k, x);
+    }
+    register(work, col, FIRST + 8 * k + c)
+}
+
+// ---- A round on the working slice
+
+fn openings_of(settings: Settings, round: u32) -> usize
+    requires { ⌜ Ready settings ⌝ }
+    ensures { λ r. ⌜ (r ≡ openings (settings .kind) (settings .n) round) × (r ≤ 32) ⌝ }
+{
+    openings_in(settings.kind, settings.n as u32, round) as usize
+}
+
+// This side's numbers in one column for a round's openings, in front of `out`; ys are the masked numbers.
+pub fn prepare(
+    out: &mut [u32],
+    work: &[u32],
+    col: usize,
+    settings: Settings,
+    ys: [u32; 8],
+    round: u32,
+    weight: u32,
+)
+    requires { ⌜ Ready settings ⌝ }
+    requires { ⌜ (1 ≤ round) × (round ≤ 7) × ((col + 1) * places ≤ length (now work)) × (openings (settings .kind) (settings .n) round ≤ length (now out)) ⌝ }
+    ensures { λ _. ⌜ now (out .exit) ≡ fill (now (out .entry)) 0 (openings (settings .kind) (settings .n) round) (openingOn (publicBy settings ys) round weight (column (now (work .entry)) col)) ⌝ }
+{
+    let count = openings_of(settings, round);
+    let mut o = 0;
+    while o < count {
+        let x = opening_value(work, col, settings, ys, round, o, weight);
+        out[o] = x;
+        o += 1;
+    }
+}
+
+// Running registers k of all coefficients after a round, in front of `out`.
+fn running_into(
+    out: &mut [u32],
+    work: &[u32],
+    col: usize,
+    settings: Settings,
+    ys: [u32; 8],
+    round: u32,
+    opened: &[u32],
+    k: usize,
+    weight: u32,
+)
+    requires { ⌜ Ready settings ⌝ }
+    requires { ⌜ ((col + 1) * places ≤ length (now work)) × (1 ≤ round) × (k < 2) × (settings .n ≤ length (now out)) ⌝ }
+    requires { ⌜ (openings (settings .kind) (settings .n) round ≤ length (now opened)) × ((o : ℕ) → getD (now opened) o 0 < q) ⌝ }
+    ensures { λ _. ⌜ now (out .exit) ≡ fill (now (out .entry)) 0 (settings .n) (runningOn (publicBy settings ys) round (λ (o : ℕ). getD (now (opened .entry)) o 0) weight (column (now (work .entry)) col) k) ⌝ }
+{
+    let n = settings.n;
+    let mut c = 0;
+    while c < n {
+        let x = running_value(work, col, settings, ys, round, opened, k, c, weight);
+        out[c] = x;
+        c += 1;
+    }
+}
+
+// n numbers of `from` from place `first` on, to the places of `to` from `at` on.
+fn copy(to: &mut [u32], at: usize, from: &[u32], first: usize, n: usize)
+    requires { ⌜ (at + n ≤ length (now to)) × (first + n ≤ length (now from)) ⌝ }
+    ensures { λ _. ⌜ now (to .exit) ≡ fill (now (to .entry)) at n (λ (j : ℕ). getD (now (from .entry)) (first + j) 0) ⌝ }
+{
+    let mut j = 0;
+    while j < n {
+        to[at + j] = from[first + j];
+        j += 1;
+    }
+}
+
+// The masked numbers that the slice holds.
+pub fn masked_in(work: &[u32]) -> [u32; 8]
+    requires { ⌜ places ≤ length (now work) ⌝ }
+    ensures { λ r. ⌜ ((c : ℕ) → getD r c 0 ≡ maskedIn (now (work .entry)) c) ⌝ }
+{
+    let mut ys = [0u32; 8];
+    copy(&mut ys, 0, work, MASKED, 8);
+    ys
+}
+
+// The first n of the opened numbers, and 0 behind them.
+fn masked_opened(opened: &[u32], n: usize) -> [u32; 8]
+    requires { ⌜ (n ≤ 8) × (n ≤ length (now opened)) ⌝ }
+    ensures { λ r. ⌜ ((c : ℕ) → c < n → getD r c 0 ≡ getD (now (opened .entry)) c 0) ⌝ }
+{
+    let mut ys = [0u32; 8];
+    copy(&mut ys, 0, opened, 0, n);
+    ys
+}
+
+// Writes one column: the own numbers for `count` openings, then the first and second registers of n coefficients.
+fn put_column(
+    work: &mut [u32],
+    col: usize,
+    own: &[u32],
+    count: usize,
+    first: &[u32],
+    second: &[u32],
+    n: usize,
+)
+    requires { ⌜ ((col + 1) * places ≤ length (now work)) × (32 * (col + 1) ≤ length (now own)) × (count ≤ 32) × (n ≤ 8) × (n ≤ length (now first)) × (n ≤ length (now second)) ⌝ }
+    ensures { λ _. ⌜ now (work .exit) ≡ fill (fill (fill (now (work .entry)) (col * places + ownAt 0) count (λ (o : ℕ). getD (now (own .entry)) (32 * col + o) 0))
+        (col * places + runningAt 0 0) n (λ (c : ℕ). getD (now (first .entry)) c 0))
+        (col * places + runningAt 1 0) n (λ (c : ℕ). getD (now (second .entry)) c 0) ⌝ }
+{
+    let start = col * PLACES;
+    copy(work, start + OWN, own, OWN_ROOM * col, count);
+    copy(work, start + FIRST, first, 0, n);
+    copy(work, start + SECOND, second, 0, n);
+}
+
+// One column after a round. `own` holds its own numbers for the openings. The running registers are worked out before
+// any is written: all read the column as it was.
+fn take_column(
+    work: &mut [u32],
+    col: usize,
+    settings: Settings,
+    ys: [u32; 8],
+    round: u32,
+    opened: &[u32],
+    own: &[u32],
+    weight: u32,
+)
+    requires { ⌜ Ready settings ⌝ }
+    requires { ⌜ ((col + 1) * places ≤ length (now work)) × (1 ≤ round) × (32 * (col + 1) ≤ length (now own)) ⌝ }
+    requires { ⌜ (openings (settings .kind) (settings .n) round ≤ length (now opened)) × ((o : ℕ) → getD (now opened) o 0 < q) ⌝ }
+    requires { ⌜ Held (publicBy settings ys) round weight (column (now work) col) (now own) col ⌝ }
+    ensures { λ _. ⌜ now (work .exit) ≡ takenColumn (publicBy settings ys) round (λ (o : ℕ). getD (now (opened .entry)) o 0) col weight (now (work .entry)) ⌝ }
+{
+    let mut first = [0u32; 8];
+    let mut second = [0u32; 8];
+    running_into(
+        &mut first,
+        work,
+        col,
+        settings,
+        ys,
+        round,
+        opened,
+        0,
+        weight,
+    );
+    running_into(
+        &mut second,
+        work,
+        col,
+        settings,
+        ys,
+        round,
+        opened,
+        1,
+        weight,
+    );
+    let count = openings_of(settings, round);
+    put_column(work, col, own, count, &first, &second, settings.n);
+}
+
+// All columns after a round, by their weights.
+fn take_columns(
+    work: &mut [u32],
+    settings: Settings,
+    ys: [u32; 8],
+    round: u32,
+    opened: &[u32],
+    own: &[u32],
+    weights: &[u32],
+)
+    requires { ⌜ Ready settings ⌝ }
+    requires { ⌜ (1 ≤ round) × (length (now work) ≡ length (now weights) * places) × (32 * length (now weights) ≤ length (now own)) ⌝ }
+    requires { ⌜ (openings (settings .kind) (settings .n) round ≤ length (now opened)) × ((o : ℕ) → getD (now opened) o 0 < q) ⌝ }
+    requires { ⌜ HeldAll (publicBy settings ys) round (now weights) (now work) (now own) ⌝ }
+    ensures { λ _. ⌜ now (work .exit) ≡ takenColumns (publicBy settings ys) round (λ (o : ℕ). getD (now (opened .entry)) o 0) (now (weights .entry)) (now (work .entry)) (length (now (weights .entry))) ⌝ }
+{
+    let mut col = 0;
+    while col < weights.len() {
+        take_column(work, col, settings, ys, round, opened, own, weights[col]);
+        col += 1;
+    }
+}
+
+// The working slice after a round: `opened` are the joined numbers, `own` holds this side's own for each column. The round
+// 1 to 7, the lengths and the opened numbers are as `take` of crate side has asked, and it has prepared `own`.
+pub fn take_work(
+    work: &mut [u32],
+    settings: Settings,
+    round: u32,
+    opened: &[u32],
+    own: &[u32],
+    weights: &[u32],
+)
+    requires { ⌜ Ready settings ⌝ }
+    requires { ⌜ (1 ≤ round) × (round ≤ 7) × (length (now work) ≡ length (now weights) * places) × (1 ≤ length (now weights)) × (32 * length (now weights) ≤ length (now own)) ⌝ }
+    requires { ⌜ (openings (settings .kind) (settings .n) round ≤ length (now opened)) × ((o : ℕ) → getD (now opened) o 0 < q) ⌝ }
+    requires { ⌜ HeldAll (publicOf (scaleOf (settings .set)) (settings .kind) (settings .n) (settings .bound) (maskedIn (now work))) round (now weights) (now work) (now own) ⌝ }
+    ensures { λ _. ⌜ now (work .exit) ≡ takenWork (scaleOf (settings .set)) (settings .kind) (settings .n) (settings .bound) round (λ (o : ℕ). getD (now (opened .entry)) o 0) (now (weights .entry)) (now (work .entry)) ⌝ }
+{
+    if round == 1 {
+        let ys = masked_opened(opened, settings.n);
+        take_columns(work, settings, ys, round, opened, own, weights);
+        copy(work, MASKED, opened, 0, settings.n);
+    } else {
+        let ys = masked_in(work);
+        take_columns(work, settings, ys, round, opened, own, weights);
+    }
+}
