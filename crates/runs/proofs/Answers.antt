@@ -1,0 +1,144 @@
+-- Demand 2, the first part: a run carried through in order ends at both sides with the answer by the plain meaning, which is
+-- FIPS 204's, and with all openings counted.
+use Prim.Native.Nat.{ℕ, _+_, _*_, _%_, _≤_, _<_}
+use mathlib.Core.Path.{_≡_, refl, ap₂, _∙_}
+use mathlib.Core.List.{List, [], _∷_, _++_, map}
+use mathlib.Core.Bool.{Bool, true, false, cond, _&&_}
+use native.Mathlib.Omega.{arith}
+use lib.Dec.{eqb, leb, ltb}
+use lib.IntN.{pos}
+use lib.ListN.{length, getD, drop, replicate, List·getD-append}
+use borrow.Author.Tests.{ltb-true, leb-true, eqb-true, lt-ltb}
+use Rattle.lists.specs.Lists.{every, allBelow, allTo, listTo}
+use Rattle.lists.proofs.Questions.{both-yes}
+use Rattle.lists.proofs.Every.{below-at, allTo-at}
+use Rattle.lists.proofs.Lists.{length-listFrom, listTo-cong, listTo-getD}
+use Rattle.field.specs.Field.{q}
+use Rattle.field.specs.Sums.{sumTo}
+use Rattle.rounding.specs.Sets.{scaleOf}
+use Rattle.rounding.specs.Plain.{highPart, decompose}
+use Rattle.rounding.specs.Rounds.{gap}
+use Rattle.rounding.proofs.Sets.{lawful}
+use Rattle.rounding.proofs.Decompose.{high-is}
+use Rattle.message.specs.Lengths.{openings, openingsUpTo}
+use Rattle.book.specs.Book.{widthOf}
+use Rattle.book.specs.Theorems.{Sizes}
+use Rattle.column.specs.Run.{openedFrom, plainOpened}
+use Rattle.column.specs.Theorems.{Sound, T2}
+use Rattle.side.specs.Side.{answerPlaces, begunSide, heldAnswer, finished, countCall}
+use Rattle.runs.specs.Records.{Settings, settingsOk, answerOf, Hand}
+use Rattle.runs.specs.Demands.{Secret, Possible, Ended, Demand2, FipsHigh, ownHand, otherHand}
+use Rattle.runs.specs.Progress.{sideAt, seatAt, worldAt}
+use Rattle.runs.specs.Theorems.{T3}
+use Rattle.runs.proofs.Seats.{Which, Terms}
+use Rattle.runs.proofs.Seats.Which.{server, phone}
+use Rattle.runs.proofs.Whole.{allowed, terms}
+use Rattle.runs.proofs.Steady.{finished-at, count-at}
+use Rattle.runs.proofs.Carried.{carried}
+
+-- ---- Openings in all
+
+pub openings-high : (n : ℕ) → openingsUpTo 0 n 7 ≡ 19 * n
+unfolding openingsUpTo sumTo openings
+openings-high n = omega arith
+
+pub openings-bound : (n : ℕ) → openingsUpTo 1 n 7 ≡ 17 * n + 2
+unfolding openingsUpTo sumTo openings
+openings-bound n = omega arith
+
+-- ---- FIPS 204
+
+high-parts : (set : ℕ) → set < 2 → (xs : List ℕ) → allBelow q xs ≡ true
+    → map pos (map (highPart (scaleOf set)) xs) ≡ map (λ (w : ℕ). decompose (scaleOf set) w .high) xs
+unfolding allBelow every
+high-parts set l [] e = refl
+high-parts set l (x ∷ xs) e =
+    let b = both-yes (ltb x q) (allBelow q xs) e in
+    ap₂ _∷_ (high-is (scaleOf set) (lawful set l) x (ltb-true x q (b .0))) (high-parts set l xs (b .1))
+
+pub fips-high : FipsHigh
+unfolding answerOf
+fips-high s secret e kind x =
+    rw kind (high-parts (s .set) (ltb-true (s .set) 2 (allowed s e .set-bit)) secret (x .below))
+
+-- ---- What T2 asks
+
+bound-some : (b : Bool) (bound : ℕ) → cond b (eqb bound 0) (leb 1 bound && leb bound 4190208) ≡ true
+    → (cond b (eqb bound 0) (ltb 0 bound) ≡ true) × (2 * bound < q)
+bound-some true bound e = (e, omega (arith, eqb-true bound 0 e))
+bound-some false bound e =
+    let y = both-yes (leb 1 bound) (leb bound 4190208) e in
+    (lt-ltb 0 bound (omega (arith, leb-true 1 bound (y .0))), omega (arith, leb-true bound 4190208 (y .1)))
+
+-- the zero check's gap, by one test over all counts
+gaps-fit : (n : ℕ) → n < 9 → q % (n + 1) ≤ gap q n
+unfolding allTo
+gaps-fit n l = leb-true (q % (n + 1)) (gap q n) (allTo-at 9 (λ (i : ℕ). leb (q % (i + 1)) (gap q i)) n refl l)
+
+pub sound : (k : ℕ) (s : Settings) (secret draw : List ℕ) → Sizes → settingsOk s ≡ true → Secret s secret → Possible k s draw
+    → Sound (scaleOf (s .set)) (s .kind) (s .n) (s .bound) k draw secret
+sound k s secret draw z e x d =
+    let a = allowed s e in
+    let b = bound-some (eqb (s .kind) 0) (s .bound) (a .bound) in
+    let set-is : s .set < 2 = ltb-true (s .set) 2 (a .set-bit) in
+    let n-most : s .n ≤ 8 = leb-true (s .n) 8 (both-yes (leb 1 (s .n)) (leb (s .n) 8) (a .count) .1) in
+    record {
+      lawful = lawful (s .set) set-is;
+      kinds = ltb-true (s .kind) 2 (a .kind-bit);
+      counts = a .count;
+      bounds = b .0;
+      halves = b .1;
+      room = z .at-most (s .set) (s .kind) (s .n) set-is n-most;
+      gaps = gaps-fit (s .n) (omega arith);
+      secret-size = x .size-is;
+      secret-below = λ j. below-at q secret j (omega arith) (x .below);
+      draw-size = d .size-is;
+      draw-below = λ j. below-at q draw j (omega arith) (d .below);
+    }
+
+-- ---- The end of a run
+
+-- a list read back from the front of a longer one
+front-list : (n : ℕ) (xs ys : List ℕ) → length xs ≡ n → listTo n (λ (j : ℕ). getD (xs ++ ys) j 0) ≡ xs
+front-list n xs ys e =
+    rw (← e)
+    (listTo-cong (length xs) (λ (j : ℕ). getD (xs ++ ys) j 0) (λ (j : ℕ). getD xs j 0) (λ j l. List·getD-append xs ys 0 j l) ∙ listTo-getD xs)
+
+module _ (k : ℕ) (s : Settings) (serial : ℕ) (numbers : ℕ → List ℕ) where
+  held-at : (h : Hand) → Which h → length (numbers 6) ≡ answerPlaces (s .kind) (s .n) → heldAnswer (sideAt k s serial numbers h 14) ≡ numbers 6
+  unfolding sideAt begunSide
+  held-at _ server e = front-list _ (numbers 6) (drop (length (numbers 6)) (replicate 8 0)) e
+  held-at _ phone e = front-list _ (numbers 6) (drop (length (numbers 6)) (replicate 8 0)) e
+
+  ended-at : (h : Hand) → Which h → Terms s serial h → (secret : List ℕ) → numbers 6 ≡ answerOf s secret → length (numbers 6) ≡ answerPlaces (s .kind) (s .n)
+      → Ended s secret (seatAt k s serial numbers h 14)
+  unfolding seatAt
+  ended-at h u t secret e l =
+      record { done = done-at h u t; answer = held-at h u l ∙ e; openings = opened-at h u t }
+    where
+      done-at : (h : Hand) → Which h → Terms s serial h → finished (sideAt k s serial numbers h 14) ≡ true
+      done-at h server t = finished-at k s serial numbers h (omega arith) t 14 (omega arith)
+      done-at h phone t = finished-at k s serial numbers h (omega arith) t 14 (omega arith)
+
+      opened-at : (h : Hand) → Which h → Terms s serial h → countCall (sideAt k s serial numbers h 14) ≡ openingsUpTo (s .kind) (s .n) 7
+      opened-at h server t = count-at k s serial numbers h (omega arith) t 14 (omega arith)
+      opened-at h phone t = count-at k s serial numbers h (omega arith) t 14 (omega arith)
+
+-- round 7 opens as many numbers as an answer has places
+opened-size : (s : Settings) (width : ℕ) (draw secret : List ℕ)
+    → length (plainOpened (scaleOf (s .set)) (s .kind) (s .n) (s .bound) width draw secret 6) ≡ answerPlaces (s .kind) (s .n)
+unfolding plainOpened openedFrom openings
+opened-size s width draw secret = length-listFrom 0 _ _
+
+pub demand2 : (k : ℕ) → T3 k → T2 → Sizes → Demand2 k
+unfolding worldAt answerOf
+demand2 k progress t2 z s serial keys0 keys1 f secret inputs draw x y d w i calls e =
+    let numbers : ℕ → List ℕ = plainOpened (scaleOf (s .set)) (s .kind) (s .n) (s .bound) (widthOf k) draw secret in
+    let h : Hand = ownHand k s 0 keys0 keys1 inputs draw in
+    let o : Hand = otherHand k s 0 keys0 keys1 inputs secret draw in
+    let a : numbers 6 ≡ answerOf s secret = t2 .answer (scaleOf (s .set)) (s .kind) (s .n) (s .bound) k draw secret (sound k s secret draw z (f .settings) x d) in
+    let l = opened-size s (widthOf k) draw secret in
+    rw (progress s serial keys0 keys1 f 0 (omega arith) secret inputs draw x y d w i calls, carried k s calls e) (
+      ended-at k s serial numbers h server (terms k s serial keys0 keys1 f 0 (omega arith) draw inputs) secret a l,
+      ended-at k s serial numbers o phone (terms k s serial keys0 keys1 f 1 (omega arith) draw _) secret a l,
+    )

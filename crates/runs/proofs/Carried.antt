@@ -1,0 +1,217 @@
+-- A run carried through in order leaves both counts at their end, whatever other calls stand between: calls only help.
+use Prim.Native.Nat.{ℕ, zero, suc, _+_, _*_, _-_, _/_, _%_, _≤_, _<_}
+use mathlib.Core.Path.{_≡_, refl, sym, ap, _∙_}
+use mathlib.Core.List.{List, [], _∷_, _++_}
+use mathlib.Core.Bool.{Bool, true, false, not, _&&_, _||_, true≢false}
+use native.Mathlib.Omega.{arith}
+use native.Mathlib.Decide.{decLt}
+use lib.Dec.{eqb, leb, ltb}
+use lib.ListN.{length, replicate, length-replicate}
+use borrow.Author.Tests.{le-leb, lt-ltb, leb-true, ltb-true, eqb-true}
+use Rattle.lists.specs.Lists.{joinFrom}
+use Rattle.lists.proofs.Questions.{both-yes}
+use Rattle.message.specs.Lengths.{messageLength}
+use Rattle.runs.specs.Records.{Settings, Call, Who, Move}
+use Rattle.runs.specs.Records.Who.{mine, theirs}
+use Rattle.runs.specs.Records.Call.{begin, send, takeLatest, answer, count}
+use Rattle.runs.specs.Demands.{outFor, roundInOrder, phoneSecond, phoneFirst, phoneLate, whoNumber, callNumber, room, isCall, holds, carriedThrough}
+use Rattle.runs.specs.Progress.{Counts, none, takenBy, sentOf, onward, roomFor, next, stepCounts, countsAfter}
+use Rattle.runs.proofs.Seats.{Round, round-of}
+use Rattle.runs.proofs.Seats.Round.{r0, r1, r2, r3, r4, r5, r6}
+use Rattle.runs.proofs.Counts.{Moved, next-moved}
+use Rattle.runs.proofs.Counts.Moved.{stays, began, sent, took}
+use Rattle.runs.proofs.Both.{start-pace, pace-after}
+
+-- ---- More calls, more room and more messages never set a count back
+
+sent-more : (number c c′ : ℕ) → c ≤ c′ → sentOf number c ≤ sentOf number c′
+sent-more number zero c′ l = omega arith
+sent-more number (suc m) zero l = absurd (omega arith)
+sent-more number (suc m) (suc m′) l = omega arith
+
+-- a step that is due stays due
+onward-more : (a b r r′ : Bool) (c : ℕ) → (r ≡ true → r′ ≡ true) → onward (a && b && r) c ≤ onward (a && b && r′) c
+onward-more true true true r′ c f = rw (f refl) (omega arith)
+onward-more true true false true c f = omega arith
+onward-more true true false false c f = omega arith
+onward-more true false r r′ c f = omega arith
+onward-more false b r r′ c f = omega arith
+
+-- a call moves a count by one at most
+near : {number heard : ℕ} {call : Call} {c c′ : ℕ} → Moved number heard call c c′ → (c ≤ c′) × (c′ ≤ suc c)
+near stays = (omega arith, omega arith)
+near began = (omega arith, omega arith)
+near (sent e l) = (omega arith, omega arith)
+near (took e l i) = (omega arith, omega arith)
+
+module _ (k : ℕ) (s : Settings) (number : ℕ) where
+  next-near : (heard : ℕ) (call : Call) (c : ℕ) → (c ≤ next k s number heard call c) × (next k s number heard call c ≤ suc c)
+  next-near heard call c = near (next-moved k s number heard call c)
+
+  -- the same call, with as much room and as many messages at least
+  data Like : Call → Call → Type 0 where
+    begins : Like begin begin
+    sends : {out out′ : List ℕ} → length out ≤ length out′ → Like (send out) (send out′)
+    takes : Like takeLatest takeLatest
+    rests : {call call′ : Call} → ((heard c : ℕ) → next k s number heard call c ≡ c) → Like call call′
+
+  next-same : (heard heard′ : ℕ) (call call′ : Call) (c : ℕ) → heard ≤ heard′ → Like call call′
+      → next k s number heard call c ≤ next k s number heard′ call′ c
+  unfolding next
+  next-same heard heard′ _ _ zero l begins = omega arith
+  next-same heard heard′ _ _ (suc m) l begins = omega arith
+  next-same heard heard′ _ _ zero l (sends r) = omega arith
+  next-same heard heard′ _ _ (suc m) l (sends {out} {out′} r) =
+      onward-more (eqb (m % 2) number) (ltb m 14) (roomFor k s (m / 2 + 1) (length out)) (roomFor k s (m / 2 + 1) (length out′)) (suc m)
+      (λ e. le-leb (messageLength k (s .kind) (s .n) (m / 2 + 1)) (length out′) (omega (arith, leb-true (messageLength k (s .kind) (s .n) (m / 2 + 1)) (length out) e)))
+  next-same heard heard′ _ _ zero l takes = omega arith
+  next-same heard heard′ _ _ (suc m) l takes =
+      onward-more (not (eqb (m % 2) number)) (ltb m 14) (ltb (takenBy number m) heard) (ltb (takenBy number m) heard′) (suc m)
+      (λ e. lt-ltb (takenBy number m) heard′ (omega (arith, ltb-true (takenBy number m) heard e)))
+  next-same heard heard′ call call′ c l (rests f) = omega (arith, f heard c, next-near heard′ call′ c .0)
+
+  next-more : (heard heard′ : ℕ) (call call′ : Call) (c c′ : ℕ) → heard ≤ heard′ → c ≤ c′ → Like call call′
+      → next k s number heard call c ≤ next k s number heard′ call′ c′
+  next-more heard heard′ call call′ c c′ l a v = by (decLt c c′)
+    where
+      by : Dec (c < c′) → next k s number heard call c ≤ next k s number heard′ call′ c′
+      by (yes b) = omega (arith, next-near heard call c .1, next-near heard′ call′ c′ .0)
+      by (no b) =
+          let e : c ≡ c′ = omega arith in
+          rw (← e) (next-same heard heard′ call call′ c l v)
+
+  like : (call call′ : Call) → callNumber call ≡ callNumber call′ → room call ≤ room call′ → Like call call′
+  unfolding next
+  like begin begin e r = begins
+  like begin (send out) e r = absurd (omega arith)
+  like begin takeLatest e r = absurd (omega arith)
+  like begin (answer out) e r = absurd (omega arith)
+  like begin count e r = absurd (omega arith)
+  like (send out) begin e r = absurd (omega arith)
+  like (send out) (send out′) e r = sends r
+  like (send out) takeLatest e r = absurd (omega arith)
+  like (send out) (answer out′) e r = absurd (omega arith)
+  like (send out) count e r = absurd (omega arith)
+  like takeLatest begin e r = absurd (omega arith)
+  like takeLatest (send out) e r = absurd (omega arith)
+  like takeLatest takeLatest e r = takes
+  like takeLatest (answer out) e r = absurd (omega arith)
+  like takeLatest count e r = absurd (omega arith)
+  like (answer out) call e r = rests (λ heard c. refl)
+  like count call e r = rests (λ heard c. refl)
+
+-- ---- Both counts
+
+record Behind (c d : Counts) : Type 0 where
+  own : c .own ≤ d .own
+  other : c .other ≤ d .other
+
+module _ (k : ℕ) (s : Settings) where
+  grows : (c d : Counts) → Behind c d → (who : Who) (call : Call) → Behind c (stepCounts k s 0 d who call)
+  unfolding stepCounts
+  grows c d b mine call = record { own = omega (arith, next-near k s 0 (sentOf (1 - 0) (d .other)) call (d .own) .0); other = b .other }
+  grows c d b theirs call = record { own = b .own; other = omega (arith, next-near k s (1 - 0) (sentOf 0 (d .own)) call (d .other) .0) }
+
+  -- the planned call in both, with as much room
+  both-step : (c d : Counts) → Behind c d → (who who′ : Who) (call call′ : Call)
+      → whoNumber who ≡ whoNumber who′ → callNumber call ≡ callNumber call′ → room call ≤ room call′
+      → Behind (stepCounts k s 0 c who call) (stepCounts k s 0 d who′ call′)
+  unfolding stepCounts
+  both-step c d b mine mine call call′ e f r =
+      let heard = sent-more (1 - 0) (c .other) (d .other) (b .other) in
+      record { own = next-more k s 0 _ _ call call′ (c .own) (d .own) heard (b .own) (like k s 0 call call′ f r); other = b .other }
+  both-step c d b theirs theirs call call′ e f r =
+      let heard = sent-more 0 (c .own) (d .own) (b .own) in
+      record { own = b .own; other = next-more k s (1 - 0) _ _ call call′ (c .other) (d .other) heard (b .other) (like k s (1 - 0) call call′ f r) }
+  both-step c d b mine theirs call call′ e f r = absurd (omega arith)
+  both-step c d b theirs mine call call′ e f r = absurd (omega arith)
+
+  -- the counts of a plan stay behind those of a list that holds it
+  overtakes : (plan calls : List Move) (c d : Counts) → Behind c d → holds plan calls ≡ true → Behind (countsAfter k s 0 c plan) (countsAfter k s 0 d calls)
+  unfolding holds countsAfter
+  overtakes [] [] c d b e = b
+  overtakes [] (m ∷ ms) c d b e = overtakes [] ms c (stepCounts k s 0 d (m .who) (m .call)) (grows c d b (m .who) (m .call)) (holds-none ms)
+    where
+      holds-none : (ms : List Move) → holds [] ms ≡ true
+      holds-none [] = refl
+      holds-none (m ∷ ms) = refl
+  overtakes (p ∷ ps) [] c d b e = absurd (true≢false (sym e))
+  overtakes (p ∷ ps) (m ∷ ms) c d b e =
+      by (isCall p m) refl (λ x f. overtakes ps ms _ _ x f) (λ f. overtakes (p ∷ ps) ms c _ (grows c d b (m .who) (m .call)) f)
+    where
+      by : {Goal : Type 0} (t : Bool) → isCall p m ≡ t
+          → (Behind (stepCounts k s 0 c (p .who) (p .call)) (stepCounts k s 0 d (m .who) (m .call)) → holds ps ms ≡ true → Goal)
+          → (holds (p ∷ ps) ms ≡ true → Goal)
+          → Goal
+      by true f go stay =
+          let x = both-yes (eqb (whoNumber (p .who)) (whoNumber (m .who)) && eqb (callNumber (p .call)) (callNumber (m .call))) (leb (room (p .call)) (room (m .call))) f in
+          let y = both-yes (eqb (whoNumber (p .who)) (whoNumber (m .who))) (eqb (callNumber (p .call)) (callNumber (m .call))) (x .0) in
+          go (both-step c d b (p .who) (m .who) (p .call) (m .call) (eqb-true _ _ (y .0)) (eqb-true _ _ (y .1)) (leb-true _ _ (x .1))) (rw f at e)
+      by false f go stay = stay (rw f at e)
+
+  -- ---- The plans
+
+  -- both sides before round R + 1
+  abbrev before : ℕ → Counts
+  before R = record { own = suc (2 * R); other = suc (2 * R) }
+
+  enough : (round : ℕ) → roomFor k s round (length (outFor k s round)) ≡ true
+  enough round =
+      let n : ℕ = messageLength k (s .kind) (s .n) round in
+      le-leb n (length (replicate {A = ℕ} n 0)) (omega (arith, length-replicate {A = ℕ} n 0))
+
+  round-goes : (R : ℕ) → Round R → (rest : List Move) → countsAfter k s 0 (before R) (roundInOrder k s (suc R) ++ rest) ≡ countsAfter k s 0 (before (suc R)) rest
+  unfolding countsAfter stepCounts next
+  round-goes _ r0 rest = simp (enough 1)
+  round-goes _ r1 rest = simp (enough 2)
+  round-goes _ r2 rest = simp (enough 3)
+  round-goes _ r3 rest = simp (enough 4)
+  round-goes _ r4 rest = simp (enough 5)
+  round-goes _ r5 rest = simp (enough 6)
+  round-goes _ r6 rest = simp (enough 7)
+
+  rounds-go : (first j n R : ℕ) → first + j ≡ suc R → R + n ≡ 7 → countsAfter k s 0 (before R) (joinFrom j n (λ i. roundInOrder k s (first + i))) ≡ before 7
+  unfolding joinFrom countsAfter
+  rounds-go first j zero R e f =
+      let g : R ≡ 7 = omega arith in
+      rw g
+  rounds-go first j (suc n) R e f =
+      let rest = joinFrom (suc j) n (λ i. roundInOrder k s (first + i)) in
+      ap (λ (r : ℕ). countsAfter k s 0 (before R) (roundInOrder k s r ++ rest)) e
+      ∙ round-goes R (round-of R (omega arith)) rest
+      ∙ rounds-go first (suc j) n (suc R) (omega arith) (omega arith)
+
+  second : countsAfter k s 0 none (phoneSecond k s) ≡ before 7
+  unfolding countsAfter stepCounts next
+  second = rounds-go 1 0 7 0 refl refl
+
+  first : countsAfter k s 0 none (phoneFirst k s) ≡ before 7
+  unfolding countsAfter stepCounts next
+  first = rounds-go 1 0 7 0 refl refl
+
+  late : countsAfter k s 0 none (phoneLate k s) ≡ before 7
+  unfolding joinFrom countsAfter stepCounts next
+  late = simp (enough 1) (rounds-go 2 0 6 1 refl refl)
+
+  -- ---- A run carried through
+
+  any-plan : (a b c : Bool) (P : Type 0) → (a ≡ true → P) → (b ≡ true → P) → (c ≡ true → P) → (a || b || c) ≡ true → P
+  any-plan true b c P f g h e = f refl
+  any-plan false true c P f g h e = g refl
+  any-plan false false true P f g h e = h refl
+  any-plan false false false P f g h e = absurd (true≢false (sym e))
+
+  at-end : (plan calls : List Move) → countsAfter k s 0 none plan ≡ before 7 → holds plan calls ≡ true → countsAfter k s 0 none calls ≡ before 7
+  at-end plan calls e f =
+      let p = pace-after k s 0 (omega arith) calls none (start-pace 0) in
+      let b = rw e at (overtakes plan calls none none (record { own = omega arith; other = omega arith }) f) in
+      same-counts (countsAfter k s 0 none calls) (omega (arith, p .own-most, b .own)) (omega (arith, p .other-most, b .other))
+    where
+      same-counts : (c : Counts) → c .own ≡ 15 → c .other ≡ 15 → c ≡ before 7
+      same-counts c e f = rw (e, f)
+
+  pub carried : (calls : List Move) → carriedThrough k s calls ≡ true → countsAfter k s 0 none calls ≡ record { own = 15; other = 15 }
+  unfolding carriedThrough
+  carried calls e =
+      any-plan (holds (phoneSecond k s) calls) (holds (phoneFirst k s) calls) (holds (phoneLate k s) calls) (countsAfter k s 0 none calls ≡ before 7)
+      (at-end (phoneSecond k s) calls second) (at-end (phoneFirst k s) calls first) (at-end (phoneLate k s) calls late) e

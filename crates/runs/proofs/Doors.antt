@@ -1,0 +1,148 @@
+-- What the doors answer at a seat of which little is known, and what a call then leaves there.
+use Prim.Native.Nat.{ℕ, suc}
+use mathlib.Core.Path.{_≡_, refl, ap}
+use mathlib.Core.List.{List, [], _∷_, _++_}
+use mathlib.Core.Bool.{Bool, true, false}
+use native.Mathlib.Omega.{arith}
+use lib.ListN.{length, getD, take, drop}
+use lib.Dec.{eqb, leb}
+use borrow.Author.Tests.{ne-eqb, le-ltb}
+use Rattle.lists.specs.Answers.{ask}
+use Rattle.lists.specs.Lists.{allTo, allBelow}
+use Rattle.field.specs.Field.{q}
+use Rattle.rounding.specs.Sets.{scaleOf}
+use Rattle.rounding.specs.Questions.{askSettings}
+use Rattle.message.specs.Lengths.{openings, messageLength}
+use Rattle.message.specs.Message.{askForm}
+use Rattle.book.specs.Book.{widthOf}
+use Rattle.column.specs.Layout.{weights, workLength, begunWork}
+use Rattle.column.specs.Work.{takenWork}
+use Rattle.side.specs.Side.{sendDue, takeDue, handedNo, beginNo, beginCall, begunSide, sendNo, sendCall, sentSide, message, takeNo, takeCall, takenSide, openedList, passes}
+use Rattle.runs.specs.Records.{Settings, Hand, Seat, Event, Outcome, outcome}
+use Rattle.runs.specs.Records.Call.{begin, send, takeLatest}
+use Rattle.runs.specs.Records.Event.{began, sent, took, answered, counted}
+use Rattle.runs.proofs.Laws.{message-sized}
+
+-- what was written in front
+pub take-front : (xs ys : List ℕ) → take (length xs) (xs ++ ys) ≡ xs
+take-front [] ys = refl
+take-front (x ∷ xs) ys = ap {B = List ℕ} (λ r. x ∷ r) (take-front xs ys)
+
+-- a no stays a no through the rest of a chain
+pub ask-no : (b : Bool) (n rest : ℕ) → eqb (suc n) 0 ≡ false → eqb rest 0 ≡ false → eqb (ask b (suc n) rest) 0 ≡ false
+unfolding ask
+ask-no true n rest p e = e
+ask-no false n rest p e = p
+
+pub ask-last : (b : Bool) (n rest : ℕ) → b ≡ false → eqb (ask b (suc n) rest) 0 ≡ false
+unfolding ask
+ask-last b n rest e = rw e (ne-eqb (suc n) 0 (λ z. omega arith))
+
+pub ask-in : (b : Bool) (n : ℕ) → b ≡ true → eqb (ask b n 0) 0 ≡ true
+unfolding ask
+ask-in b n e = rw e refl
+
+-- what the begin of hand h answers at a seat, and what each call leaves there when it goes through
+abbrev pub beginNoAt : ℕ → Settings → ℕ → Hand → Seat → ℕ
+beginNoAt k s serial h x =
+    beginNo k (x .side) (h .number) (s .set) (s .kind) (s .n) (s .bound) (h .keys) serial (h .inputs) (h .book) (x .work)
+
+abbrev pub begunSeat : ℕ → Settings → ℕ → Hand → Seat → Seat
+begunSeat k s serial h x =
+    record {
+      side = begunSide (h .number) (s .set) (s .kind) (s .n) (s .bound) (h .keys) serial;
+      work = begunWork (scaleOf (s .set)) (s .kind) (s .n) (widthOf k) (h .inputs) (h .book);
+      latest = x .latest;
+    }
+
+abbrev pub sentSeat : ℕ → Seat → Seat
+sentSeat k x = record { side = sentSide (x .side); work = x .work; latest = message k (x .side) (x .work) }
+
+abbrev pub takenSeat : ℕ → Seat → List ℕ → Seat
+takenSeat k x numbers =
+    record {
+      side = takenSide (x .side) numbers;
+      work = takenWork (scaleOf (x .side .set)) (x .side .kind) (x .side .n) (x .side .bound) (x .side .round) (λ (o : ℕ). getD numbers o 0)
+          (weights k (x .side .number) (x .side .keys)) (x .work);
+      latest = x .latest;
+    }
+
+-- was a call accepted that moves a run?
+abbrev pub accepted : Event → Bool
+accepted (began r) = eqb r 0
+accepted (sent r m) = eqb r 0
+accepted (took r m) = eqb r 0
+accepted (answered r ns) = false
+accepted (counted c) = false
+
+-- a call leaves the seat x, and was accepted or not
+pub record Leaves (o : Outcome) (x : Seat) (went : Bool) : Type 0 where
+  pub seat-is : o .seat ≡ x
+  pub went-is : accepted (o .event) ≡ went
+
+module _ (k : ℕ) (s : Settings) (serial : ℕ) (h : Hand) (m : List ℕ) (x : Seat) where
+  pub begin-go : eqb (beginNoAt k s serial h x) 0 ≡ true → Leaves (outcome k s serial h m x begin) (begunSeat k s serial h x) true
+  unfolding outcome beginCall
+  begin-go e = record { seat-is = rw e; went-is = rw e }
+
+  pub begin-stay : eqb (beginNoAt k s serial h x) 0 ≡ false → Leaves (outcome k s serial h m x begin) x false
+  unfolding outcome beginCall
+  begin-stay e = record { seat-is = rw e; went-is = rw (e, e) }
+
+  pub send-go : (out : List ℕ) → eqb (sendNo k (x .side) (x .work) out) 0 ≡ true → Leaves (outcome k s serial h m x (send out)) (sentSeat k x) true
+  unfolding outcome sendCall
+  send-go out e =
+      record {
+        seat-is = rw (e, ← message-sized k (x .side) (x .work), take-front (message k (x .side) (x .work)) (drop (length (message k (x .side) (x .work))) out));
+        went-is = rw e;
+      }
+
+  pub send-stay : (out : List ℕ) → eqb (sendNo k (x .side) (x .work) out) 0 ≡ false → Leaves (outcome k s serial h m x (send out)) x false
+  unfolding outcome sendCall
+  send-stay out e = record { seat-is = rw (e, e); went-is = rw (e, e) }
+
+  pub take-go : (numbers : List ℕ) → takeNo k (x .side) (x .work) m ≡ 0 → openedList k (x .side) (x .work) m ≡ numbers
+      → Leaves (outcome k s serial h m x takeLatest) (takenSeat k x numbers) true
+  unfolding outcome takeCall
+  take-go numbers e f = record { seat-is = rw (e, f); went-is = rw e }
+
+  -- every no but 13 leaves the seat
+  pub take-stay : eqb (takeNo k (x .side) (x .work) m) 0 ≡ false → eqb (takeNo k (x .side) (x .work) m) 13 ≡ false
+      → Leaves (outcome k s serial h m x takeLatest) x false
+  unfolding outcome takeCall
+  take-stay e f = record { seat-is = rw (e, f); went-is = rw (e, f, e) }
+
+  -- ---- no step due
+  pub send-not : (out : List ℕ) → sendDue (x .side) ≡ false → Leaves (outcome k s serial h m x (send out)) x false
+  unfolding sendNo ask
+  send-not out e = send-stay out (rw e refl)
+
+  pub take-not : takeDue (x .side) ≡ false → Leaves (outcome k s serial h m x takeLatest) x false
+  unfolding takeNo ask
+  take-not e = take-stay (rw e refl) (rw e refl)
+
+  -- a serial that was begun is spent
+  pub begin-spent : x .side .serial ≡ serial → Leaves (outcome k s serial h m x begin) x false
+  unfolding beginNo handedNo askSettings
+  begin-spent e =
+      begin-stay
+      (ask-no _ 7 _ refl (ask-no _ 0 _ refl (ask-no _ 1 _ refl (ask-no _ 2 _ refl (ask-no _ 3 _ refl (ask-no _ 4 _ refl (ask-no _ 5 _ refl
+      (ask-last _ 6 _ (le-ltb (x .side .serial) serial (omega arith))))))))))
+
+-- ---- a step due, at a seat with a slice that passes
+pub record Sound (k : ℕ) (x : Seat) : Type 0 where
+  pub exact : eqb (length (x .work)) (workLength k) ≡ true
+  pub low : allBelow q (x .work) ≡ true
+
+module _ (k : ℕ) (x : Seat) (v : Sound k x) where
+  pub send-due : (out : List ℕ) → sendDue (x .side) ≡ true
+      → sendNo k (x .side) (x .work) out ≡ ask (leb (messageLength k (x .side .kind) (x .side .n) (x .side .round)) (length out)) 9 0
+  unfolding sendNo ask
+  send-due out e = rw (e, v .exact, v .low)
+
+  pub take-due : (m : List ℕ) → takeDue (x .side) ≡ true
+      → takeNo k (x .side) (x .work) m
+      ≡ askForm k (x .side .number) (x .side .set) (x .side .kind) (x .side .n) (x .side .bound) (x .side .round) (x .side .serial) m
+      (ask (allTo (openings (x .side .kind) (x .side .n) (x .side .round)) (passes k (x .side) (x .work) m)) 13 0)
+  unfolding takeNo ask
+  take-due m e = rw (e, v .exact, v .low)

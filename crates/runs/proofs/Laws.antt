@@ -1,0 +1,63 @@
+-- What needs no run: lengths of messages, and that a message of the round before is told by length or header.
+use Prim.Native.Nat.{ℕ, zero, suc, _+_, _*_}
+use mathlib.Core.Path.{_≡_, refl, sym, ap, _∙_}
+use mathlib.Core.List.{List}
+use mathlib.Core.Bool.{Bool, true, false, _&&_}
+use native.Mathlib.Omega.{arith}
+use lib.ListN.{length, length-append}
+use lib.Dec.{eqb}
+use borrow.Author.Tests.{ne-eqb, eqb-true}
+use Rattle.lists.specs.Lists.{joinFrom}
+use Rattle.lists.proofs.Lists.{length-listFrom}
+use Rattle.message.specs.Bits.{bytesFor, packed}
+use Rattle.message.specs.Lengths.{openings, messageBits, fieldCount, messageLength}
+use Rattle.message.specs.Message.{messageOf, headerIn, headerNumber}
+use Rattle.side.specs.Side.{message}
+use Rattle.side.specs.declared.Side.{Side}
+
+pub length-join : (i n w : ℕ) (f : ℕ → List ℕ) → ((j : ℕ) → length (f j) ≡ w) → length (joinFrom i n f) ≡ w * n
+unfolding joinFrom
+length-join i zero w f e = omega arith
+length-join i (suc n) w f e =
+    length-append (f i) (joinFrom (suc i) n f) ∙ rw (e i, length-join (suc i) n w f e) (mul-next w n)
+  where
+    mul-next : (w n : ℕ) → w + w * n ≡ w * suc n
+    mul-next w n = omega arith
+
+-- a message is as long as its round asks
+pub message-sized : (k : ℕ) (s : Side) (work : List ℕ) → length (message k s work) ≡ messageLength k (s .kind) (s .n) (s .round)
+unfolding message messageOf packed messageLength
+message-sized k s work =
+    length-listFrom 0 _ _ ∙ ap (λ f. bytesFor (messageBits f)) (length-join 0 (openings (s .kind) (s .n) (s .round)) (1 + k) _
+    (λ j. ap suc (length-listFrom 0 k _) ∙ add-one k))
+  where
+    add-one : (k : ℕ) → suc k ≡ 1 + k
+    add-one k = omega arith
+
+-- equal lengths are equal counts of fields
+pub same-fields : (a b : ℕ) → bytesFor (messageBits a) ≡ bytesFor (messageBits b) → a ≡ b
+same-fields a b e = omega (arith, e)
+
+pub same-count : (k kind n a b : ℕ) → messageLength k kind n a ≡ messageLength k kind n b → fieldCount k kind n a ≡ fieldCount k kind n b
+unfolding messageLength
+same-count k kind n a b e = same-fields (fieldCount k kind n a) (fieldCount k kind n b) e
+
+pub next-header : (sender set kind n bound round serial : ℕ)
+    → headerNumber sender set kind n bound round serial ≡ headerNumber sender set kind n bound (suc round) serial → ⊥
+unfolding headerNumber
+next-header sender set kind n bound round serial e = omega (arith, e)
+
+-- a message of the round before is told by length or header
+pub told : (k sender set kind n bound serial : ℕ) (msg : List ℕ) (round : ℕ)
+    → length msg ≡ messageLength k kind n round
+    → headerIn (fieldCount k kind n round) msg ≡ headerNumber sender set kind n bound round serial
+    → (eqb (length msg) (messageLength k kind n (suc round))
+    && eqb (headerIn (fieldCount k kind n (suc round)) msg) (headerNumber sender set kind n bound (suc round) serial)) ≡ false
+told k sender set kind n bound serial msg round l h = by (eqb (length msg) (messageLength k kind n (suc round))) refl
+  where
+    by : (d : Bool) → eqb (length msg) (messageLength k kind n (suc round)) ≡ d
+        → (eqb (length msg) (messageLength k kind n (suc round)) && eqb (headerIn (fieldCount k kind n (suc round)) msg) (headerNumber sender set kind n bound (suc round) serial)) ≡ false
+    by false e = rw e
+    by true e =
+        rw (e, ← same-count k kind n round (suc round) (sym l ∙ eqb-true _ _ e), h)
+        (ne-eqb _ _ (next-header sender set kind n bound round serial))

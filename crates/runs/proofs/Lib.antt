@@ -1,0 +1,23 @@
+-- Theorems about every list of calls: T3 and demand 2.
+-- T3: doors, seats, stages, then counts
+pub mod Laws
+pub mod Doors
+pub mod Seats
+pub mod Stages
+pub mod Counts
+pub mod Steps
+pub mod Both
+pub mod Whole
+-- Demand 2
+pub mod Tally
+pub mod Steady
+pub mod Carried
+pub mod Answers
+-- The honest run, from T1, messages and books
+pub mod Start
+pub mod Slices
+pub mod Sharing
+pub mod Opens
+pub mod Runs
+-- All together
+pub mod Theorem

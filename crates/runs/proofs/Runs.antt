@@ -1,0 +1,161 @@
+-- The facts of an honest run, from T1, the messages' round trip and the books' laws.
+use Prim.Native.Nat.{ℕ, zero, suc, _+_, _*_, _<_}
+use mathlib.Core.Path.{_≡_, refl, sym, ap, _∙_}
+use mathlib.Core.List.{List, [], _∷_}
+use native.Mathlib.Omega.{arith}
+use native.Mathlib.Nat.{add-comm}
+use lib.ListN.{length, getD, length-append, List·getD-append}
+use lib.Seq.{getD-append-add}
+use Rattle.lists.specs.Lists.{listTo}
+use Rattle.field.specs.Field.{q}
+use Rattle.field.specs.Forms.{Adds}
+use Rattle.rounding.specs.Sets.{scaleOf}
+use Rattle.message.specs.Lengths.{openings}
+use Rattle.message.specs.Theorems.{RoundTrip}
+use Rattle.book.specs.Book.{widthOf, shared}
+use Rattle.book.specs.Deal.{multipliers}
+use Rattle.book.specs.Theorems.{Laws}
+use Rattle.column.specs.Layout.{column, maskedIn}
+use Rattle.column.specs.Steps.{publicOf}
+use Rattle.column.specs.Work.{openingOn}
+use Rattle.column.specs.Run.{openedFrom, plainAfter, plainOpened}
+use Rattle.column.specs.Theorems.{T1Work}
+use Rattle.side.specs.Side.{partColumn}
+use Rattle.runs.specs.Records.{Settings, Hand, handOf, missing}
+use Rattle.runs.specs.Demands.{Numbers, Secret, Shares}
+use Rattle.runs.specs.Progress.{workAt, messageAt}
+use Rattle.runs.specs.Honest.{SideRuns, Runs}
+use Rattle.runs.proofs.Start.{length-missing, below-missing, missing-adds}
+use Rattle.runs.proofs.Slices.{Joint, Slices, all-below, opening-below, slices}
+use Rattle.runs.proofs.Sharing.{sharing}
+use Rattle.runs.proofs.Opens.{Facing, meets}
+
+adds-swap : {m a b c : ℕ} → Adds q m a b c → Adds q m b a c
+adds-swap {a = a} {b = b} h = record { total = rw (add-comm b a) (h .total) }
+
+-- the keys among what the columns add up to
+first-keys : (keys0 keys1 : List ℕ) (k i : ℕ) → length keys0 ≡ k → i < k → getD (multipliers keys0 keys1) (partColumn k 0 i) 0 ≡ getD keys0 i 0
+first-keys keys0 keys1 k i e l =
+    let z : partColumn k 0 i ≡ suc i = omega arith in
+    rw z (List·getD-append keys0 keys1 0 i (omega arith))
+
+second-keys : (keys0 keys1 : List ℕ) (k i : ℕ) → length keys0 ≡ k → getD (multipliers keys0 keys1) (partColumn k 1 i) 0 ≡ getD keys1 i 0
+second-keys keys0 keys1 k i e =
+    let z : partColumn k 1 i ≡ suc (length keys0 + i) = omega arith in
+    rw z (getD-append-add keys0 keys1 i 0)
+
+module _ (t : T1Work) (m : RoundTrip) (b : Laws) (k : ℕ) (s : Settings) (serial : ℕ)
+    (keys0 keys1 secret draw inA inB : List ℕ) (g : Joint k s serial keys0 keys1 secret draw inA inB) where
+  abbrev numbers : ℕ → List ℕ
+  numbers R = plainOpened (scaleOf (s .set)) (s .kind) (s .n) (s .bound) (widthOf k) draw secret R
+
+  abbrev A : Hand
+  A = handOf k s 0 keys0 keys1 draw inA
+
+  abbrev B : Hand
+  B = handOf k s 1 keys0 keys1 draw inB
+
+  abbrev column-at : ℕ → List ℕ
+  column-at R = plainAfter (scaleOf (s .set)) (s .kind) (s .n) (s .bound) (widthOf k) draw secret R
+
+  z : Slices k s serial numbers column-at keys0 keys1 A B
+  z = slices t b k s serial keys0 keys1 secret draw inA inB g
+
+  -- opening j of round R + 1 in the plain run
+  abbrev plain : ℕ → ℕ → ℕ
+  plain R j = openingOn (publicOf (scaleOf (s .set)) (s .kind) (s .n) (s .bound) (maskedIn (column-at R))) (suc R) 1 (column (column-at R) 0) j
+
+  -- T1: what the two sides have for an opening
+  shares-add : (R c j : ℕ) → c < 1 + 2 * k
+      → Adds q (getD (multipliers keys0 keys1) c 0) (sharing k s serial numbers A R c j) (sharing k s serial numbers B R c j) (plain R j)
+  unfolding sharing
+  shares-add R c j l =
+      rw (g .fixed .server-count) at
+      (t .opening (scaleOf (s .set)) (s .kind) (s .n) (s .bound) keys0 keys1 _ _ (column-at R) (omega arith) (g .fixed .server-count ∙ sym (g .fixed .phone-count))
+      (z .joined R) (suc R) c j (omega (arith, length-append keys0 keys1, g .fixed .server-count, g .fixed .phone-count)))
+
+  opens-plain : (R : ℕ) → numbers R ≡ listTo (openings (s .kind) (s .n) (suc R)) (plain R)
+  unfolding plainOpened openedFrom
+  opens-plain R = refl
+
+  plain-below : (R j : ℕ) → j < openings (s .kind) (s .n) (suc R) → plain R j < q
+  plain-below R j l =
+      opening-below t s (suc R) (1 ∷ []) (column-at R) (z .fair-a .most) (z .fair-a .some) (omega (arith, z .joined R .exact)) (z .plain-low R) 0 j (omega arith) l
+
+  facing-a : Facing k s serial numbers (multipliers keys0 keys1) plain A B
+  facing-a =
+      record {
+        faces = refl;
+        own = z .fair-a;
+        other = z .fair-b;
+        adds = shares-add;
+        unit = refl;
+        keyed = λ i l. first-keys keys0 keys1 k i (g .fixed .server-count) l;
+        opens = opens-plain;
+        low = plain-below;
+      }
+
+  facing-b : Facing k s serial numbers (multipliers keys0 keys1) plain B A
+  facing-b =
+      record {
+        faces = refl;
+        own = z .fair-b;
+        other = z .fair-a;
+        adds = λ R c j l. adds-swap (shares-add R c j l);
+        unit = refl;
+        keyed = λ i l. second-keys keys0 keys1 k i (g .fixed .server-count);
+        opens = opens-plain;
+        low = plain-below;
+      }
+
+  side-runs : (h o : Hand) → Facing k s serial numbers (multipliers keys0 keys1) plain h o → Shares k s (h .inputs)
+      → Numbers (shared (scaleOf (s .set)) (s .kind) (s .n) * widthOf k) (h .book) → SideRuns k s serial numbers h (messageAt k s serial numbers o)
+  side-runs h o v ins bk =
+      record {
+        exact = λ R l. v .own .exact R;
+        low = λ R l. all-below q (workAt k s serial numbers h R) (v .own .low R);
+        inputs = ins;
+        book = bk;
+        meets = meets t m k s serial numbers (multipliers keys0 keys1) plain h o (g .fixed .settings) (g .fixed .fits) v;
+      }
+
+  runs-a : SideRuns k s serial numbers A (messageAt k s serial numbers B)
+  runs-a = side-runs A B facing-a (g .server-ok) (z .book-a)
+
+  runs-b : SideRuns k s serial numbers B (messageAt k s serial numbers A)
+  runs-b = side-runs B A facing-b (g .phone-ok) (z .book-b)
+
+-- the other side's inputs
+missing-ok : (k : ℕ) (s : Settings) (factors secret inputs : List ℕ) → Secret s secret → Shares k s (missing (widthOf k) factors secret inputs)
+missing-ok k s factors secret inputs x =
+    record {
+      size-is = length-missing (widthOf k) factors secret inputs ∙ ap (λ (n : ℕ). n * widthOf k) (x .size-is);
+      below = below-missing (widthOf k) factors secret inputs;
+    }
+
+pub runs : (k : ℕ) → T1Work → RoundTrip → Laws → Runs k
+runs k t m b s serial keys0 keys1 f zero l secret inputs draw x y d =
+    let other = missing (widthOf k) (multipliers keys0 keys1) secret inputs in
+    let g : Joint k s serial keys0 keys1 secret draw inputs other =
+    record {
+      fixed = f;
+      secret-ok = x;
+      draw-ok = d;
+      server-ok = y;
+      phone-ok = missing-ok k s _ secret inputs x;
+      adds = λ j c h i. missing-adds (widthOf k) (multipliers keys0 keys1) secret inputs j c (omega (arith, x .size-is)) i;
+    } in
+    (runs-a t m b k s serial keys0 keys1 secret draw inputs other g, runs-b t m b k s serial keys0 keys1 secret draw inputs other g)
+runs k t m b s serial keys0 keys1 f (suc zero) l secret inputs draw x y d =
+    let other = missing (widthOf k) (multipliers keys0 keys1) secret inputs in
+    let g : Joint k s serial keys0 keys1 secret draw other inputs =
+    record {
+      fixed = f;
+      secret-ok = x;
+      draw-ok = d;
+      server-ok = missing-ok k s _ secret inputs x;
+      phone-ok = y;
+      adds = λ j c h i. adds-swap (missing-adds (widthOf k) (multipliers keys0 keys1) secret inputs j c (omega (arith, x .size-is)) i);
+    } in
+    (runs-b t m b k s serial keys0 keys1 secret draw other inputs g, runs-a t m b k s serial keys0 keys1 secret draw other inputs g)
+runs k t m b s serial keys0 keys1 f (suc (suc number)) l secret inputs draw x y d = absurd (omega arith)

@@ -1,0 +1,188 @@
+-- Each call at each stage of one side, due or not; what must be known of the canonical run is in Kept and Heard.
+use Prim.Native.Nat.{ℕ, suc, _+_, _-_, _≤_, _<_}
+use mathlib.Core.Path.{_≡_, refl, _∙_}
+use mathlib.Core.List.{List, []}
+use mathlib.Core.Bool.{Bool, true, false, cond, _&&_}
+use native.Mathlib.Omega.{arith}
+use lib.ListN.{length}
+use lib.Dec.{eqb, leb}
+use borrow.Author.Tests.{eq-eqb, ne-eqb}
+use Rattle.lists.specs.Answers.{ask}
+use Rattle.lists.specs.Lists.{allTo, allBelow}
+use Rattle.field.specs.Field.{q}
+use Rattle.message.specs.Lengths.{openings, fieldCount, messageLength}
+use Rattle.message.specs.Message.{headerIn, headerNumber, fieldsOk, askForm}
+use Rattle.column.specs.Layout.{workLength}
+use Rattle.side.specs.declared.Phase.the-variants.{Sending, Taking, Finished}
+use Rattle.side.specs.Side.{begunSide, sendNo, takeNo, passes, sendDue, takeDue}
+use Rattle.runs.specs.Records.{Settings, Hand, Seat, Call, outcome}
+use Rattle.runs.specs.Records.Call.{begin, send, takeLatest}
+use Rattle.runs.specs.Progress.{sideAt, seatAt}
+use Rattle.runs.specs.Honest.{takeStep, Meets}
+use Rattle.runs.proofs.Doors.{Leaves, Sound, send-go, send-stay, send-not, send-due, ask-in, ask-last, take-go, take-stay, take-not, take-due, begin-spent}
+use Rattle.runs.proofs.Seats.{Which, Round, Terms, sendStep, seat, slice, send-in, take-in, at-send, at-take, at-end, round-below, which-below}
+use Rattle.runs.proofs.Laws.{told}
+
+-- a no by length or header is neither 0 nor 13
+pub late-0 : (a b : Bool) (rest : ℕ) → (a && b) ≡ false → eqb (ask a 10 (ask b 11 rest)) 0 ≡ false
+unfolding ask
+late-0 false b rest e = refl
+late-0 true b rest e = rw e refl
+
+pub late-13 : (a b : Bool) (rest : ℕ) → (a && b) ≡ false → eqb (ask a 10 (ask b 11 rest)) 13 ≡ false
+unfolding ask
+late-13 false b rest e = refl
+late-13 true b rest e = rw e refl
+
+-- a header alone is 8 bytes
+pub header-fits : (k kind n round : ℕ) → 8 ≤ messageLength k kind n round
+unfolding messageLength
+header-fits k kind n round = omega arith
+
+-- the empty message is shorter than any
+pub short : (k kind n round : ℕ) → eqb (length {A = ℕ} []) (messageLength k kind n round) ≡ false
+short k kind n round = ne-eqb 0 (messageLength k kind n round) (λ z. omega (arith, z, header-fits k kind n round))
+
+-- a message of good form that passes is taken
+pub form-passes : (k receiver set kind n bound round serial : ℕ) (msg : List ℕ) (last : Bool)
+    → eqb (length msg) (messageLength k kind n round) ≡ true
+    → eqb (headerIn (fieldCount k kind n round) msg) (headerNumber (1 - receiver) set kind n bound round serial) ≡ true
+    → fieldsOk (fieldCount k kind n round) msg ≡ true
+    → last ≡ true
+    → askForm k receiver set kind n bound round serial msg (ask last 13 0) ≡ 0
+unfolding askForm ask
+form-passes k receiver set kind n bound round serial msg last a b c d = rw (a, b, c, d)
+
+module _ (k : ℕ) (s : Settings) (serial : ℕ) (numbers : ℕ → List ℕ) (h : Hand) where
+  -- a side's settings, key and slices pass
+  pub record Kept : Type 0 where
+    pub terms : Terms s serial h
+    pub exact : (R : ℕ) → R < 8 → eqb (length (slice k s serial numbers h R)) (workLength k) ≡ true
+    pub low : (R : ℕ) → R < 8 → allBelow q (slice k s serial numbers h R) ≡ true
+
+  -- the other side's messages, by round: they meet this side, and are as long as their round asks
+  pub record Heard (messages : ℕ → List ℕ) : Type 0 where
+    pub sized : (R : ℕ) → Round R → length (messages (suc R)) ≡ messageLength k (s .kind) (s .n) (suc R)
+    pub meets : Meets k s serial numbers h messages
+
+  -- does a message have the length and header of round R + 1?
+  abbrev pub isOf : ℕ → List ℕ → Bool
+  isOf R msg =
+      eqb (length msg) (messageLength k (s .kind) (s .n) (suc R))
+      && eqb (headerIn (fieldCount k (s .kind) (s .n) (suc R)) msg) (headerNumber (1 - h .number) (s .set) (s .kind) (s .n) (s .bound) (suc R) serial)
+
+  -- one of the round before has not
+  pub late : (messages : ℕ → List ℕ) → Heard messages → (R : ℕ) → Round R → isOf (suc R) (messages (suc R)) ≡ false
+  late messages z R r =
+      told k (1 - h .number) (s .set) (s .kind) (s .n) (s .bound) serial (messages (suc R)) (suc R) (z .sized R r) (z .meets .header R (round-below R r))
+
+  module _ (u : Which h) (v : Kept) where
+    abbrev pub at : ℕ → Seat
+    at m = seat k s serial numbers h m
+
+    -- what a call at step m leaves
+    abbrev pub Left : List ℕ → ℕ → Call → Seat → Bool → Type 0
+    Left incoming m c x went = Leaves (outcome k s serial h incoming (at m) c) x went
+
+    -- begin, at any stage
+    pub begins : (incoming : List ℕ) (m : ℕ) → Left incoming m begin (at m) false
+    unfolding seatAt sideAt begunSide
+    begins incoming m = begin-spent k s serial h incoming (at m) refl
+
+    send-most : (R : ℕ) → Round R → sendStep (h .number) R ≤ 14
+    send-most R r = omega (arith, round-below R r, which-below h u)
+
+    take-most : (R : ℕ) → Round R → takeStep (h .number) R ≤ 14
+    take-most R r = omega (arith, round-below R r, which-below h u)
+
+    sending-due : (R : ℕ) → Round R → sendDue (at (sendStep (h .number) R) .side) ≡ true
+    sending-due R r = send-in k s serial numbers h (v .terms) (sendStep (h .number) R) (send-most R r) Sending (at-send k s serial numbers h R u r .phase-is)
+
+    taking-due : (R : ℕ) → Round R → takeDue (at (takeStep (h .number) R) .side) ≡ true
+    taking-due R r = take-in k s serial numbers h (v .terms) (takeStep (h .number) R) (take-most R r) Taking (at-take k s serial numbers h R u r .phase-is)
+
+    sound-send : (R : ℕ) → Round R → Sound k (at (sendStep (h .number) R))
+    sound-send R r =
+        let i : R + h .number < 8 = omega (arith, round-below R r, which-below h u) in
+        let e = at-send k s serial numbers h R u r .slice-is in
+        record { exact = rw e (v .exact (R + h .number) i); low = rw e (v .low (R + h .number) i) }
+
+    sound-take : (R : ℕ) → Round R → Sound k (at (takeStep (h .number) R))
+    sound-take R r =
+        let i : R < 8 = omega (arith, round-below R r) in
+        let e = at-take k s serial numbers h R u r .slice-is in
+        record { exact = rw e (v .exact R i); low = rw e (v .low R i) }
+
+    send-answer : (R : ℕ) → Round R → (out : List ℕ)
+        → sendNo k (at (sendStep (h .number) R) .side) (at (sendStep (h .number) R) .work) out ≡ ask (leb (messageLength k (s .kind) (s .n) (suc R)) (length out)) 9 0
+    unfolding seatAt sideAt begunSide
+    send-answer R r out =
+        rw (← at-send k s serial numbers h R u r .round)
+        (send-due k (at (sendStep (h .number) R)) (sound-send R r) out (sending-due R r))
+
+    -- send, at its stage, at the other stages
+    pub sends : (incoming : List ℕ) (R : ℕ) (r : Round R) (out : List ℕ) (d : Bool)
+        → leb (messageLength k (s .kind) (s .n) (suc R)) (length out) ≡ d
+        → Left incoming (sendStep (h .number) R) (send out) (cond d (at (suc (sendStep (h .number) R))) (at (sendStep (h .number) R))) d
+    unfolding seatAt sideAt begunSide
+    sends incoming R r out true e =
+        rw (at-send k s serial numbers h R u r .after) at
+        (send-go k s serial h incoming (at (sendStep (h .number) R)) out (rw (send-answer R r out) (ask-in _ 9 e)))
+    sends incoming R r out false e =
+        send-stay k s serial h incoming (at (sendStep (h .number) R)) out
+        (rw (send-answer R r out) (ask-last _ 8 _ e))
+
+    pub sends-not-taking : (incoming : List ℕ) (R : ℕ) → Round R → (out : List ℕ) → Left incoming (takeStep (h .number) R) (send out) (at (takeStep (h .number) R)) false
+    sends-not-taking incoming R r out =
+        send-not k s serial h incoming (at (takeStep (h .number) R)) out
+        (send-in k s serial numbers h (v .terms) (takeStep (h .number) R) (take-most R r) Taking (at-take k s serial numbers h R u r .phase-is))
+
+    pub sends-not-ended : (incoming : List ℕ) (out : List ℕ) → Left incoming 14 (send out) (at 14) false
+    sends-not-ended incoming out =
+        send-not k s serial h incoming (at 14) out (send-in k s serial numbers h (v .terms) 14 (omega arith) Finished (at-end k s serial numbers h))
+
+    pub takes-not-sending : (incoming : List ℕ) (R : ℕ) → Round R → Left incoming (sendStep (h .number) R) takeLatest (at (sendStep (h .number) R)) false
+    takes-not-sending incoming R r =
+        take-not k s serial h incoming (at (sendStep (h .number) R))
+        (take-in k s serial numbers h (v .terms) (sendStep (h .number) R) (send-most R r) Sending (at-send k s serial numbers h R u r .phase-is))
+
+    pub takes-not-ended : (incoming : List ℕ) → Left incoming 14 takeLatest (at 14) false
+    takes-not-ended incoming =
+        take-not k s serial h incoming (at 14) (take-in k s serial numbers h (v .terms) 14 (omega arith) Finished (at-end k s serial numbers h))
+
+    take-answer : (R : ℕ) → Round R → (msg : List ℕ)
+        → takeNo k (at (takeStep (h .number) R) .side) (at (takeStep (h .number) R) .work) msg
+        ≡ askForm k (h .number) (s .set) (s .kind) (s .n) (s .bound) (suc R) serial msg
+        (ask (allTo (openings (s .kind) (s .n) (suc R)) (passes k (at (takeStep (h .number) R) .side) (at (takeStep (h .number) R) .work) msg)) 13 0)
+    unfolding seatAt sideAt begunSide
+    take-answer R r msg =
+        rw (← at-take k s serial numbers h R u r .round)
+        (take-due k (at (takeStep (h .number) R)) (sound-take R r) msg (taking-due R r))
+
+    -- a message of another round, or none
+    pub takes-late : (R : ℕ) → Round R → (msg : List ℕ) → isOf R msg ≡ false → Left msg (takeStep (h .number) R) takeLatest (at (takeStep (h .number) R)) false
+    unfolding askForm
+    takes-late R r msg e =
+        take-stay k s serial h msg (at (takeStep (h .number) R))
+        (rw (take-answer R r msg) (late-0 _ _ _ e))
+        (rw (take-answer R r msg) (late-13 _ _ _ e))
+
+    pub takes-empty : (R : ℕ) → Round R → Left [] (takeStep (h .number) R) takeLatest (at (takeStep (h .number) R)) false
+    takes-empty R r = takes-late R r [] (rw (short k (s .kind) (s .n) (suc R)) refl)
+
+    -- the message that is due
+    module _ (messages : ℕ → List ℕ) (z : Heard messages) where
+      take-passes : (R : ℕ) → Round R → takeNo k (at (takeStep (h .number) R) .side) (slice k s serial numbers h R) (messages (suc R)) ≡ 0
+      unfolding seatAt
+      take-passes R r =
+          let l = round-below R r in
+          rw (at-take k s serial numbers h R u r .slice-is) at (take-answer R r (messages (suc R)))
+          ∙ form-passes _ _ _ _ _ _ _ _ _ _ (eq-eqb _ _ (z .sized R r)) (eq-eqb _ _ (z .meets .header R l)) (z .meets .fields R l) (z .meets .pass R l)
+
+      pub takes : (R : ℕ) → Round R → Left (messages (suc R)) (takeStep (h .number) R) takeLatest (at (suc (takeStep (h .number) R))) true
+      unfolding seatAt
+      takes R r =
+          rw (at-take k s serial numbers h R u r .after) at
+          (take-go k s serial h (messages (suc R)) (at (takeStep (h .number) R)) (numbers R)
+          (rw (at-take k s serial numbers h R u r .slice-is) (take-passes R r))
+          (rw (at-take k s serial numbers h R u r .slice-is) (z .meets .opens R (round-below R r))))

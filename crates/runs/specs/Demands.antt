@@ -1,0 +1,222 @@
+-- Demand 2, as types: every honest run finishes with the answer, never stops, and counts by its rounds.
+use Prim.Native.Nat.{ℕ, _+_, _*_, _-_, _<_, _≤_}
+use mathlib.Core.Path.{_≡_}
+use mathlib.Core.Bool.{Bool, true, false, cond, _&&_, _||_}
+use mathlib.Core.List.{List, [], _∷_, _++_, map}
+use lib.Dec.{eqb, leb}
+use lib.IntN.{pos}
+use lib.ListN.{length, replicate}
+use Rattle.lists.specs.Answers.{bit}
+use Rattle.lists.specs.Lists.{allBelow, joinTo}
+use Rattle.field.specs.Field.{q}
+use Rattle.rounding.specs.Sets.{scaleOf}
+use Rattle.rounding.specs.Questions.{keysOk}
+use Rattle.rounding.specs.Plain.{decompose}
+use Rattle.message.specs.Lengths.{openingsUpTo, messageLength}
+use Rattle.book.specs.Book.{widthOf, drawLength}
+use Rattle.book.specs.Deal.{multipliers}
+use Rattle.column.specs.Layout.{workLength}
+use Rattle.side.specs.Side.{underWay, finished, heldAnswer, countCall}
+use Rattle.runs.specs.Records.{Settings, settingsOk, answerOf, missing, Hand, handOf, Seat, World, Who, Call, Move, Event, worldAfter, events}
+use Rattle.runs.specs.Records.Who.{mine, theirs}
+use Rattle.runs.specs.Records.Call.{begin, send, takeLatest, answer, count}
+use Rattle.runs.specs.Records.Event.{began, sent, took, answered, counted}
+
+-- ---- What is fixed. k: keys a side, 1 in this request
+
+-- "Whatever settings, serial, keys from 1 to q − 1 .. are fixed"
+pub record Fixed (k : ℕ) (s : Settings) (serial : ℕ) (keys0 keys1 : List ℕ) : Type 0 where
+  pub settings : settingsOk s ≡ true
+  pub above : 1 ≤ serial
+  pub fits : serial < 4294967296
+  pub server-count : length keys0 ≡ k
+  pub phone-count : length keys1 ≡ k
+  pub server-keys : keysOk keys0 ≡ true
+  pub phone-keys : keysOk keys1 ≡ true
+
+-- so many numbers below q
+pub record Numbers (size : ℕ) (xs : List ℕ) : Type 0 where
+  pub size-is : length xs ≡ size
+  pub below : allBelow q xs ≡ true
+
+-- "A secret is N numbers below q, the joined inputs"
+abbrev pub Secret : Settings → List ℕ → Type 0
+Secret s x = Numbers (s .n) x
+
+-- a side's input shares and check shares
+abbrev pub Shares : ℕ → Settings → List ℕ → Type 0
+Shares k s inputs = Numbers (s .n * widthOf k) inputs
+
+-- "A possible draw is any list of numbers below q, as many as the settings ask"
+abbrev pub Possible : ℕ → Settings → List ℕ → Type 0
+Possible k s draw = Numbers (drawLength (scaleOf (s .set)) (s .kind) (s .n) (widthOf k)) draw
+
+-- "Both sides start with no run under way, a last serial below the list's one serial, and a working slice of the exact length";
+-- nothing was sent in this list
+pub record Idle (k serial : ℕ) (x : Seat) : Type 0 where
+  pub none : underWay (x .side) ≡ false
+  pub last : x .side .serial < serial
+  pub exact : length (x .work) ≡ workLength k
+  pub silent : x .latest ≡ []
+
+pub record Start (k serial : ℕ) (w : World) : Type 0 where
+  pub own : Idle k serial (w .own)
+  pub other : Idle k serial (w .other)
+
+-- side `number` with its own shares, and the other with what is missing to the secret
+abbrev pub ownHand : ℕ → Settings → ℕ → List ℕ → List ℕ → List ℕ → List ℕ → Hand
+ownHand k s number keys0 keys1 inputs draw = handOf k s number keys0 keys1 draw inputs
+
+abbrev pub otherHand : ℕ → Settings → ℕ → List ℕ → List ℕ → List ℕ → List ℕ → List ℕ → Hand
+otherHand k s number keys0 keys1 inputs secret draw =
+    handOf k s (1 - number) keys0 keys1 draw (missing (widthOf k) (multipliers keys0 keys1) secret inputs)
+
+-- ---- Demand 2
+
+abbrev pub move : Who → Call → Move
+move who call = record { who = who; call = call }
+
+-- an output just long enough for a round's message
+abbrev pub outFor : ℕ → Settings → ℕ → List ℕ
+outFor k s round = replicate (messageLength k (s .kind) (s .n) round) 0
+
+-- a round in order, `mine` the server: its message; then the phone's take, the phone's message, the server's take
+abbrev pub restOfRound : ℕ → Settings → ℕ → List Move
+restOfRound k s round = move theirs takeLatest ∷ move theirs (send (outFor k s round)) ∷ move mine takeLatest ∷ []
+
+abbrev pub roundInOrder : ℕ → Settings → ℕ → List Move
+roundInOrder k s round = move mine (send (outFor k s round)) ∷ restOfRound k s round
+
+abbrev pub roundsFrom : ℕ → Settings → ℕ → ℕ → List Move
+roundsFrom k s first rounds = joinTo rounds (λ (i : ℕ). roundInOrder k s (first + i))
+
+-- the orders in which a run can be carried through: the phone begins last, first, or after the server's first message
+abbrev pub phoneSecond : ℕ → Settings → List Move
+phoneSecond k s = move mine begin ∷ move theirs begin ∷ roundsFrom k s 1 7
+
+abbrev pub phoneFirst : ℕ → Settings → List Move
+phoneFirst k s = move theirs begin ∷ move mine begin ∷ roundsFrom k s 1 7
+
+abbrev pub phoneLate : ℕ → Settings → List Move
+phoneLate k s =
+    move mine begin
+    ∷ move mine (send (outFor k s 1))
+    ∷ move theirs begin
+    ∷ restOfRound k s 1 ++ roundsFrom k s 2 6
+
+abbrev pub whoNumber : Who → ℕ
+whoNumber mine = 0
+whoNumber theirs = 1
+
+abbrev pub callNumber : Call → ℕ
+callNumber begin = 0
+callNumber (send out) = 1
+callNumber takeLatest = 2
+callNumber (answer out) = 3
+callNumber count = 4
+
+abbrev pub room : Call → ℕ
+room begin = 0
+room (send out) = length out
+room takeLatest = 0
+room (answer out) = length out
+room count = 0
+
+-- the same call at the same side, with at least as long an output
+abbrev pub isCall : Move → Move → Bool
+isCall planned m =
+    eqb (whoNumber (planned .who)) (whoNumber (m .who))
+    && eqb (callNumber (planned .call)) (callNumber (m .call))
+    && leb (room (planned .call)) (room (m .call))
+
+-- the planned calls stand in the list, in order, whatever other calls stand between
+unfoldable pub holds : List Move → List Move → Bool
+holds [] [] = true
+holds [] (m ∷ ms) = true
+holds (c ∷ cs) [] = false
+holds (c ∷ cs) (m ∷ ms) = cond (isCall c m) (holds cs ms) (holds (c ∷ cs) ms)
+
+unfoldable pub carriedThrough : ℕ → Settings → List Move → Bool
+carriedThrough k s calls =
+    holds (phoneSecond k s) calls || holds (phoneFirst k s) calls || holds (phoneLate k s) calls
+
+-- what a side holds at the end: finished, the answer by the plain meaning, all openings counted
+pub record Ended (s : Settings) (secret : List ℕ) (x : Seat) : Type 0 where
+  pub done : finished (x .side) ≡ true
+  pub answer : heldAnswer (x .side) ≡ answerOf s secret
+  pub openings : countCall (x .side) ≡ openingsUpTo (s .kind) (s .n) 7
+
+-- "every run carried through in order finishes, and both sides hold the high parts, or the verdict"; `own` is the server
+abbrev pub Demand2 : ℕ → Type 0
+Demand2 k =
+    (s : Settings) (serial : ℕ) (keys0 keys1 : List ℕ)
+    → Fixed k s serial keys0 keys1
+    → (secret inputs draw : List ℕ)
+    → Secret s secret
+    → Shares k s inputs
+    → Possible k s draw
+    → (w : World)
+    → Start k serial w
+    → (calls : List Move)
+    → carriedThrough k s calls ≡ true
+    → let e = worldAfter k s serial (ownHand k s 0 keys0 keys1 inputs draw) (otherHand k s 0 keys0 keys1 inputs secret draw) w calls in
+    Ended s secret (e .own) × Ended s secret (e .other)
+
+-- "that FIPS 204 gives": the answer by the plain meaning is Decompose's high part
+abbrev pub FipsHigh : Type 0
+FipsHigh =
+    (s : Settings) (secret : List ℕ)
+    → settingsOk s ≡ true
+    → s .kind ≡ 0
+    → Secret s secret
+    → map pos (answerOf s secret) ≡ map (λ (w : ℕ). decompose (scaleOf (s .set)) w .high) secret
+
+-- takes and sends that were accepted, and whether a begin was
+unfoldable pub takesIn : List Event → ℕ
+takesIn [] = 0
+takesIn (began r ∷ es) = takesIn es
+takesIn (sent r m ∷ es) = takesIn es
+takesIn (took r m ∷ es) = bit (eqb r 0) + takesIn es
+takesIn (answered r ns ∷ es) = takesIn es
+takesIn (counted c ∷ es) = takesIn es
+
+unfoldable pub sendsIn : List Event → ℕ
+sendsIn [] = 0
+sendsIn (began r ∷ es) = sendsIn es
+sendsIn (sent r m ∷ es) = bit (eqb r 0) + sendsIn es
+sendsIn (took r m ∷ es) = sendsIn es
+sendsIn (answered r ns ∷ es) = sendsIn es
+sendsIn (counted c ∷ es) = sendsIn es
+
+unfoldable pub beganIn : List Event → Bool
+beganIn [] = false
+beganIn (began r ∷ es) = eqb r 0 || beganIn es
+beganIn (sent r m ∷ es) = beganIn es
+beganIn (took r m ∷ es) = beganIn es
+beganIn (answered r ns ∷ es) = beganIn es
+beganIn (counted c ∷ es) = beganIn es
+
+-- after any list of calls, at either side: a run that has begun never stops; it is finished when it has sent and taken all seven
+-- rounds and not before; its count is fixed by the rounds taken
+pub record Steady (s : Settings) (log : List Event) (x : Seat) : Type 0 where
+  pub goes-on : (underWay (x .side) || finished (x .side)) ≡ true
+  pub in-time : finished (x .side) ≡ (eqb (takesIn log) 7 && eqb (sendsIn log) 7)
+  pub by-rounds : countCall (x .side) ≡ openingsUpTo (s .kind) (s .n) (takesIn log)
+
+abbrev pub Demand2Steady : ℕ → Type 0
+Demand2Steady k =
+    (s : Settings) (serial : ℕ) (keys0 keys1 : List ℕ)
+    → Fixed k s serial keys0 keys1
+    → (number : ℕ)
+    → number < 2
+    → (secret inputs draw : List ℕ)
+    → Secret s secret
+    → Shares k s inputs
+    → Possible k s draw
+    → (w : World)
+    → Start k serial w
+    → (calls : List Move)
+    → let h = ownHand k s number keys0 keys1 inputs draw in
+    let o = otherHand k s number keys0 keys1 inputs secret draw in
+    beganIn (events k s serial h o w calls) ≡ true
+    → Steady s (events k s serial h o w calls) (worldAfter k s serial h o w calls .own)

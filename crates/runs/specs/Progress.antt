@@ -1,0 +1,117 @@
+-- Progress: the seat of a side that has come so far in its run, and how calls move it; nothing here looks at a secret.
+use Prim.Native.Nat.{ℕ, zero, suc, _+_, _*_, _-_, _/_, _%_}
+use mathlib.Core.Bool.{Bool, cond, not, _&&_}
+use mathlib.Core.List.{List, [], _∷_}
+use lib.Dec.{eqb, leb, ltb}
+use lib.ListN.{length, getD, replicate}
+use Rattle.lists.specs.Lists.{inFront}
+use Rattle.rounding.specs.Sets.{scaleOf}
+use Rattle.message.specs.Lengths.{messageLength}
+use Rattle.book.specs.Book.{widthOf}
+use Rattle.column.specs.Layout.{begunWork, weights}
+use Rattle.column.specs.Work.{takenWork}
+use Rattle.side.specs.declared.Side.{Side}
+use Rattle.side.specs.declared.Phase.{Phase}
+use Rattle.side.specs.declared.Phase.the-variants.{Sending, Taking, Finished}
+use Rattle.side.specs.Side.{begunSide, moved, message}
+use Rattle.runs.specs.Records.{Settings, Hand, Seat, World, Who, Call, Move}
+use Rattle.runs.specs.Records.Who.{mine, theirs}
+use Rattle.runs.specs.Records.Call.{begin, send, takeLatest, answer, count}
+
+-- ---- One side after m of its 14 steps: server send, take, send ..; phone take, send, take ..
+
+-- the rounds it has taken, and sent
+abbrev pub takenBy : ℕ → ℕ → ℕ
+takenBy number m = (m + number) / 2
+
+abbrev pub sentBy : ℕ → ℕ → ℕ
+sentBy number m = (m + (1 - number)) / 2
+
+-- numbers R: the numbers that round R + 1 opens
+module _ (k : ℕ) (s : Settings) (serial : ℕ) (numbers : ℕ → List ℕ) (h : Hand) where
+  -- the working slice after so many rounds
+  unfoldable pub workAt : ℕ → List ℕ
+  workAt zero = begunWork (scaleOf (s .set)) (s .kind) (s .n) (widthOf k) (h .inputs) (h .book)
+  workAt (suc rounds) =
+      let ns = numbers rounds in
+      takenWork (scaleOf (s .set)) (s .kind) (s .n) (s .bound) (suc rounds) (λ (o : ℕ). getD ns o 0)
+      (weights k (h .number) (h .keys)) (workAt rounds)
+
+  abbrev pub phaseAt : ℕ → Phase
+  phaseAt m =
+      cond (eqb m 14) Finished
+      (cond (eqb (m % 2) (h .number)) Sending Taking)
+
+  unfoldable pub sideAt : ℕ → Side
+  sideAt m =
+      moved (begunSide (h .number) (s .set) (s .kind) (s .n) (s .bound) (h .keys) serial)
+      (cond (eqb m 14) 7 (m / 2 + 1)) (phaseAt m)
+      (cond (eqb (takenBy (h .number) m) 7) (inFront (numbers 6) (replicate 8 0)) (replicate 8 0))
+
+  -- the message of a round: what it sends at the step 2 × (round − 1), the phone one step later
+  unfoldable pub messageAt : ℕ → List ℕ
+  messageAt round =
+      let m = 2 * (round - 1) + h .number in
+      message k (sideAt m) (workAt (takenBy (h .number) m))
+
+  unfoldable pub seatAt : ℕ → Seat
+  seatAt m =
+      let sends = sentBy (h .number) m in
+      record { side = sideAt m; work = workAt (takenBy (h .number) m); latest = cond (eqb sends 0) [] (messageAt sends) }
+
+-- ---- Progress: one count for each side, 0 if it has not begun in this list, else 1 + its steps
+
+pub record Counts : Type 0 where
+  pub own : ℕ
+  pub other : ℕ
+
+abbrev pub none : Counts
+none = record { own = 0; other = 0 }
+
+abbrev pub takenOf : ℕ → ℕ → ℕ
+takenOf number zero = 0
+takenOf number (suc m) = takenBy number m
+
+abbrev pub sentOf : ℕ → ℕ → ℕ
+sentOf number zero = 0
+sentOf number (suc m) = sentBy number m
+
+-- a step that is made if it is due
+abbrev pub onward : Bool → ℕ → ℕ
+onward due c = cond due (suc c) c
+
+abbrev pub roomFor : ℕ → Settings → ℕ → ℕ → Bool
+roomFor k s round room = leb (messageLength k (s .kind) (s .n) round) room
+
+-- what a call at side `number` makes of its count; heard: how many messages the other side has sent
+module _ (k : ℕ) (s : Settings) (number heard : ℕ) where
+  unfoldable pub next : Call → ℕ → ℕ
+  next begin zero = 1
+  next begin (suc m) = suc m
+  next (send out) zero = zero
+  next (send out) (suc m) = onward (eqb (m % 2) number && ltb m 14 && roomFor k s (m / 2 + 1) (length out)) (suc m)
+  next takeLatest zero = zero
+  next takeLatest (suc m) = onward (not (eqb (m % 2) number) && ltb m 14 && ltb (takenBy number m) heard) (suc m)
+  next (answer out) c = c
+  next count c = c
+
+-- `own` is side `number`
+module _ (k : ℕ) (s : Settings) (number : ℕ) where
+  unfoldable pub stepCounts : Counts → Who → Call → Counts
+  stepCounts c mine call = record { own = next k s number (sentOf (1 - number) (c .other)) call (c .own); other = c .other }
+  stepCounts c theirs call = record { own = c .own; other = next k s (1 - number) (sentOf number (c .own)) call (c .other) }
+
+  unfoldable pub countsAfter : Counts → List Move → Counts
+  countsAfter c [] = c
+  countsAfter c (m ∷ ms) = countsAfter (stepCounts c (m .who) (m .call)) ms
+
+-- ---- The world at its counts, from the world at the start
+
+module _ (k : ℕ) (s : Settings) (serial : ℕ) (numbers : ℕ → List ℕ) where
+  -- the seat of one side: as it started, or after its steps
+  abbrev pub seatFrom : Hand → Seat → ℕ → Seat
+  seatFrom h x zero = x
+  seatFrom h x (suc m) = seatAt k s serial numbers h m
+
+  unfoldable pub worldAt : Hand → Hand → World → Counts → World
+  worldAt h o w c = record { own = seatFrom h (w .own) (c .own); other = seatFrom o (w .other) (c .other) }

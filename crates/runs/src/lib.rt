@@ -1,0 +1,1 @@
+// Every honest run finishes with what FIPS 204 gives. Theorems only.

@@ -1,0 +1,65 @@
+-- T5, from T2: the pairing is one to one, keeps possible draws, the opened numbers and the own book.
+use mathlib.Core.Path.{_≡_, sym, _∙_}
+use mathlib.Core.List.{List}
+use mathlib.Core.Bool.{true}
+use Prim.Native.Nat.{ℕ, _<_}
+use native.Mathlib.Decide.{decLt}
+use native.Mathlib.Omega.{arith}
+use lib.Dec.{eqb}
+use Rattle.rounding.specs.Sets.{scaleOf}
+use Rattle.book.specs.Book.{widthOf}
+use Rattle.book.specs.Deal.{multipliers}
+use Rattle.column.specs.Run.{plainOpened}
+use Rattle.column.specs.Theorems.{T2}
+use Rattle.runs.specs.Records.{Settings, settingsOk, answerOf, bookOf}
+use Rattle.runs.specs.Demands.{Secret, Possible}
+use Rattle.secrecy.specs.Paired.{paired}
+use Rattle.secrecy.specs.Theorems.{T5}
+use Rattle.secrecy.proofs.Backs.{good-paired, same-books, back-paired, rounds-same}
+use Rattle.secrecy.proofs.Shapes.{sound, good, able, shapes}
+
+module _ (k : ℕ) (t2 : T2) (s : Settings) (number : ℕ) (keys0 keys1 : List ℕ) where
+  abbrev There : List ℕ → List ℕ → List ℕ → List ℕ
+  There x x′ d = paired (scaleOf (s .set)) (s .kind) (s .n) (s .bound) (widthOf k) x x′ number (multipliers keys0 keys1) d
+
+  abbrev Opened : List ℕ → List ℕ → ℕ → List ℕ
+  Opened d x r = plainOpened (scaleOf (s .set)) (s .kind) (s .n) (s .bound) (widthOf k) d x r
+
+  possible : (x x′ d : List ℕ) → Possible k s d → Possible k s (There x x′ d)
+  possible x x′ d hd =
+      able k s _ (good-paired (scaleOf (s .set)) (s .kind) (s .n) (s .bound) (widthOf k) (omega arith) x x′ (multipliers keys0 keys1) d (good k s d hd) number)
+
+  back : (x x′ d : List ℕ) → settingsOk s ≡ true → Secret s x → Secret s x′ → Possible k s d → There x′ x (There x x′ d) ≡ d
+  back x x′ d ok hx hx′ hd =
+      back-paired (scaleOf (s .set)) (s .kind) (s .n) (s .bound) (widthOf k) (omega arith) x x′
+      (shapes k t2 s x ok hx) (shapes k t2 s x′ ok hx′) (multipliers keys0 keys1) d (good k s d hd) number
+
+  -- round 7 opens the answer
+  answers : (x d : List ℕ) → settingsOk s ≡ true → Secret s x → Possible k s d → Opened d x 6 ≡ answerOf s x
+  unfolding answerOf
+  answers x d ok hx hd = t2 .answer (scaleOf (s .set)) (s .kind) (s .n) (s .bound) k d x (sound k s x d ok hx hd)
+
+  same-openings : (x x′ d : List ℕ) → settingsOk s ≡ true → Secret s x → Secret s x′ → Possible k s d → answerOf s x ≡ answerOf s x′
+      → (r : ℕ) → r < 7 → Opened (There x x′ d) x′ r ≡ Opened d x r
+  same-openings x x′ d ok hx hx′ hd e r b = by (decLt r 6)
+    where
+      by : Dec (r < 6) → Opened (There x x′ d) x′ r ≡ Opened d x r
+      by (yes h) =
+          rounds-same (scaleOf (s .set)) (s .kind) (s .n) (s .bound) (widthOf k) (omega arith) x x′
+          (shapes k t2 s x ok hx) (shapes k t2 s x′ ok hx′) (multipliers keys0 keys1) d (good k s d hd) number r h
+      by (no h) =
+          let six : r ≡ 6 = omega arith in
+          rw six (answers x′ (There x x′ d) ok hx′ (possible x x′ d hd) ∙ sym e ∙ sym (answers x d ok hx hd))
+
+  same-book : (x x′ d : List ℕ) → Possible k s d → bookOf k s number keys0 keys1 (There x x′ d) ≡ bookOf k s number keys0 keys1 d
+  unfolding paired
+  same-book x x′ d hd =
+      same-books (scaleOf (s .set)) (s .kind) (s .n) (s .bound) (widthOf k) (omega arith) x x′ (multipliers keys0 keys1) d (good k s d hd) (omega arith) (eqb number 0)
+
+pub five : (k : ℕ) → T2 → T5 k
+five k t2 = record {
+  possible = λ s number keys0 keys1 x x′ d ok hx hx′ hd. possible k t2 s number keys0 keys1 x x′ d hd;
+  back = λ s number keys0 keys1 x x′ d ok hx hx′ hd. back k t2 s number keys0 keys1 x x′ d ok hx hx′ hd;
+  same-openings = λ s number keys0 keys1 x x′ d ok hx hx′ hd e r b. same-openings k t2 s number keys0 keys1 x x′ d ok hx hx′ hd e r b;
+  same-book = λ s number keys0 keys1 x x′ d ok hn hx hx′ hd. same-book k t2 s number keys0 keys1 x x′ d hd;
+}

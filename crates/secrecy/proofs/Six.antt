@@ -1,0 +1,87 @@
+-- T6, demand 3: whoever keeps one side's whole record cannot tell two alike secrets apart. For any number of keys.
+use mathlib.Core.Path.{_≡_, refl, sym, ap, subst}
+use mathlib.Core.List.{List}
+use mathlib.Core.Bool.{cond}
+use Prim.Native.Nat.{ℕ, _<_}
+use lib.Dec.{eqb}
+use Rattle.rounding.specs.Sets.{scaleOf}
+use Rattle.book.specs.Book.{widthOf}
+use Rattle.book.specs.Deal.{multipliers}
+use Rattle.column.specs.Run.{plainOpened}
+use Rattle.column.specs.Theorems.{T1Work, T2}
+use Rattle.runs.specs.Records.{Settings, Hand, World, Move, Event, answerOf, worldAfter, events, recordOf}
+use Rattle.runs.specs.Demands.{Fixed, Secret, Shares, Possible, Start, ownHand, otherHand}
+use Rattle.runs.specs.Progress.{none, countsAfter, worldAt}
+use Rattle.runs.specs.Theorems.{T3}
+use Rattle.secrecy.specs.Paired.{paired}
+use Rattle.secrecy.specs.Theorems.{T5}
+use Rattle.secrecy.specs.Joined.{JoinedRun}
+use Rattle.secrecy.specs.Demands.{Demand3}
+use Rattle.secrecy.proofs.Shapes.{fine}
+use Rattle.secrecy.proofs.Five.{five}
+use Rattle.secrecy.proofs.Twins.{Ran, log-same}
+use Rattle.secrecy.proofs.Joint.{ran}
+use Rattle.secrecy.proofs.Begun.{joined}
+
+module _ (k : ℕ) (t1 : T1Work) (t3 : T3 k) (t5 : T5 k) (joined : JoinedRun k)
+    (s : Settings) (serial : ℕ) (keys0 keys1 : List ℕ) (f : Fixed k s serial keys0 keys1) (number : ℕ) (u : number < 2)
+    (inputs x x′ : List ℕ) (hi : Shares k s inputs) (hx : Secret s x) (hx′ : Secret s x′) where
+  abbrev There : List ℕ → List ℕ → List ℕ → List ℕ
+  There x x′ d = paired (scaleOf (s .set)) (s .kind) (s .n) (s .bound) (widthOf k) x x′ number (multipliers keys0 keys1) d
+
+  abbrev N : List ℕ → List ℕ → ℕ → List ℕ
+  N x d rounds = plainOpened (scaleOf (s .set)) (s .kind) (s .n) (s .bound) (widthOf k) d x rounds
+
+  abbrev own : List ℕ → Hand
+  own d = ownHand k s number keys0 keys1 inputs d
+
+  abbrev other : List ℕ → List ℕ → Hand
+  other x d = otherHand k s number keys0 keys1 inputs x d
+
+  module _ (alike : answerOf s x ≡ answerOf s x′) (d : List ℕ) (hd : Possible k s d) (w : World) (start : Start k serial w) where
+    abbrev d′ : List ℕ
+    d′ = There x x′ d
+
+    possible : Possible k s d′
+    possible = t5 .possible s number keys0 keys1 x x′ d (f .settings) hx hx′ hd
+
+    -- the own hand is the same
+    same-hand : own d′ ≡ own d
+    same-hand =
+        ap (λ (book : List ℕ). record { number = number; keys = cond (eqb number 0) keys0 keys1; inputs = inputs; book = book })
+        (t5 .same-book s number keys0 keys1 x x′ d (f .settings) u hx hx′ hd)
+
+    same-log : (calls : List Move) → events k s serial (own d) (other x d) w calls ≡ events k s serial (own d) (other x′ d′) w calls
+    same-log =
+        let g = fine s (f .settings) in
+        log-same t1 k s serial (multipliers keys0 keys1) (g .some) (g .most) (N x d) (N x′ d′)
+        (λ r l. sym (t5 .same-openings s number keys0 keys1 x x′ d (f .settings) hx hx′ hd alike r l))
+        (own d) (other x d) (other x′ d′)
+        (ran t1 k joined s serial keys0 keys1 f inputs hi x d hx hd number u)
+        (subst (λ h. Ran k s serial (multipliers keys0 keys1) (N x′ d′) h (other x′ d′)) same-hand (ran t1 k joined s serial keys0 keys1 f inputs hi x′ d′ hx′ possible number u))
+        refl number u w
+        (λ calls. t3 s serial keys0 keys1 f number u x inputs d hx hi hd w start calls)
+        (λ calls. subst (λ h. worldAfter k s serial h (other x′ d′) w calls ≡ worldAt k s serial (N x′ d′) h (other x′ d′) w (countsAfter k s number none calls)) same-hand
+        (t3 s serial keys0 keys1 f number u x′ inputs d′ hx′ hi possible w start calls))
+
+    same-record : (calls : List Move) → recordOf k s serial (own d) (other x d) w calls ≡ recordOf k s serial (own d′) (other x′ d′) w calls
+    same-record calls =
+        subst (λ h. recordOf k s serial (own d) (other x d) w calls ≡ recordOf k s serial h (other x′ d′) w calls) (sym same-hand)
+        (ap (λ (log : List Event). record { keys = own d .keys; inputs = inputs; book = own d .book; log = log }) (same-log calls))
+
+-- from slices that add up along the run
+pub demand3-by : (k : ℕ) → T1Work → T2 → T3 k → JoinedRun k → Demand3 k
+demand3-by k t1 t2 t3 joined s serial keys0 keys1 f number u inputs x x′ hi hx hx′ alike =
+    let t5 = five k t2 in
+    record {
+      there = λ d. paired (scaleOf (s .set)) (s .kind) (s .n) (s .bound) (widthOf k) x x′ number (multipliers keys0 keys1) d;
+      back = λ d. paired (scaleOf (s .set)) (s .kind) (s .n) (s .bound) (widthOf k) x′ x number (multipliers keys0 keys1) d;
+      there-possible = λ d hd. t5 .possible s number keys0 keys1 x x′ d (f .settings) hx hx′ hd;
+      back-possible = λ d hd. t5 .possible s number keys0 keys1 x′ x d (f .settings) hx′ hx hd;
+      back-there = λ d hd. t5 .back s number keys0 keys1 x x′ d (f .settings) hx hx′ hd;
+      there-back = λ d hd. t5 .back s number keys0 keys1 x′ x d (f .settings) hx′ hx hd;
+      same-records = λ d hd w start calls. same-record k t1 t3 t5 joined s serial keys0 keys1 f number u inputs x x′ hi hx hx′ alike d hd w start calls;
+    }
+
+pub demand3 : (k : ℕ) → T1Work → T2 → T3 k → Demand3 k
+demand3 k t1 t2 t3 = demand3-by k t1 t2 t3 (joined k t1)

@@ -1,0 +1,16 @@
+-- Demand 3, for any number of keys.
+use Prim.Native.Nat.{ℕ}
+use Rattle.column.proofs.Joins.{work-joins}
+use Rattle.column.proofs.PlainRun.{plain-run}
+use Rattle.runs.proofs.Theorem.{progress}
+use Rattle.secrecy.specs.Theorems.{T5}
+use Rattle.secrecy.specs.Demands.{Demand3}
+use Rattle.secrecy.proofs.Five.{five}
+use Rattle.secrecy.proofs.Six.{demand3}
+
+-- the pairing of draws
+pub draws-pair : (k : ℕ) → T5 k
+draws-pair k = five k plain-run
+
+pub records-tell-nothing : (k : ℕ) → Demand3 k
+records-tell-nothing k = demand3 k work-joins plain-run (progress k)

@@ -1,0 +1,36 @@
+-- Demand 3, as a type: whoever keeps one side's whole record cannot tell two alike secrets apart.
+use Prim.Native.Nat.{ℕ, _<_}
+use mathlib.Core.Path.{_≡_}
+use mathlib.Core.List.{List}
+use Rattle.runs.specs.Records.{Settings, answerOf, World, Move, recordOf}
+use Rattle.runs.specs.Demands.{Fixed, Secret, Shares, Possible, Start, ownHand, otherHand}
+
+-- draws under the first secret x pair off one to one with draws under the second x′: "one pairing of draws serves all lists"
+pub record Pairing (k : ℕ) (s : Settings) (serial : ℕ) (keys0 keys1 : List ℕ) (number : ℕ) (inputs x x′ : List ℕ) : Type 0 where
+  pub there : List ℕ → List ℕ
+  pub back : List ℕ → List ℕ
+  pub there-possible : (draw : List ℕ) → Possible k s draw → Possible k s (there draw)
+  pub back-possible : (draw : List ℕ) → Possible k s draw → Possible k s (back draw)
+  pub back-there : (draw : List ℕ) → Possible k s draw → back (there draw) ≡ draw
+  pub there-back : (draw : List ℕ) → Possible k s draw → there (back draw) ≡ draw
+  pub same-records : (draw : List ℕ)
+      → Possible k s draw
+      → (w : World)
+      → Start k serial w
+      → (calls : List Move)
+      → recordOf k s serial (ownHand k s number keys0 keys1 inputs draw) (otherHand k s number keys0 keys1 inputs x draw) w calls
+      ≡ recordOf k s serial (ownHand k s number keys0 keys1 inputs (there draw)) (otherHand k s number keys0 keys1 inputs x′ (there draw)) w calls
+
+-- "For each side and any two alike secrets": "two secrets are alike if their answers are equal"
+abbrev pub Demand3 : ℕ → Type 0
+Demand3 k =
+    (s : Settings) (serial : ℕ) (keys0 keys1 : List ℕ)
+    → Fixed k s serial keys0 keys1
+    → (number : ℕ)
+    → number < 2
+    → (inputs x x′ : List ℕ)
+    → Shares k s inputs
+    → Secret s x
+    → Secret s x′
+    → answerOf s x ≡ answerOf s x′
+    → Pairing k s serial keys0 keys1 number inputs x x′

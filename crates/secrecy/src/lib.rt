@@ -1,0 +1,1 @@
+// One side's whole record tells nothing but the answer. Theorems only.

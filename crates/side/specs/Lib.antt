@@ -1,0 +1,3 @@
+-- A side and its calls.
+pub mod Side
+pub mod Work

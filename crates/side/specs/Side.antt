@@ -1,0 +1,283 @@
+-- A side: begin, send, take, answer and opening count, as functions from what is handed in to all that comes out.
+-- k is the number of keys a side, 1 in this request.
+use Prim.Native.Nat.{ℕ, _+_, _*_, _-_, _%_}
+use mathlib.Core.Bool.{Bool, true, false, cond, not, _&&_, _||_}
+use mathlib.Core.List.{List, [], _∷_}
+use lib.Dec.{eqb, leb, ltb}
+use lib.ListN.{length, getD, replicate}
+use Rattle.lists.specs.Answers.{ask}
+use Rattle.lists.specs.Lists.{allBelow, allTo, listTo, joinTo, inFront}
+use Rattle.field.specs.Field.{q, add, mul}
+use Rattle.rounding.specs.Sets.{scaleOf}
+use Rattle.rounding.specs.Questions.{askSettings, keysOk}
+use Rattle.message.specs.Lengths.{roundOk, openings, openingsUpTo, fieldCount, messageLength}
+use Rattle.message.specs.Message.{headerNumber, messageOf, fieldIn, askForm}
+use Rattle.book.specs.Book.{shared, widthOf}
+use Rattle.column.specs.Layout.{workLength, column, ownIn, maskedIn, begunWork, weights}
+use Rattle.column.specs.Steps.{publicOf}
+use Rattle.column.specs.Work.{openingOn, takenWork}
+use Rattle.side.specs.declared.Side.{Side}
+use Rattle.side.specs.declared.Done.{Done}
+use Rattle.side.specs.declared.Sent.{Sent}
+use Rattle.side.specs.declared.Told.{Told}
+use Rattle.side.specs.declared.Phase.{Phase}
+use Rattle.side.specs.declared.Phase.the-variants.{Sending, Taking, Stopped, Finished}
+
+-- ---- Sizes
+
+-- the column of the part under key i of side `number`
+abbrev pub partColumn : ℕ → ℕ → ℕ → ℕ
+partColumn k number i = 1 + number * k + i
+
+-- places of an answer: "N places for HIGH, 1 for BOUND"
+abbrev pub answerPlaces : ℕ → ℕ → ℕ
+answerPlaces kind n = cond (eqb kind 0) n 1
+
+-- ---- States
+
+abbrev pub isSending : Phase → Bool
+isSending Sending = true
+isSending Taking = false
+isSending Stopped = false
+isSending Finished = false
+
+abbrev pub isTaking : Phase → Bool
+isTaking Sending = false
+isTaking Taking = true
+isTaking Stopped = false
+isTaking Finished = false
+
+abbrev pub isFinished : Phase → Bool
+isFinished Sending = false
+isFinished Taking = false
+isFinished Stopped = false
+isFinished Finished = true
+
+-- "Kept fields that break 1 to 4, serial 0, or a round outside 1 to 7 count as stopped"
+unfoldable pub whole : Side → Bool
+whole s =
+    eqb
+    (askSettings (s .number) (s .set) (s .kind) (s .n) (s .bound)
+    (ask (keysOk (s .keys)) 4
+    (ask (leb 1 (s .serial) && roundOk (s .round)) 8
+    0)))
+    0
+
+unfoldable pub sendDue : Side → Bool
+sendDue s = whole s && isSending (s .phase)
+
+unfoldable pub takeDue : Side → Bool
+takeDue s = whole s && isTaking (s .phase)
+
+unfoldable pub underWay : Side → Bool
+underWay s = sendDue s || takeDue s
+
+unfoldable pub finished : Side → Bool
+finished s = whole s && isFinished (s .phase)
+
+-- a side at first: "(0 at first)"
+abbrev pub freshSide : Side
+freshSide =
+    record { number = 0; set = 0; kind = 0; n = 0; bound = 0; keys = 0 ∷ []; serial = 0; round = 0; phase = Stopped; answer = replicate 8 0 }
+
+-- the side at another round, in another phase, with another answer
+abbrev pub moved : Side → ℕ → Phase → List ℕ → Side
+moved s round phase answer =
+    record { number = s .number; set = s .set; kind = s .kind; n = s .n; bound = s .bound; keys = s .keys; serial = s .serial; round = round; phase = phase; answer = answer }
+
+-- the side in another phase
+abbrev pub inPhase : Side → Phase → Side
+inPhase s phase = moved s (s .round) phase (s .answer)
+
+-- ---- Begin
+
+-- questions 4 to 7 of begin; question 5: inputs, book and working slice; question 6: inputs and book
+unfoldable pub handedNo : ℕ → Side → ℕ → ℕ → ℕ → List ℕ → ℕ → List ℕ → List ℕ → List ℕ → ℕ
+handedNo k s set kind n keys serial inputs book work =
+    ask (keysOk keys) 4
+    (ask
+    (eqb (length inputs) (n * widthOf k)
+    && eqb (length book) (shared (scaleOf set) kind n * widthOf k)
+    && eqb (length work) (workLength k))
+    5
+    (ask (allBelow q inputs && allBelow q book) 6
+    (ask (ltb (s .serial) serial) 7
+    0)))
+
+-- "Begin: 8 (no run under way), 1 to 7"
+unfoldable pub beginNo : ℕ → Side → ℕ → ℕ → ℕ → ℕ → ℕ → List ℕ → ℕ → List ℕ → List ℕ → List ℕ → ℕ
+beginNo k s number set kind n bound keys serial inputs book work =
+    ask (not (underWay s)) 8
+    (askSettings number set kind n bound
+    (handedNo k s set kind n keys serial inputs book work))
+
+-- round 1, the server to send, the phone to take
+unfoldable pub begunSide : ℕ → ℕ → ℕ → ℕ → ℕ → List ℕ → ℕ → Side
+begunSide number set kind n bound keys serial =
+    record { number = number; set = set; kind = kind; n = n; bound = bound; keys = keys; serial = serial; round = 1; phase = cond (eqb number 0) Sending Taking; answer = replicate 8 0 }
+
+-- a call's result, and the lent slice at exit
+pub record After : Type 0 where
+  pub done : Done
+  pub work : List ℕ
+
+abbrev pub after : ℕ → Side → List ℕ → After
+after refused s work = record { done = record { refused = refused; side = s }; work = work }
+
+-- "A no returns its number, with side, buffers and last serial unchanged"
+unfoldable pub beginCall : ℕ → Side → ℕ → ℕ → ℕ → ℕ → ℕ → List ℕ → ℕ → List ℕ → List ℕ → List ℕ → After
+beginCall k s number set kind n bound keys serial inputs book work =
+    let refusal = beginNo k s number set kind n bound keys serial inputs book work in
+    cond (eqb refusal 0)
+    (after 0 (begunSide number set kind n bound keys serial) (begunWork (scaleOf set) kind n (widthOf k) inputs book))
+    (after refusal s work)
+
+-- ---- What a side has for the openings of its round
+
+-- opening o in column c, worked out from the working slice
+unfoldable pub prepared : ℕ → Side → List ℕ → ℕ → ℕ → ℕ
+prepared k s work c o =
+    openingOn (publicOf (scaleOf (s .set)) (s .kind) (s .n) (s .bound) (maskedIn work)) (s .round)
+    (getD (weights k (s .number) (s .keys)) c 0) (column work c) o
+
+-- to be sent: the server works its openings out, the phone kept its own when it took the round
+unfoldable pub outgoing : ℕ → Side → List ℕ → ℕ → ℕ → ℕ
+outgoing k s work c o = cond (eqb (s .number) 0) (prepared k s work c o) (ownIn work c o)
+
+-- ---- Send
+
+-- "Send: 8, 5, 6, 9"
+unfoldable pub sendNo : ℕ → Side → List ℕ → List ℕ → ℕ
+sendNo k s work out =
+    ask (sendDue s) 8
+    (ask (eqb (length work) (workLength k)) 5
+    (ask (allBelow q work) 6
+    (ask (leb (messageLength k (s .kind) (s .n) (s .round)) (length out)) 9
+    0)))
+
+-- "sends its share and its part under the receiver's key", "coefficient by coefficient"
+unfoldable pub message : ℕ → Side → List ℕ → List ℕ
+message k s work =
+    messageOf (headerNumber (s .number) (s .set) (s .kind) (s .n) (s .bound) (s .round) (s .serial))
+    (joinTo (openings (s .kind) (s .n) (s .round)) (λ (o : ℕ).
+    outgoing k s work 0 o ∷ listTo k (λ (i : ℕ). outgoing k s work (partColumn k (1 - s .number) i) o)))
+
+-- the server then takes; the phone goes to the next round, or "finishes on sending round 7"
+unfoldable pub sentSide : Side → Side
+sentSide s =
+    cond (eqb (s .number) 0) (inPhase s Taking)
+    (cond (eqb (s .round) 7) (inPhase s Finished)
+    (moved s (s .round + 1) Taking (s .answer)))
+
+pub record AfterSend : Type 0 where
+  pub sent : Sent
+  pub out : List ℕ
+
+abbrev pub afterSend : ℕ → ℕ → Side → List ℕ → AfterSend
+afterSend refused count s out = record { sent = record { refused = refused; length = count; side = s }; out = out }
+
+unfoldable pub sendCall : ℕ → Side → List ℕ → List ℕ → AfterSend
+sendCall k s work out =
+    let refusal = sendNo k s work out in
+    cond (eqb refusal 0)
+    (afterSend 0 (messageLength k (s .kind) (s .n) (s .round)) (sentSide s) (inFront (message k s work) out))
+    (afterSend refusal 0 s out)
+
+-- ---- Take
+
+-- field f of opening o of a message
+unfoldable pub incoming : ℕ → Side → List ℕ → ℕ → ℕ → ℕ
+incoming k s msg o f = fieldIn (fieldCount k (s .kind) (s .n) (s .round)) msg (o * (1 + k) + f)
+
+-- "the joined number" of opening o
+unfoldable pub opened : ℕ → Side → List ℕ → List ℕ → ℕ → ℕ
+opened k s work msg o = add q (prepared k s work 0 o) (incoming k s msg o 0)
+
+-- "The check: the two parts under my key add to my key × the joined number", for each of my keys
+unfoldable pub passes : ℕ → Side → List ℕ → List ℕ → ℕ → Bool
+passes k s work msg o =
+    allTo k (λ (i : ℕ).
+    eqb
+    (add q (prepared k s work (partColumn k (s .number) i) o) (incoming k s msg o (1 + i)))
+    (mul q (getD (s .keys) i 0) (opened k s work msg o)))
+
+-- "Take: 8, 5, 6, 10 to 13"
+unfoldable pub takeNo : ℕ → Side → List ℕ → List ℕ → ℕ
+takeNo k s work msg =
+    ask (takeDue s) 8
+    (ask (eqb (length work) (workLength k)) 5
+    (ask (allBelow q work) 6
+    (askForm k (s .number) (s .set) (s .kind) (s .n) (s .bound) (s .round) (s .serial) msg
+    (ask (allTo (openings (s .kind) (s .n) (s .round)) (passes k s work msg)) 13
+    0))))
+
+-- the opened numbers as a list
+unfoldable pub openedList : ℕ → Side → List ℕ → List ℕ → List ℕ
+openedList k s work msg = listTo (openings (s .kind) (s .n) (s .round)) (opened k s work msg)
+
+-- "The opened answer is kept in the side"
+abbrev pub answerAfter : Side → List ℕ → List ℕ
+answerAfter s numbers =
+    cond (eqb (s .round) 7) (inFront numbers (s .answer)) (s .answer)
+
+-- the phone then sends; the server goes to the next round, or finishes on taking round 7
+unfoldable pub takenSide : Side → List ℕ → Side
+takenSide s numbers =
+    cond (eqb (s .number) 0)
+    (cond (eqb (s .round) 7)
+    (moved s (s .round) Finished (answerAfter s numbers))
+    (moved s (s .round + 1) Sending (s .answer)))
+    (moved s (s .round) Sending (answerAfter s numbers))
+
+-- "only 13 also marks the side stopped"
+unfoldable pub takeCall : ℕ → Side → List ℕ → List ℕ → After
+takeCall k s work msg =
+    let refusal = takeNo k s work msg in
+    let numbers = openedList k s work msg in
+    cond (eqb refusal 0)
+    (after 0 (takenSide s numbers)
+    (takenWork (scaleOf (s .set)) (s .kind) (s .n) (s .bound) (s .round) (λ (o : ℕ). getD numbers o 0)
+    (weights k (s .number) (s .keys)) work))
+    (cond (eqb refusal 13)
+    (after 13 (inPhase s Stopped) work)
+    (after refusal s work))
+
+-- ---- Answer
+
+-- "Answer: 8 (run finished), 9"
+unfoldable pub answerNo : Side → List ℕ → ℕ
+answerNo s out =
+    ask (finished s) 8
+    (ask (leb (answerPlaces (s .kind) (s .n)) (length out)) 9
+    0)
+
+-- the answer that a finished side holds
+abbrev pub heldAnswer : Side → List ℕ
+heldAnswer s = listTo (answerPlaces (s .kind) (s .n)) (λ (j : ℕ). getD (s .answer) j 0)
+
+pub record AfterAnswer : Type 0 where
+  pub told : Told
+  pub out : List ℕ
+
+abbrev pub afterAnswer : ℕ → ℕ → List ℕ → AfterAnswer
+afterAnswer refused count out = record { told = record { refused = refused; length = count }; out = out }
+
+unfoldable pub answerCall : Side → List ℕ → AfterAnswer
+answerCall s out =
+    let refusal = answerNo s out in
+    cond (eqb refusal 0)
+    (afterAnswer 0 (answerPlaces (s .kind) (s .n)) (inFront (heldAnswer s) out))
+    (afterAnswer refusal 0 out)
+
+-- ---- Opening count
+
+-- rounds whose openings were accepted in the latest run
+unfoldable pub roundsTaken : Side → ℕ
+roundsTaken s =
+    cond (isFinished (s .phase)) 7
+    (cond (eqb (s .number) 1 && isSending (s .phase)) (s .round)
+    (s .round - 1))
+
+-- "worked out from its settings and the rounds taken; 0 if none has begun or kept fields are broken"
+unfoldable pub countCall : Side → ℕ
+countCall s = cond (whole s) (openingsUpTo (s .kind) (s .n) (roundsTaken s)) 0
