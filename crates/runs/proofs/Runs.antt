@@ -22,7 +22,7 @@ use Rattle.column.specs.Run.{openedFrom, plainAfter, plainOpened}
 use Rattle.column.specs.Theorems.{T1Work}
 use Rattle.side.specs.Side.{partColumn}
 use Rattle.runs.specs.Records.{Settings, Hand, handOf, missing}
-use Rattle.runs.specs.Demands.{Numbers, Secret, Shares}
+use Rattle.runs.specs.Demands.{Fixed, Numbers, Secret, Shares, Possible, ownHand, otherHand}
 use Rattle.runs.specs.Progress.{workAt, messageAt}
 use Rattle.runs.specs.Honest.{SideRuns, Runs}
 use Rattle.runs.proofs.Start.{length-missing, below-missing, missing-adds}
@@ -44,7 +44,13 @@ second-keys keys0 keys1 k i e =
     let z : partColumn k 1 i ≡ suc (length keys0 + i) = omega arith in
     rw z (getD-append-add keys0 keys1 i 0)
 
-module _ (t : T1Work) (m : RoundTrip) (b : Laws) (k : ℕ) (s : Settings) (serial : ℕ)
+-- opening j of round R + 1 in the plain run
+abbrev pub plainOpening : ℕ → Settings → List ℕ → List ℕ → ℕ → ℕ → ℕ
+plainOpening k s draw secret R j =
+    let work : List ℕ = plainAfter (scaleOf (s .set)) (s .kind) (s .n) (s .bound) (widthOf k) draw secret R in
+    openingOn (publicOf (scaleOf (s .set)) (s .kind) (s .n) (s .bound) (maskedIn work)) (suc R) 1 (column work 0) j
+
+module _ (t : T1Work) (b : Laws) (k : ℕ) (s : Settings) (serial : ℕ)
     (keys0 keys1 secret draw inA inB : List ℕ) (g : Joint k s serial keys0 keys1 secret draw inA inB) where
   abbrev numbers : ℕ → List ℕ
   numbers R = plainOpened (scaleOf (s .set)) (s .kind) (s .n) (s .bound) (widthOf k) draw secret R
@@ -61,9 +67,8 @@ module _ (t : T1Work) (m : RoundTrip) (b : Laws) (k : ℕ) (s : Settings) (seria
   z : Slices k s serial numbers column-at keys0 keys1 A B
   z = slices t b k s serial keys0 keys1 secret draw inA inB g
 
-  -- opening j of round R + 1 in the plain run
   abbrev plain : ℕ → ℕ → ℕ
-  plain R j = openingOn (publicOf (scaleOf (s .set)) (s .kind) (s .n) (s .bound) (maskedIn (column-at R))) (suc R) 1 (column (column-at R) 0) j
+  plain R j = plainOpening k s draw secret R j
 
   -- T1: what the two sides have for an opening
   shares-add : (R c j : ℕ) → c < 1 + 2 * k
@@ -108,9 +113,9 @@ module _ (t : T1Work) (m : RoundTrip) (b : Laws) (k : ℕ) (s : Settings) (seria
         low = plain-below;
       }
 
-  side-runs : (h o : Hand) → Facing k s serial numbers (multipliers keys0 keys1) plain h o → Shares k s (h .inputs)
+  side-runs : RoundTrip → (h o : Hand) → Facing k s serial numbers (multipliers keys0 keys1) plain h o → Shares k s (h .inputs)
       → Numbers (shared (scaleOf (s .set)) (s .kind) (s .n) * widthOf k) (h .book) → SideRuns k s serial numbers h (messageAt k s serial numbers o)
-  side-runs h o v ins bk =
+  side-runs m h o v ins bk =
       record {
         exact = λ R l. v .own .exact R;
         low = λ R l. all-below q (workAt k s serial numbers h R) (v .own .low R);
@@ -119,11 +124,11 @@ module _ (t : T1Work) (m : RoundTrip) (b : Laws) (k : ℕ) (s : Settings) (seria
         meets = meets t m k s serial numbers (multipliers keys0 keys1) plain h o (g .fixed .settings) (g .fixed .fits) v;
       }
 
-  runs-a : SideRuns k s serial numbers A (messageAt k s serial numbers B)
-  runs-a = side-runs A B facing-a (g .server-ok) (z .book-a)
+  runs-a : RoundTrip → SideRuns k s serial numbers A (messageAt k s serial numbers B)
+  runs-a m = side-runs m A B facing-a (g .server-ok) (z .book-a)
 
-  runs-b : SideRuns k s serial numbers B (messageAt k s serial numbers A)
-  runs-b = side-runs B A facing-b (g .phone-ok) (z .book-b)
+  runs-b : RoundTrip → SideRuns k s serial numbers B (messageAt k s serial numbers A)
+  runs-b m = side-runs m B A facing-b (g .phone-ok) (z .book-b)
 
 -- the other side's inputs
 missing-ok : (k : ℕ) (s : Settings) (factors secret inputs : List ℕ) → Secret s secret → Shares k s (missing (widthOf k) factors secret inputs)
@@ -133,29 +138,42 @@ missing-ok k s factors secret inputs x =
       below = below-missing (widthOf k) factors secret inputs;
     }
 
+-- the own side is the server, or the phone
+module _ (k : ℕ) (s : Settings) (serial : ℕ) (keys0 keys1 : List ℕ) (f : Fixed k s serial keys0 keys1)
+    (secret inputs draw : List ℕ) (x : Secret s secret) (y : Shares k s inputs) (d : Possible k s draw) where
+  abbrev rest : List ℕ
+  rest = missing (widthOf k) (multipliers keys0 keys1) secret inputs
+
+  rest-adds : (j c : ℕ) → j < s .n → c < widthOf k
+      → Adds q (getD (multipliers keys0 keys1) c 0) (getD inputs (j * widthOf k + c) 0) (getD rest (j * widthOf k + c) 0) (getD secret j 0)
+  rest-adds j c h i = missing-adds (widthOf k) (multipliers keys0 keys1) secret inputs j c (omega (arith, x .size-is)) i
+
+  server-own : Joint k s serial keys0 keys1 secret draw inputs rest
+  server-own =
+      record { fixed = f; secret-ok = x; draw-ok = d; server-ok = y; phone-ok = missing-ok k s _ secret inputs x; adds = rest-adds }
+
+  phone-own : Joint k s serial keys0 keys1 secret draw rest inputs
+  phone-own =
+      record { fixed = f; secret-ok = x; draw-ok = d; server-ok = missing-ok k s _ secret inputs x; phone-ok = y; adds = λ j c h i. adds-swap (rest-adds j c h i) }
+
 pub runs : (k : ℕ) → T1Work → RoundTrip → Laws → Runs k
 runs k t m b s serial keys0 keys1 f zero l secret inputs draw x y d =
-    let other = missing (widthOf k) (multipliers keys0 keys1) secret inputs in
-    let g : Joint k s serial keys0 keys1 secret draw inputs other =
-    record {
-      fixed = f;
-      secret-ok = x;
-      draw-ok = d;
-      server-ok = y;
-      phone-ok = missing-ok k s _ secret inputs x;
-      adds = λ j c h i. missing-adds (widthOf k) (multipliers keys0 keys1) secret inputs j c (omega (arith, x .size-is)) i;
-    } in
-    (runs-a t m b k s serial keys0 keys1 secret draw inputs other g, runs-b t m b k s serial keys0 keys1 secret draw inputs other g)
+    let g = server-own k s serial keys0 keys1 f secret inputs draw x y d in
+    (runs-a t b k s serial keys0 keys1 secret draw _ _ g m, runs-b t b k s serial keys0 keys1 secret draw _ _ g m)
 runs k t m b s serial keys0 keys1 f (suc zero) l secret inputs draw x y d =
-    let other = missing (widthOf k) (multipliers keys0 keys1) secret inputs in
-    let g : Joint k s serial keys0 keys1 secret draw other inputs =
-    record {
-      fixed = f;
-      secret-ok = x;
-      draw-ok = d;
-      server-ok = missing-ok k s _ secret inputs x;
-      phone-ok = y;
-      adds = λ j c h i. adds-swap (missing-adds (widthOf k) (multipliers keys0 keys1) secret inputs j c (omega (arith, x .size-is)) i);
-    } in
-    (runs-b t m b k s serial keys0 keys1 secret draw other inputs g, runs-a t m b k s serial keys0 keys1 secret draw other inputs g)
+    let g = phone-own k s serial keys0 keys1 f secret inputs draw x y d in
+    (runs-b t b k s serial keys0 keys1 secret draw _ _ g m, runs-a t b k s serial keys0 keys1 secret draw _ _ g m)
 runs k t m b s serial keys0 keys1 f (suc (suc number)) l secret inputs draw x y d = absurd (omega arith)
+
+-- what a side faces
+pub facing : (k : ℕ) → T1Work → Laws
+    → (s : Settings) (serial : ℕ) (keys0 keys1 : List ℕ) → Fixed k s serial keys0 keys1
+    → (number : ℕ) → number < 2
+    → (secret inputs draw : List ℕ) → Secret s secret → Shares k s inputs → Possible k s draw
+    → Facing k s serial (plainOpened (scaleOf (s .set)) (s .kind) (s .n) (s .bound) (widthOf k) draw secret) (multipliers keys0 keys1)
+    (plainOpening k s draw secret) (ownHand k s number keys0 keys1 inputs draw) (otherHand k s number keys0 keys1 inputs secret draw)
+facing k t b s serial keys0 keys1 f zero l secret inputs draw x y d =
+    facing-a t b k s serial keys0 keys1 secret draw _ _ (server-own k s serial keys0 keys1 f secret inputs draw x y d)
+facing k t b s serial keys0 keys1 f (suc zero) l secret inputs draw x y d =
+    facing-b t b k s serial keys0 keys1 secret draw _ _ (phone-own k s serial keys0 keys1 f secret inputs draw x y d)
+facing k t b s serial keys0 keys1 f (suc (suc number)) l secret inputs draw x y d = absurd (omega arith)

@@ -81,7 +81,7 @@ module _ (k : ℕ) (s : Settings) (serial : ℕ) (numbers : ℕ → List ℕ) wh
   unfoldable pub fieldsAt : Hand → ℕ → List ℕ
   fieldsAt o R = joinTo (openings (s .kind) (s .n) (suc R)) (piece o R)
 
-  part-inside : (o : Hand) → Which o → (i : ℕ) → i < k → partColumn k (1 - o .number) i < 1 + 2 * k
+  pub part-inside : (o : Hand) → Which o → (i : ℕ) → i < k → partColumn k (1 - o .number) i < 1 + 2 * k
   part-inside _ server i l = omega arith
   part-inside _ phone i l = omega arith
 

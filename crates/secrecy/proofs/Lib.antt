@@ -7,12 +7,8 @@ pub mod Shapes
 pub mod Five
 -- Whole records of one side are equal under alike secrets (T6): the own seat, the other's messages, every list of calls.
 pub mod Own
-pub mod Sent
-pub mod Below
 pub mod Lockstep
 pub mod Twins
-pub mod Joint
-pub mod Begun
 pub mod Six
 -- All together
 pub mod Theorem

@@ -7,23 +7,22 @@ use lib.Dec.{eqb}
 use Rattle.rounding.specs.Sets.{scaleOf}
 use Rattle.book.specs.Book.{widthOf}
 use Rattle.book.specs.Deal.{multipliers}
+use Rattle.book.specs.Theorems.{Laws}
 use Rattle.column.specs.Run.{plainOpened}
 use Rattle.column.specs.Theorems.{T1Work, T2}
 use Rattle.runs.specs.Records.{Settings, Hand, World, Move, Event, answerOf, worldAfter, events, recordOf}
 use Rattle.runs.specs.Demands.{Fixed, Secret, Shares, Possible, Start, ownHand, otherHand}
 use Rattle.runs.specs.Progress.{none, countsAfter, worldAt}
 use Rattle.runs.specs.Theorems.{T3}
+use Rattle.runs.proofs.Opens.{Facing}
+use Rattle.runs.proofs.Runs.{plainOpening, facing}
 use Rattle.secrecy.specs.Paired.{paired}
 use Rattle.secrecy.specs.Theorems.{T5}
-use Rattle.secrecy.specs.Joined.{JoinedRun}
 use Rattle.secrecy.specs.Demands.{Demand3}
-use Rattle.secrecy.proofs.Shapes.{fine}
 use Rattle.secrecy.proofs.Five.{five}
-use Rattle.secrecy.proofs.Twins.{Ran, log-same}
-use Rattle.secrecy.proofs.Joint.{ran}
-use Rattle.secrecy.proofs.Begun.{joined}
+use Rattle.secrecy.proofs.Twins.{log-same}
 
-module _ (k : ℕ) (t1 : T1Work) (t3 : T3 k) (t5 : T5 k) (joined : JoinedRun k)
+module _ (k : ℕ) (t1 : T1Work) (t3 : T3 k) (t5 : T5 k) (laws : Laws)
     (s : Settings) (serial : ℕ) (keys0 keys1 : List ℕ) (f : Fixed k s serial keys0 keys1) (number : ℕ) (u : number < 2)
     (inputs x x′ : List ℕ) (hi : Shares k s inputs) (hx : Secret s x) (hx′ : Secret s x′) where
   abbrev There : List ℕ → List ℕ → List ℕ → List ℕ
@@ -37,6 +36,12 @@ module _ (k : ℕ) (t1 : T1Work) (t3 : T3 k) (t5 : T5 k) (joined : JoinedRun k)
 
   abbrev other : List ℕ → List ℕ → Hand
   other x d = otherHand k s number keys0 keys1 inputs x d
+
+  abbrev Faces : List ℕ → List ℕ → Hand → Type 0
+  Faces x d h = Facing k s serial (N x d) (multipliers keys0 keys1) (plainOpening k s d x) h (other x d)
+
+  faced : (x d : List ℕ) → Secret s x → Possible k s d → Faces x d (own d)
+  faced x d hx hd = facing k t1 laws s serial keys0 keys1 f number u x inputs d hx hi hd
 
   module _ (alike : answerOf s x ≡ answerOf s x′) (d : List ℕ) (hd : Possible k s d) (w : World) (start : Start k serial w) where
     abbrev d′ : List ℕ
@@ -53,13 +58,11 @@ module _ (k : ℕ) (t1 : T1Work) (t3 : T3 k) (t5 : T5 k) (joined : JoinedRun k)
 
     same-log : (calls : List Move) → events k s serial (own d) (other x d) w calls ≡ events k s serial (own d) (other x′ d′) w calls
     same-log =
-        let g = fine s (f .settings) in
-        log-same t1 k s serial (multipliers keys0 keys1) (g .some) (g .most) (N x d) (N x′ d′)
+        log-same t1 k s serial (multipliers keys0 keys1) (N x d) (N x′ d′)
         (λ r l. sym (t5 .same-openings s number keys0 keys1 x x′ d (f .settings) hx hx′ hd alike r l))
-        (own d) (other x d) (other x′ d′)
-        (ran t1 k joined s serial keys0 keys1 f inputs hi x d hx hd number u)
-        (subst (λ h. Ran k s serial (multipliers keys0 keys1) (N x′ d′) h (other x′ d′)) same-hand (ran t1 k joined s serial keys0 keys1 f inputs hi x′ d′ hx′ possible number u))
-        refl number u w
+        (plainOpening k s d x) (plainOpening k s d′ x′) (own d) (other x d) (other x′ d′)
+        (faced x d hx hd) (subst (λ h. Faces x′ d′ h) same-hand (faced x′ d′ hx′ possible))
+        number u w
         (λ calls. t3 s serial keys0 keys1 f number u x inputs d hx hi hd w start calls)
         (λ calls. subst (λ h. worldAfter k s serial h (other x′ d′) w calls ≡ worldAt k s serial (N x′ d′) h (other x′ d′) w (countsAfter k s number none calls)) same-hand
         (t3 s serial keys0 keys1 f number u x′ inputs d′ hx′ hi possible w start calls))
@@ -69,9 +72,8 @@ module _ (k : ℕ) (t1 : T1Work) (t3 : T3 k) (t5 : T5 k) (joined : JoinedRun k)
         subst (λ h. recordOf k s serial (own d) (other x d) w calls ≡ recordOf k s serial h (other x′ d′) w calls) (sym same-hand)
         (ap (λ (log : List Event). record { keys = own d .keys; inputs = inputs; book = own d .book; log = log }) (same-log calls))
 
--- from slices that add up along the run
-pub demand3-by : (k : ℕ) → T1Work → T2 → T3 k → JoinedRun k → Demand3 k
-demand3-by k t1 t2 t3 joined s serial keys0 keys1 f number u inputs x x′ hi hx hx′ alike =
+pub demand3 : (k : ℕ) → T1Work → T2 → Laws → T3 k → Demand3 k
+demand3 k t1 t2 laws t3 s serial keys0 keys1 f number u inputs x x′ hi hx hx′ alike =
     let t5 = five k t2 in
     record {
       there = λ d. paired (scaleOf (s .set)) (s .kind) (s .n) (s .bound) (widthOf k) x x′ number (multipliers keys0 keys1) d;
@@ -80,8 +82,5 @@ demand3-by k t1 t2 t3 joined s serial keys0 keys1 f number u inputs x x′ hi hx
       back-possible = λ d hd. t5 .possible s number keys0 keys1 x′ x d (f .settings) hx′ hx hd;
       back-there = λ d hd. t5 .back s number keys0 keys1 x x′ d (f .settings) hx hx′ hd;
       there-back = λ d hd. t5 .back s number keys0 keys1 x′ x d (f .settings) hx′ hx hd;
-      same-records = λ d hd w start calls. same-record k t1 t3 t5 joined s serial keys0 keys1 f number u inputs x x′ hi hx hx′ alike d hd w start calls;
+      same-records = λ d hd w start calls. same-record k t1 t3 t5 laws s serial keys0 keys1 f number u inputs x x′ hi hx hx′ alike d hd w start calls;
     }
-
-pub demand3 : (k : ℕ) → T1Work → T2 → T3 k → Demand3 k
-demand3 k t1 t2 t3 = demand3-by k t1 t2 t3 (joined k t1)

@@ -1,5 +1,6 @@
 -- Demand 3, for any number of keys.
 use Prim.Native.Nat.{ℕ}
+use Rattle.book.proofs.Laws.{laws}
 use Rattle.column.proofs.Joins.{work-joins}
 use Rattle.column.proofs.PlainRun.{plain-run}
 use Rattle.runs.proofs.Theorem.{progress}
@@ -13,4 +14,4 @@ pub draws-pair : (k : ℕ) → T5 k
 draws-pair k = five k plain-run
 
 pub records-tell-nothing : (k : ℕ) → Demand3 k
-records-tell-nothing k = demand3 k work-joins plain-run (progress k)
+records-tell-nothing k = demand3 k work-joins plain-run laws (progress k)

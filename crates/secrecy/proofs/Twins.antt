@@ -1,35 +1,29 @@
 -- Two runs with the same opened numbers and the same own hand: the other side sends the same messages, and the worlds look the same.
-use mathlib.Core.Path.{_≡_, refl, sym, ap, _∙_}
-use mathlib.Core.List.{List, []}
+use mathlib.Core.Path.{_≡_, refl, sym, ap, ap₂, _∙_}
+use mathlib.Core.List.{List, [], _∷_}
 use mathlib.Core.Bool.{cond}
-use Prim.Native.Nat.{ℕ, zero, suc, _+_, _*_, _-_, _≤_, _<_}
+use Prim.Native.Nat.{ℕ, zero, suc, _+_, _-_, _≤_, _<_}
 use native.Mathlib.Nat.{add-comm}
 use native.Mathlib.Omega.{arith}
 use lib.Dec.{eqb}
-use lib.ListN.{length, getD}
+use lib.ListN.{getD}
+use Rattle.lists.specs.Lists.{listTo}
+use Rattle.lists.proofs.Lists.{getD-listTo, listTo-cong}
 use Rattle.field.specs.Field.{q}
 use Rattle.field.specs.Forms.{Adds}
 use Rattle.field.proofs.Congruence.{≈-eq, ≈-sym, ≈-trans, ≈-lt, ≈-cancel}
 use Rattle.message.specs.Lengths.{openings}
+use Rattle.message.specs.Message.{messageOf, headerNumber}
 use Rattle.book.specs.Book.{widthOf}
-use Rattle.column.specs.Layout.{places, weights}
 use Rattle.column.specs.Theorems.{T1Work}
-use Rattle.side.specs.Side.{begunSide, message}
+use Rattle.side.specs.Side.{partColumn}
 use Rattle.runs.specs.Records.{Settings, Hand, Seat, World, Move, worldAfter, events}
-use Rattle.runs.specs.Progress.{takenBy, sentBy, workAt, sideAt, messageAt, seatAt, seatFrom, none, countsAfter, worldAt}
+use Rattle.runs.specs.Progress.{sentBy, messageAt, seatAt, seatFrom, none, countsAfter, worldAt}
+use Rattle.runs.proofs.Seats.{which-below, round-of}
+use Rattle.runs.proofs.Sharing.{join-cong, sharing, sharing-below, fieldsAt, part-inside, message-is}
+use Rattle.runs.proofs.Opens.{Facing}
 use Rattle.secrecy.proofs.Own.{SameNumbers, work-same, own-same, counts-most}
 use Rattle.secrecy.proofs.Lockstep.{Alike, events-same}
-use Rattle.secrecy.proofs.Sent.{SameTerms, message-by, openingAt, round-is, outgoing-is}
-
--- what is used of one run: h looks, o is looked at, N are the opened numbers
-pub record Ran (k : ℕ) (s : Settings) (serial : ℕ) (factors : List ℕ) (N : ℕ → List ℕ) (h o : Hand) : Type 0 where
-  pub other : o .number < 2
-  pub width : length (weights k (o .number) (o .keys)) ≡ widthOf k
-  pub exact : (rounds : ℕ) → rounds ≤ 7 → length (workAt k s serial N o rounds) ≡ length (weights k (o .number) (o .keys)) * places
-  -- the two sides' numbers add up to factor × the opened number
-  pub adds : (rounds c i : ℕ) → rounds < 7 → c < widthOf k → i < openings (s .kind) (s .n) (suc rounds)
-      → Adds q (getD factors c 0) (openingAt k s serial N h rounds c i) (openingAt k s serial N o rounds c i) (getD (N rounds) i 0)
-  pub below : (rounds c i : ℕ) → rounds < 7 → openingAt k s serial N o rounds c i < q
 
 -- what is missing to the same total is the same
 missing-same : (m f a b b′ v : ℕ) → Adds m f a b v → Adds m f a b′ v → b < m → b′ < m → b ≡ b′
@@ -38,50 +32,43 @@ missing-same m f a b b′ v h h′ l l′ =
     (≈-cancel a (≈-trans (≈-eq (add-comm b a)) (≈-trans (h .total) (≈-trans (≈-sym (h′ .total)) (≈-eq (add-comm a b′))))))
     l l′
 
-module _ (t1 : T1Work) (k : ℕ) (s : Settings) (serial : ℕ) (factors : List ℕ) (some : 1 ≤ s .n) (most : s .n ≤ 8)
-    (N N′ : ℕ → List ℕ) (same : SameNumbers N N′) (h o o′ : Hand) (ran : Ran k s serial factors N h o) (ran′ : Ran k s serial factors N′ h o′)
-    (faces : o .number ≡ o′ .number) where
-  own-opening : (rounds c i : ℕ) → rounds < 7 → openingAt k s serial N h rounds c i ≡ openingAt k s serial N′ h rounds c i
-  own-opening rounds c i l = rw (work-same k s serial N N′ same h rounds (omega arith))
+module _ (t1 : T1Work) (k : ℕ) (s : Settings) (serial : ℕ) (factors : List ℕ)
+    (N N′ : ℕ → List ℕ) (same : SameNumbers N N′) (plain plain′ : ℕ → ℕ → ℕ) (h o o′ : Hand)
+    (v : Facing k s serial N factors plain h o) (v′ : Facing k s serial N′ factors plain′ h o′) where
+  faces : o .number ≡ o′ .number
+  faces = v .faces ∙ sym (v′ .faces)
 
-  opening-same : (rounds c i : ℕ) → rounds < 7 → c < widthOf k → i < openings (s .kind) (s .n) (suc rounds)
-      → openingAt k s serial N o rounds c i ≡ openingAt k s serial N′ o′ rounds c i
-  opening-same rounds c i l b f =
-      missing-same q (getD factors c 0) (openingAt k s serial N h rounds c i) (openingAt k s serial N o rounds c i) (openingAt k s serial N′ o′ rounds c i) (getD (N rounds) i 0)
-      (ran .adds rounds c i l b f) (rw (own-opening rounds c i l, same rounds l) (ran′ .adds rounds c i l b f)) (ran .below rounds c i l) (ran′ .below rounds c i l)
+  -- the openings of a round
+  plain-same : (R j : ℕ) → R < 7 → j < openings (s .kind) (s .n) (suc R) → plain R j ≡ plain′ R j
+  plain-same R j l b =
+      let at : (f : ℕ → ℕ) → getD (listTo (openings (s .kind) (s .n) (suc R)) f) j 0 ≡ f j = λ f. getD-listTo (openings (s .kind) (s .n) (suc R)) f j 0 b in
+      sym (at (plain R)) ∙ ap (λ (ns : List ℕ). getD ns j 0) (sym (v .opens R) ∙ same R l ∙ v′ .opens R) ∙ at (plain′ R)
 
-  -- a round's message
-  said : (N : ℕ → List ℕ) (o : Hand) (rounds : ℕ)
-      → messageAt k s serial N o (suc rounds) ≡ message k (sideAt k s serial N o (2 * rounds + o .number)) (workAt k s serial N o (takenBy (o .number) (2 * rounds + o .number)))
-  unfolding messageAt
-  said N o rounds =
-      let e : suc rounds - 1 ≡ rounds = omega arith in
-      rw e
+  own-same-share : (R c j : ℕ) → R < 7 → sharing k s serial N h R c j ≡ sharing k s serial N′ h R c j
+  unfolding sharing
+  own-same-share R c j l = rw (work-same k s serial N N′ same h R (omega arith))
 
-  terms-same : (rounds : ℕ) → rounds < 7 → SameTerms (sideAt k s serial N o (2 * rounds + o .number)) (sideAt k s serial N′ o′ (2 * rounds + o′ .number))
-  unfolding sideAt begunSide
-  terms-same rounds l =
-      record {
-        number = faces;
-        set = refl;
-        kind = refl;
-        n = refl;
-        bound = refl;
-        round = round-is k s serial N o (ran .other) rounds l ∙ sym (round-is k s serial N′ o′ (ran′ .other) rounds l);
-        serial = refl;
-      }
+  share-same : (R c j : ℕ) → R < 7 → c < widthOf k → j < openings (s .kind) (s .n) (suc R) → sharing k s serial N o R c j ≡ sharing k s serial N′ o′ R c j
+  share-same R c j l b m =
+      missing-same q (getD factors c 0) (sharing k s serial N h R c j) (sharing k s serial N o R c j) (sharing k s serial N′ o′ R c j) (plain R j)
+      (v .adds R c j b) (rw (own-same-share R c j l, plain-same R j l m) (v′ .adds R c j b))
+      (sharing-below k s serial N t1 o (v .other) R c j b m) (sharing-below k s serial N′ t1 o′ (v′ .other) R c j b m)
 
-  message-same : (rounds : ℕ) → rounds < 7 → messageAt k s serial N o (suc rounds) ≡ messageAt k s serial N′ o′ (suc rounds)
-  unfolding sideAt begunSide
-  message-same rounds l =
-      let r : sideAt k s serial N′ o′ (2 * rounds + o′ .number) .round ≡ suc rounds = round-is k s serial N′ o′ (ran′ .other) rounds l in
-      said N o rounds
-      ∙ message-by k _ _ _ _ (terms-same rounds l) (λ c i b f.
-      let f′ : i < openings (s .kind) (s .n) (suc rounds) = rw r at f in
-      outgoing-is k s serial N o t1 some most (ran .other) rounds l (ran .exact rounds (omega arith)) c i (omega (arith, ran .width)) f′
-      ∙ opening-same rounds c i l b f′
-      ∙ sym (outgoing-is k s serial N′ o′ t1 some most (ran′ .other) rounds l (ran′ .exact rounds (omega arith)) c i (omega (arith, ran′ .width)) f′))
-      ∙ sym (said N′ o′ rounds)
+  -- its fields
+  fields-same : (R : ℕ) → R < 7 → fieldsAt k s serial N o R ≡ fieldsAt k s serial N′ o′ R
+  unfolding fieldsAt
+  fields-same R l =
+      join-cong 0 (openings (s .kind) (s .n) (suc R)) _ _ (λ j m.
+      ap₂ _∷_ (share-same R 0 (0 + j) l (omega arith) (omega arith))
+      (listTo-cong k _ _ (λ i b.
+      share-same R (partColumn k (1 - o .number) i) (0 + j) l (part-inside k s serial N o (v .other .which) i b) (omega arith)
+      ∙ ap (λ (number : ℕ). sharing k s serial N′ o′ R (partColumn k (1 - number) i) (0 + j)) faces)))
+
+  message-same : (R : ℕ) → R < 7 → messageAt k s serial N o (suc R) ≡ messageAt k s serial N′ o′ (suc R)
+  message-same R l =
+      message-is k s serial N t1 o (v .other) R (round-of R l)
+      ∙ ap₂ (λ (number : ℕ) (fields : List ℕ). messageOf (headerNumber number (s .set) (s .kind) (s .n) (s .bound) (suc R) serial) fields) faces (fields-same R l)
+      ∙ sym (message-is k s serial N′ t1 o′ (v′ .other) R (round-of R l))
 
   latest-by : (sends : ℕ) → sends ≤ 7 → cond (eqb sends 0) [] (messageAt k s serial N o sends) ≡ cond (eqb sends 0) [] (messageAt k s serial N′ o′ sends)
   latest-by zero l = refl
@@ -90,7 +77,7 @@ module _ (t1 : T1Work) (k : ℕ) (s : Settings) (serial : ℕ) (factors : List �
   latest-after : (m : ℕ) → m ≤ 14 → seatAt k s serial N o m .latest ≡ seatAt k s serial N′ o′ m .latest
   unfolding seatAt
   latest-after m l =
-      let u : o .number < 2 = ran .other in
+      let u : o .number < 2 = which-below o (v .other .which) in
       latest-by (sentBy (o .number) m) (omega arith)
       ∙ ap (λ (n : ℕ). cond (eqb (sentBy n m) 0) [] (messageAt k s serial N′ o′ (sentBy n m))) faces
 

@@ -1,5 +1,4 @@
 -- The pairing of draws, and demand 3.
 pub mod Paired
 pub mod Theorems
-pub mod Joined
 pub mod Demands
