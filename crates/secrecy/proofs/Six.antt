@@ -1,5 +1,5 @@
 -- T6, demand 3: whoever keeps one side's whole record cannot tell two alike secrets apart. For any number of keys.
-use mathlib.Core.Path.{_≡_, refl, sym, ap, subst}
+use mathlib.Core.Path.{_≡_, sym, ap, subst}
 use mathlib.Core.List.{List}
 use mathlib.Core.Bool.{cond}
 use Prim.Native.Nat.{ℕ, _<_}
