@@ -1,0 +1,145 @@
+#!/usr/bin/env python3
+"""compare_transcripts.py PROGRAM COUNT SEED: random inputs, honest, spoiled and malformed; what the program writes must equal, byte
+for byte, what transcript.py beside this file writes. Also: compare_transcripts.py --write DIR COUNT SEED writes the inputs as files
+DIR/0, DIR/1, .., and the expected text of all of them in turn as DIR.expected."""
+import os
+import random
+import subprocess
+import sys
+
+import transcript
+from transcript import Q, ALPHA
+
+KINDS = ('honest', 'honest', 'honest', 'share', 'check', 'draw', 'settings', 'short', 'long', 'text')
+
+
+def centre_near(rng, bound):
+    return (rng.choice((1, -1)) * (bound + rng.randrange(-2, 3))) % Q
+
+
+def secret(rng, set_, kind, bound):
+    pick = rng.randrange(4)
+    if pick == 0:
+        return rng.choice((0, 1, Q - 1, Q - 2, (Q - 1) // 2, (Q + 1) // 2))
+    if pick == 1 and kind == 0:
+        return (rng.randrange(50) * ALPHA[set_] + ALPHA[set_] // 2 + rng.randrange(-2, 3)) % Q
+    if pick == 1:
+        return centre_near(rng, bound)
+    if pick == 2 and kind == 1:
+        return rng.randrange(-bound + 1, bound) % Q
+    return rng.randrange(Q)
+
+
+def number(rng):
+    return rng.choice((0, Q - 1, rng.randrange(Q), rng.randrange(Q), rng.randrange(Q)))
+
+
+def honest(rng):
+    """Settings, both sides' inputs and the draw, as a list of lists."""
+    set_, kind = rng.randrange(2), rng.randrange(2)
+    n = rng.choice((1, 1, 2, 3, 4, 5, 6, 7, 8, 8))
+    bound = rng.choice((1, 2, 4190208, rng.randrange(1, 4190209))) if kind == 1 else 0
+    serial = rng.choice((1, 2**32 - 1, rng.randrange(1, 2**32)))
+    keys = [rng.choice((1, Q - 1, rng.randrange(1, Q), rng.randrange(1, Q))) for _ in (0, 1)]
+    server, phone = [], []
+    for _ in range(n):
+        w = secret(rng, set_, kind, bound)
+        for whole in (w, keys[0] * w, keys[1] * w):
+            own = rng.randrange(Q)
+            phone.append(own)
+            server.append((whole - own) % Q)
+    size = transcript.draw_length(set_, kind, n)
+    draw = [0] * size if rng.randrange(8) == 0 else [number(rng) for _ in range(size)]
+    return [[set_, kind, n, bound, serial] + keys, server, phone, draw]
+
+
+def spoil(rng, how, parts):
+    head, server, phone, draw = parts
+    if how == 'share':
+        side = rng.choice((server, phone))
+        at = rng.randrange(len(side))
+        side[at] = rng.choice(((side[at] + rng.randrange(1, Q)) % Q, Q, 2**32 - 1))
+    elif how == 'check':
+        side = rng.choice((server, phone))
+        at = 3 * rng.randrange(len(side) // 3) + rng.choice((1, 2))
+        side[at] = (side[at] + rng.randrange(1, Q)) % Q
+    elif how == 'draw':
+        draw[rng.randrange(len(draw))] = rng.choice((Q, 2**32 - 1, rng.randrange(Q)))
+    elif how == 'settings':
+        at = rng.randrange(7)
+        head[at] = rng.choice((0, 1, 2, 9, Q, 4190209, 2**32 - 1, rng.randrange(2**32)))
+    numbers = head + server + phone + draw
+    if how == 'short':
+        numbers = numbers[:rng.choice((rng.randrange(len(numbers)), rng.randrange(40), len(numbers) - 1))]
+    elif how == 'long':
+        numbers += [rng.randrange(Q) for _ in range(rng.choice((1, 3, 8185 - len(numbers), 8192 - len(numbers), 8193 - len(numbers))))]
+    return numbers
+
+
+def text(rng, numbers, how):
+    style = rng.randrange(3)
+    words = []
+    for x in numbers:
+        w = b'%d' % x
+        if style == 2 and rng.randrange(10) == 0:
+            w = w.rjust(rng.randrange(len(w), 11), b'0')
+        words.append(w)
+    if how == 'text' and words:
+        at = rng.randrange(len(words))
+        words[at] = rng.choice((b'4294967296', b'9999999999', b'00000000001', b'-1', b'1a', b'+1', b'1.0', b'\t', b'1\r', b'\0',
+                                words[at] + b'\x80', b'12345678901'))
+    if style == 0:
+        data = b' '.join(words) + b'\n'
+    elif style == 1:
+        data = b'\n'.join(words)
+    else:
+        data = b''.join(w + rng.choice((b' ', b'\n', b'  ', b' \n ', b'\n\n')) for w in words)
+        data = rng.choice((b'', b' ', b'\n \n')) + data
+    return data
+
+
+def case(rng):
+    how = rng.choice(KINDS)
+    return how, text(rng, spoil(rng, how, honest(rng)), how)
+
+
+def last_words(out):
+    """What a transcript came to, for the counts."""
+    for line in out.decode().split('\n'):
+        if line.startswith('refused'):
+            return line
+        if line == 'malformed':
+            return line
+    return 'finished'
+
+
+def main(args):
+    if args[0] == '--write':
+        rng = random.Random(int(args[3]))
+        os.makedirs(args[1], exist_ok=True)
+        with open(args[1] + '.expected', 'wb') as expected:
+            for i in range(int(args[2])):
+                _, data = case(rng)
+                with open(os.path.join(args[1], str(i)), 'wb') as f:
+                    f.write(data)
+                expected.write(transcript.output(data))
+        return 0
+    program, count, rng = args[0], int(args[1]), random.Random(int(args[2]))
+    ends, differ = {}, 0
+    for i in range(count):
+        how, data = case(rng)
+        want = transcript.output(data)
+        got = subprocess.run([program], input=data, stdout=subprocess.PIPE).stdout
+        if got != want:
+            differ += 1
+            print('DIFFERS: input %d (%s)' % (i, how))
+        end = last_words(want)
+        ends[end] = ends.get(end, 0) + 1
+    for end in sorted(ends):
+        print('%6d  %s' % (ends[end], end))
+    print('%d compared, %d differ' % (count, differ))
+    return 1 if differ else 0
+
+
+if __name__ == '__main__':
+    sys.exit(main(sys.argv[1:]))
