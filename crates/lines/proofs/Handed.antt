@@ -1,0 +1,92 @@
+-- What the deal and the begins of a play are handed.
+use Prim.Native.Nat.{ℕ, zero, suc, _+_, _*_, _/_, _%_, _≤_, _<_}
+use mathlib.Core.Path.{_≡_, refl, sym, ap, _∙_}
+use mathlib.Core.Bool.{true, _&&_}
+use mathlib.Core.List.{List, _∷_}
+use native.Mathlib.Omega.{arith}
+use lib.Dec.{ltb}
+use lib.ListN.{length, getD, take, replicate, length-replicate}
+use borrow.Author.Tests.{lt-ltb}
+use Rattle.lists.specs.Lists.{every, listFrom, allBelow}
+use Rattle.lists.proofs.Lists.{length-listFrom, getD-listTo, listTo-cong}
+use Rattle.lists.proofs.Every.{below-at, every-listTo}
+use Rattle.lists.proofs.Questions.{passed, both-yes, and-yes}
+use Rattle.field.specs.Field.{q, sub}
+use Rattle.rounding.specs.Questions.{isBit, countOk, boundOk, keysOk, askSettings}
+use Rattle.book.specs.Book.{widthOf}
+use Rattle.book.specs.Deal.{multipliers}
+use Rattle.runs.specs.Records.{missing}
+use Rattle.lines.specs.Play.{ones, thrice}
+
+-- settings that passed questions 1 to 3
+pub settings-ok : (set kind n bound rest : ℕ) → askSettings 0 set kind n bound rest ≡ 0
+    → (isBit set && isBit kind && countOk n && boundOk kind bound) ≡ true
+unfolding askSettings
+settings-ok set kind n bound rest e =
+    let one = passed (isBit 0 && isBit set && isBit kind) 0 _ e in
+    let two = passed (countOk n) 1 _ (one .1) in
+    let three = passed (boundOk kind bound) 2 rest (two .1) in
+    let bits = both-yes (isBit 0 && isBit set) (isBit kind) (one .0) in
+    let bit = both-yes (isBit 0) (isBit set) (bits .0) in
+    and-yes (isBit set && isBit kind && countOk n) (boundOk kind bound)
+    (and-yes (isBit set && isBit kind) (countOk n) (and-yes (isBit set) (isBit kind) (bit .1) (bits .1)) (two .0))
+    (three .0)
+
+-- the keys pass question 4
+pub ones-ok : keysOk ones ≡ true
+unfolding keysOk every
+ones-ok = refl
+
+-- the server's inputs: as many as asked, and below q
+pub thrice-long : (xs : List ℕ) → length (thrice xs) ≡ length xs * 3
+unfolding thrice
+thrice-long xs = length-listFrom 0 (length xs * 3) _
+
+pub thrice-below : (xs : List ℕ) → allBelow q xs ≡ true → allBelow q (thrice xs) ≡ true
+unfolding thrice allBelow
+thrice-below xs e =
+    every-listTo (λ (x : ℕ). ltb x q) (length xs * 3) (λ (x : ℕ). getD xs (x / 3) 0) (λ x l. lt-ltb (getD xs (x / 3) 0) q (small x))
+  where
+    small : (x : ℕ) → getD xs (x / 3) 0 < q
+    small x = below-at q xs (x / 3) (omega arith) e
+
+zeros-are : (i n : ℕ) → listFrom {A = ℕ} i n (λ (x : ℕ). 0) ≡ replicate n 0
+unfolding listFrom
+zeros-are i zero = refl
+zeros-are i (suc n) = ap (λ (l : List ℕ). 0 ∷ l) (zeros-are (suc i) n)
+
+pub zeros-below : (n : ℕ) → allBelow q (replicate n 0) ≡ true
+unfolding allBelow every
+zeros-below zero = refl
+zeros-below (suc n) = zeros-below n
+
+pub front-zeros : (n m : ℕ) → n ≤ m → take {A = ℕ} n (replicate m 0) ≡ replicate n 0
+front-zeros zero m h = refl
+front-zeros (suc n) zero h = absurd (omega arith)
+front-zeros (suc n) (suc m) h = ap (λ (l : List ℕ). 0 ∷ l) (front-zeros n m (omega arith))
+
+pub zeros-long : (n m : ℕ) → n ≤ m → n ≡ length (take {A = ℕ} n (replicate m 0))
+zeros-long n m h = sym (ap length (front-zeros n m h) ∙ length-replicate {A = ℕ} n 0)
+
+one-of : (c : ℕ) → c < 3 → getD (multipliers ones ones) c 0 ≡ 1
+one-of zero h = refl
+one-of (suc zero) h = refl
+one-of (suc (suc zero)) h = refl
+one-of (suc (suc (suc c))) h = absurd (omega arith)
+
+none-left : (f w s : ℕ) → f ≡ 1 → s ≡ w → sub q (f * w) s ≡ 0
+none-left f w s e d = rw (e, d) (omega arith)
+
+thrice-at : (xs : List ℕ) (x : ℕ) → x < length xs * 3 → getD (thrice xs) (x / 3 * 3 + x % 3) 0 ≡ getD xs (x / 3) 0
+unfolding thrice
+thrice-at xs x l =
+    let e : x / 3 * 3 + x % 3 ≡ x = omega arith in
+    rw e (getD-listTo (length xs * 3) (λ (y : ℕ). getD xs (y / 3) 0) x 0 l)
+
+-- what is missing to the coefficients is 0 throughout: the phone's inputs
+pub missing-none : (xs : List ℕ) → missing (widthOf 1) (multipliers ones ones) xs (thrice xs) ≡ replicate (length xs * 3) 0
+unfolding missing
+missing-none xs =
+    listTo-cong (length xs * 3) _ (λ (x : ℕ). 0)
+    (λ x l. none-left (getD (multipliers ones ones) (x % 3) 0) (getD xs (x / 3) 0) (getD (thrice xs) (x / 3 * 3 + x % 3) 0) (one-of (x % 3) (omega arith)) (thrice-at xs x l))
+    ∙ zeros-are 0 (length xs * 3)

@@ -1,0 +1,56 @@
+-- What the calls of a play are handed and give back.
+use Prim.Native.Nat.{ℕ, zero, suc, _+_, _≤_}
+use mathlib.Core.Path.{_≡_, refl, ap, ap₂, _∙_}
+use mathlib.Core.Bool.{Bool, true, false, cond}
+use mathlib.Core.List.{List, [], _∷_}
+use native.Mathlib.Omega.{arith}
+use native.Mathlib.Numerals.{unary-clauses}
+use lib.Dec.{eqb}
+use lib.ListN.{length, take}
+use borrow.Author.Tests.{eqb-true}
+use Rattle.message.specs.Lengths.{messageLength}
+use Rattle.side.specs.declared.Side.{Side}
+use Rattle.side.specs.Side.{sendNo, message, sentSide, afterSend, sendCall}
+use Rattle.side.proofs.Sending.{send-ready}
+use Rattle.lists.specs.Lists.{inFront}
+use Rattle.runs.specs.Records.{Seat, World}
+use Rattle.lines.specs.Play.{sentAt, tookAt, serverHalf, phoneHalf, roundAfter, roundsAfter}
+
+-- a send writes no more than it is lent
+pub send-fits : (s : Side) (work out : List ℕ) → sendCall 1 s work out .sent .length ≤ length out
+unfolding sendCall
+send-fits s work out = by (eqb (sendNo 1 s work out) 0) refl
+  where
+    by : (b : Bool) → eqb (sendNo 1 s work out) 0 ≡ b
+        → cond b
+        (afterSend 0 (messageLength 1 (s .kind) (s .n) (s .round)) (sentSide s) (inFront (message 1 s work) out))
+        (afterSend (sendNo 1 s work out) 0 s out)
+        .sent .length ≤ length out
+    by true e = send-ready 1 s work out (eqb-true _ 0 e) .room
+    by false e = omega arith
+
+-- the front of a list that is long enough
+pub length-front : (n : ℕ) (l : List ℕ) → n ≤ length l → n ≡ length (take n l)
+length-front zero l h = refl
+length-front (suc n) [] h = absurd (omega arith)
+length-front (suc n) (x ∷ l) h = ap suc (length-front n l (omega arith))
+
+-- one half of a round, from its two calls
+pub server-half-is : (x x′ y y′ : Seat) → x′ ≡ sentAt x → y′ ≡ tookAt y (x′ .latest)
+    → _≡_ {A = World} (record { own = x′; other = y′ }) (serverHalf (record { own = x; other = y }))
+unfolding serverHalf
+server-half-is x x′ y y′ e f = ap₂ {C = World} (λ (a b : Seat). record { own = a; other = b }) e (f ∙ ap (λ (a : Seat). tookAt y (a .latest)) e)
+
+pub phone-half-is : (x x′ y y′ : Seat) → y′ ≡ sentAt y → x′ ≡ tookAt x (y′ .latest)
+    → _≡_ {A = World} (record { own = x′; other = y′ }) (phoneHalf (record { own = x; other = y }))
+unfolding phoneHalf
+phone-half-is x x′ y y′ e f = ap₂ {C = World} (λ (a b : Seat). record { own = a; other = b }) (f ∙ ap (λ (b : Seat). tookAt x (b .latest)) e) e
+
+-- one more round
+pub round-again : (w v w′ : World) (n : ℕ) → v ≡ roundsAfter n w → w′ ≡ roundAfter v → w′ ≡ roundsAfter (n + 1) w
+unfolding roundsAfter
+round-again w v w′ n e f = simp unary-clauses (f ∙ ap roundAfter e)
+
+pub no-round : (w : World) → w ≡ roundsAfter 0 w
+unfolding roundsAfter
+no-round w = refl

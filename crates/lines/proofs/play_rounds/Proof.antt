@@ -1,0 +1,43 @@
+-- `lines::play_rounds` meets its contract.
+use borrow.Author.Needs.{needs}
+use mathlib.Core.Path.{_≡_, refl, ap, _∙_}
+use Prim.Native.Nat.{ℕ, _≤_, _-_}
+use native.Mathlib.Omega.{arith}
+use lib.ListN.{length}
+use Rattle.lines.specs.Play.{worldOf, Fits, roundsAfter}
+use Rattle.lines.proofs.Laws.{no-round, round-again}
+use Rattle.lines.proofs.play_rounds.Statement.{statement}
+use Rattle.lines.proofs.play_rounds.Tie as tie
+
+abbrev Inv-loop : tie.InvT-loop
+Inv-loop server₀ phone₀ at₀ round₀ server phone at round = (worldOf at server phone ≡ roundsAfter round (worldOf at₀ server₀ phone₀)) × Fits at × (round ≤ 7) × (length server ≡ length server₀) × (length phone ≡ length phone₀)
+
+abbrev μ-loop : tie.MeasureT-loop
+μ-loop server₀ phone₀ at₀ round₀ server phone at round = 7 - round
+
+loop-again : tie.Need-loop-again Inv-loop μ-loop
+loop-again c =
+    let a = c .before .before .before .before .before .before .before .before .before .before .before .args in
+    let l = c .before .before .before .before .before .before .before .before .loop in
+    (round-again (worldOf (a .table) (a .server .now) (a .phone .now)) (worldOf (l .at) (l .server) (l .phone)) _ (l .round) (l .inv .0) (c .before .before .before .before .play-round .ensures .0), c .before .before .before .before .play-round .ensures .1, omega arith, search needs, search needs)
+
+returns : tie.Need-returns Inv-loop μ-loop
+returns c =
+    let a = c .before .before .before .before .args in
+    let e : c .before .loop .round ≡ 7 = omega arith in
+    c .before .loop .inv .0 ∙ ap (λ (n : ℕ). roundsAfter n (worldOf (a .table) (a .server .now) (a .phone .now))) e
+
+pub play-rounds-spec : {M : Type 1} → statement M
+play-rounds-spec =
+    tie.close
+    (tie.spec
+    Inv-loop
+    μ-loop
+    (λ c. (no-round _, search needs, omega arith, refl, refl))
+    (λ c κs. search needs)
+    (λ c. omega arith)
+    (λ c. omega arith)
+    loop-again
+    (λ c. search needs)
+    (λ c. search needs)
+    returns)

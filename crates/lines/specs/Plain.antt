@@ -1,0 +1,50 @@
+-- What a line gives: its refusal, or the answer by the plain meaning.
+use Prim.Native.Nat.{ℕ}
+use mathlib.Core.Bool.{cond}
+use mathlib.Core.List.{List, []}
+use lib.Dec.{eqb, ltb}
+use lib.ListN.{take, replicate}
+use Rattle.lists.specs.Answers.{ask}
+use Rattle.lists.specs.Lists.{allBelow, inFront}
+use Rattle.field.specs.Field.{q}
+use Rattle.rounding.specs.Questions.{askSettings}
+use Rattle.side.specs.Side.{answerPlaces}
+use Rattle.runs.specs.Records.{Settings, answerOf}
+use Rattle.lines.specs.declared.Order.{Order}
+use Rattle.lines.specs.declared.Outcome.{Outcome}
+use Rattle.lines.specs.declared.Text.{Text}
+use Rattle.lines.specs.Line.{lineOf}
+use Rattle.lines.specs.Answer.{answerText, textOf}
+
+-- the settings of a line
+abbrev pub settingsOf : Order → Settings
+settingsOf o = record { set = o .set; kind = o .kind; n = o .count; bound = o .bound }
+
+-- its coefficients
+abbrev pub secretOf : Order → List ℕ
+secretOf o = take (o .count) (o .numbers)
+
+-- The first no of the deal, then of the server's begin, then of the phone's, or 0 (`asked-in-order` proves it). The deal asks 1 and 2;
+-- keys, lengths and the all-zero draw pass 4 to 6. The server's begin asks 3, then 6 of the coefficients, then 7, where a fresh side
+-- has serial 0. The phone's begin refuses nothing more.
+unfoldable pub orderNo : ℕ → Order → ℕ
+orderNo serial o =
+    askSettings 0 (o .set) (o .kind) (o .count) (o .bound)
+    (ask (allBelow q (secretOf o)) 6
+    (ask (ltb 0 serial) 7
+    0))
+
+-- a refusal and no numbers; or the high parts, or the verdict, and zeros behind
+unfoldable pub outcomeOf : ℕ → Order → Outcome
+outcomeOf serial o =
+    let refusal = orderNo serial o in
+    cond (eqb refusal 0)
+    (record { refused = 0; length = answerPlaces (o .kind) (o .count); numbers = inFront (answerOf (settingsOf o) (secretOf o)) (replicate 8 0) })
+    (record { refused = refusal; length = 0; numbers = replicate 8 0 })
+
+-- "Each output line: line number, then high parts or verdict, or `!` and the refusal"; "malformed: `!12`, no run"; "serial = line number"
+unfoldable pub lineAnswer : ℕ → List ℕ → Text
+lineAnswer number line =
+    let o = lineOf line in
+    let r = outcomeOf number o in
+    cond (o .good) (textOf (answerText number (r .refused) (take (r .length) (r .numbers)))) (textOf (answerText number 12 []))

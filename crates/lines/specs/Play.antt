@@ -1,0 +1,118 @@
+-- The play of a line, over the calls of a side.
+use Prim.Native.Nat.{ℕ, zero, suc, _*_, _/_, _≤_}
+use mathlib.Core.Path.{_≡_}
+use mathlib.Core.Bool.{true, cond}
+use mathlib.Core.List.{List, [], _∷_}
+use lib.Dec.{eqb}
+use lib.ListN.{length, getD, take, replicate}
+use Rattle.lists.specs.Lists.{listTo, allBelow}
+use Rattle.field.specs.Field.{q}
+use Rattle.rounding.specs.Sets.{scaleOf}
+use Rattle.book.specs.Book.{shared, drawLength}
+use Rattle.side.specs.declared.Side.{Side}
+use Rattle.side.specs.Side.{freshSide, After, beginCall, sendCall, takeCall, answerCall}
+use Rattle.runs.specs.Records.{Seat, World}
+use Rattle.lines.specs.declared.Order.{Order}
+use Rattle.lines.specs.declared.Outcome.{Outcome}
+use Rattle.lines.specs.declared.Player.{Player}
+use Rattle.lines.specs.declared.Table.{Table}
+
+-- ---- Both sides
+
+-- a player with its working slice, as a seat: the latest message is the front of its message array
+abbrev pub seatOf : Player → List ℕ → Seat
+seatOf p work = record { side = p .side; work = work; latest = take (p .length) (p .message) }
+
+-- both, the server as `own`
+abbrev pub worldOf : Table → List ℕ → List ℕ → World
+worldOf t server phone = record { own = seatOf (t .server) server; other = seatOf (t .phone) phone }
+
+-- both message lengths fit
+abbrev pub Fits : Table → Type 0
+Fits t = (t .server .length ≤ 192) × (t .phone .length ≤ 192)
+
+-- ---- Moves
+
+-- the output that every send is lent
+abbrev pub lent : List ℕ
+lent = replicate 192 0
+
+-- a seat after a send; a refused send leaves the latest message
+unfoldable pub sentAt : Seat → Seat
+sentAt x =
+    let a = sendCall 1 (x .side) (x .work) lent in
+    record { side = a .sent .side; work = x .work; latest = cond (eqb (a .sent .refused) 0) (take (a .sent .length) (a .out)) (x .latest) }
+
+-- a seat after it was handed a message
+unfoldable pub tookAt : Seat → List ℕ → Seat
+tookAt x message =
+    let a = takeCall 1 (x .side) (x .work) message in
+    record { side = a .done .side; work = a .work; latest = x .latest }
+
+-- the server sends, the phone takes
+unfoldable pub serverHalf : World → World
+serverHalf w =
+    let server = sentAt (w .own) in
+    record { own = server; other = tookAt (w .other) (server .latest) }
+
+-- the phone sends, the server takes
+unfoldable pub phoneHalf : World → World
+phoneHalf w =
+    let phone = sentAt (w .other) in
+    record { own = tookAt (w .own) (phone .latest); other = phone }
+
+-- both halves of a round
+unfoldable pub roundAfter : World → World
+roundAfter w = phoneHalf (serverHalf w)
+
+-- so many rounds
+unfoldable pub roundsAfter : ℕ → World → World
+roundsAfter zero w = w
+roundsAfter (suc n) w = roundAfter (roundsAfter n w)
+
+-- ---- The begins
+
+-- keys 1
+abbrev pub ones : List ℕ
+ones = 1 ∷ []
+
+-- the server's inputs: keys are 1 and the phone's numbers 0, so each coefficient three times
+unfoldable pub thrice : List ℕ → List ℕ
+thrice xs = listTo (length xs * 3) (λ (x : ℕ). getD xs (x / 3) 0)
+
+-- the seat that a begin leaves; nothing has been sent
+abbrev pub begunBy : After → Seat
+begunBy a = record { side = a .done .side; work = a .work; latest = [] }
+
+-- side `number`, begun from a fresh side, with key 1
+unfoldable pub begunAt : ℕ → Order → ℕ → List ℕ → List ℕ → List ℕ → Seat
+begunAt serial o number inputs book work =
+    begunBy (beginCall 1 freshSide number (o .set) (o .kind) (o .count) (o .bound) ones serial inputs book work)
+
+-- ---- The end
+
+-- what the server's answer says
+unfoldable pub toldBy : Side → Outcome
+toldBy s =
+    let a = answerCall s (replicate 8 0) in
+    record { refused = a .told .refused; length = a .told .length; numbers = a .out }
+
+-- the working slice before a begin
+abbrev pub zeroWork : List ℕ
+zeroWork = replicate 4608 0
+
+-- the whole play from what the begins are handed: what the server's answer says at its end
+unfoldable pub playedWith : ℕ → Order → List ℕ → List ℕ → List ℕ → List ℕ → Outcome
+playedWith serial o serverInputs phoneInputs serverBook phoneBook =
+    toldBy
+    (roundsAfter 7 (record { own = begunAt serial o 0 serverInputs serverBook zeroWork; other = begunAt serial o 1 phoneInputs phoneBook zeroWork })
+    .own .side)
+
+-- lent slices of the lengths that an order asks for; a draw of numbers below q
+pub record Lent (o : Order) (draw serverInputs phoneInputs serverBook phoneBook : List ℕ) : Type 0 where
+  pub draw-long : length draw ≡ drawLength (scaleOf (o .set)) (o .kind) (o .count) 3
+  pub draw-below : allBelow q draw ≡ true
+  pub inputs-long : length serverInputs ≡ o .count * 3
+  pub zeros : phoneInputs ≡ replicate (o .count * 3) 0
+  pub server-long : length serverBook ≡ shared (scaleOf (o .set)) (o .kind) (o .count) * 3
+  pub phone-long : length phoneBook ≡ shared (scaleOf (o .set)) (o .kind) (o .count) * 3
