@@ -593,6 +593,16 @@ fn damaged_headers() {
     tally.assert_seen(&[10, 11], 1_000);
 }
 
+/// The share, or else the check part, of an opening.
+fn field_of(message: &mut Message, place: usize, share: bool) -> &mut u32 {
+    let opening = &mut message.openings[place];
+    if share {
+        &mut opening.0
+    } else {
+        &mut opening.1
+    }
+}
+
 /// Each field in turn is not below q; each filling bit in turn is 1.
 #[test]
 fn damaged_fields_and_filling() {
@@ -604,23 +614,10 @@ fn damaged_fields_and_filling() {
         for place in 0..message.openings.len() {
             for share in [true, false] {
                 let mut damaged = message.clone();
-                let opening = &mut damaged.openings[place];
-                let field = if share {
-                    &mut opening.0
-                } else {
-                    &mut opening.1
-                };
-                *field = Q - 1;
+                *field_of(&mut damaged, place, share) = Q - 1;
                 tally.check(&expected, &encode(&damaged), 0);
 
-                let large = generator.field_too_large();
-                let opening = &mut damaged.openings[place];
-                let field = if share {
-                    &mut opening.0
-                } else {
-                    &mut opening.1
-                };
-                *field = large;
+                *field_of(&mut damaged, place, share) = generator.field_too_large();
                 tally.check(&expected, &encode(&damaged), 12);
             }
         }

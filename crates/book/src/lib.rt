@@ -36,7 +36,7 @@ struct Order {
     factors: [u32; 3],
 }
 
-// ---- Places, counted in shared numbers. (Callers have asked questions 1 and 2.)
+// ---- Places, counted in shared numbers, for `deal` and crates stock, column and side, which ask questions 1 and 2 first.
 
 // Behind the mask of a coefficient: where digit i's vector begins, or for 5 the triples.
 fn start_of(set: usize, i: usize) -> usize

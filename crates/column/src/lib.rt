@@ -605,7 +605,7 @@ fn openings_of(settings: Settings, round: u32) -> usize
     openings_in(settings.kind, settings.n as u32, round) as usize
 }
 
-// This side's numbers in one column for a round's openings, in front of `out`; ys are the masked numbers.
+// This side's numbers in one column for a round's openings, in front of `out`; ys are the masked numbers. Crate side has asked.
 pub fn prepare(
     out: &mut [u32],
     work: &[u32],
@@ -666,7 +666,7 @@ fn copy(to: &mut [u32], at: usize, from: &[u32], first: usize, n: usize)
     }
 }
 
-// The masked numbers that the slice holds.
+// The masked numbers that the slice holds, whose length crate side has asked (question 5).
 pub fn masked_in(work: &[u32]) -> [u32; 8]
     requires { ⌜ places ≤ length (now work) ⌝ }
     ensures { λ r. ⌜ ((c : ℕ) → getD r c 0 ≡ maskedIn (now (work .entry)) c) ⌝ }

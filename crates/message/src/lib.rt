@@ -89,7 +89,7 @@ impl Header {
         }
     }
 
-    // The header's bits as one number. Callers have asked questions 1 to 3 and for the round.
+    // The header's bits as one number. `form_no` and `send` of crate side come after questions 1 to 3 and the round.
     pub fn number(self) -> u64
         requires { ⌜ HeaderFits (self .sender) (self .set) (self .kind) (self .n) (self .round) (self .bound) ⌝ }
         ensures { λ r. ⌜ r ≡ headerNumber (self .sender) (self .set) (self .kind) (self .n) (self .bound) (self .round) (self .serial) ⌝ }
@@ -103,7 +103,7 @@ impl Header {
     }
 }
 
-// ---- Lengths. (Callers have asked question 2.)
+// ---- Lengths, for the form test and for crates column and side, which ask question 2 first.
 
 // How many openings a round has.
 pub fn openings_in(kind: u32, n: u32, round: u32) -> u32
@@ -220,7 +220,7 @@ impl<'a> Reader<'a> {
         Reader { bytes, at: 0 }
     }
 
-    // Moved on by some bits.
+    // Moved on by some bits. Called by `read_field` below, which stays inside the message.
     pub fn skip(self, bits: usize) -> Reader<'a>
         requires { ⌜ self .at + bits < 2 ^ 64 ⌝ }
         ensures { λ r. ⌜ (r .bytes ≡ self .entry .bytes) × (r .at ≡ self .entry .at + bits) ⌝ }
@@ -231,7 +231,7 @@ impl<'a> Reader<'a> {
         }
     }
 
-    // The field of so many bits that comes next.
+    // The field of so many bits that comes next. Called by `read_field` too.
     pub fn next(self, width: usize) -> u32
         requires { ⌜ (width ≤ 32) × (self .at + width ≤ 8 * length (now (self .bytes))) ⌝ }
         ensures { λ r. ⌜ r ≡ bitsAt (now (self .entry .bytes)) (self .entry .at) width ⌝ }
@@ -276,7 +276,7 @@ pub fn put_message(out: &mut [u8], header: Header, fields: &[u32]) -> usize
     length_of(fields.len())
 }
 
-// ---- Reading a message of so many fields, whose length has been asked
+// ---- Reading a message of so many fields. `form_no` asks its length first; `take` of crate side calls `form_no` first.
 
 // Field f. (The count of fields is for the promise: it fixes where the bits end.)
 pub fn field_of(message: &[u8], fields: usize, f: usize) -> u32
@@ -310,7 +310,7 @@ fn fields_ok(message: &[u8], fields: usize) -> bool
     padding_of(message, fields) == 0
 }
 
-// Questions 10 to 12: the first no, or 0. Callers have asked questions 1 to 3 and for the round.
+// Questions 10 to 12: the first no, or 0. `message_form` and `take` of crate side have asked questions 1 to 3 and the round.
 pub fn form_no(
     receiver: u32,
     set: u32,

@@ -44,7 +44,7 @@ pub enum Verdict {
     No(u32),
 }
 
-// ---- Constants. (Callers have asked question 1.)
+// ---- Constants and digits, for the calls below and for crates book and column, which ask question 1 first.
 
 // How many values a digit has.
 pub fn base_of(set: usize, digit: usize) -> u32
@@ -89,7 +89,7 @@ fn split_by(set: usize, x: u32) -> Split
     }
 }
 
-// A number and its five digits. Each branch has constant bases, so that the compiler divides by multiplying.
+// A number and its five digits (callers: see above). Each branch has constant bases: the compiler divides by multiplying.
 pub fn split_number(set: usize, x: u32) -> Split
     requires { ⌜ set < 2 ⌝ }
     ensures { λ r. ⌜ r ≡ splitOf (scaleOf set) x ⌝ }
