@@ -1,26 +1,13 @@
--- The code's table of starts.
+-- The last arm of the code's match on a digit's index.
 use mathlib.Core.Path.{_≡_, refl}
-use mathlib.Core.Bool.{Bool, _&&_}
-use mathlib.Core.List.{[], _∷_}
-use Prim.Native.Nat.{ℕ, _+_, _≤_, _<_}
-use lib.Dec.{eqb, leb}
-use lib.ListN.{getD}
-use borrow.Author.Tests.{eqb-true, leb-true}
-use Rattle.lists.specs.Lists.{allTo}
-use Rattle.lists.proofs.Questions.{both-yes}
-use Rattle.lists.proofs.Every.{allTo-at}
-use Rattle.field.specs.Sums.{sumTo}
-use Rattle.rounding.specs.Sets.{scaleOf, base}
+use mathlib.Core.Logic.{_≢_}
+use Prim.Native.Nat.{ℕ, zero, suc, _<_}
+use native.Mathlib.Omega.{arith}
 
-abbrev pub starts : ℕ → ℕ → ℕ
-starts set i = getD (getD ((1 ∷ 17 ∷ 33 ∷ 57 ∷ 88 ∷ 133 ∷ []) ∷ (1 ∷ 17 ∷ 49 ∷ 80 ∷ 113 ∷ 130 ∷ []) ∷ []) set []) i 0
-
-isStart : ℕ → ℕ → Bool
-isStart set i = eqb (starts set i) (1 + sumTo i (base (scaleOf set))) && leb (starts set i) 133
-
--- one test over the table, carried to each entry
-pub start-known : (set i : ℕ) → set < 2 → i < 6 → (starts set i ≡ 1 + sumTo i (base (scaleOf set))) × (starts set i ≤ 133)
-unfolding isStart allTo sumTo
-start-known set i h l =
-    let y = both-yes (eqb (starts set i) (1 + sumTo i (base (scaleOf set)))) (leb (starts set i) 133) (allTo-at 6 (isStart set) i (allTo-at 2 (λ (s : ℕ). allTo 6 (isStart s)) set refl h) l) in
-    (eqb-true _ _ (y .0), leb-true _ _ (y .1))
+pub is-five : (i : ℕ) → i < 6 → i ≢ 0 → i ≢ 1 → i ≢ 2 → i ≢ 3 → i ≢ 4 → i ≡ 5
+is-five zero l n0 n1 n2 n3 n4 = absurd (n0 refl)
+is-five (suc zero) l n0 n1 n2 n3 n4 = absurd (n1 refl)
+is-five (suc (suc zero)) l n0 n1 n2 n3 n4 = absurd (n2 refl)
+is-five (suc (suc (suc zero))) l n0 n1 n2 n3 n4 = absurd (n3 refl)
+is-five (suc (suc (suc (suc zero)))) l n0 n1 n2 n3 n4 = absurd (n4 refl)
+is-five (suc (suc (suc (suc (suc i))))) l n0 n1 n2 n3 n4 = omega arith

@@ -25,9 +25,6 @@ use rounding::base_of;
 use rounding::key_ok;
 use rounding::split_number;
 
-// Set by digit: where the digit's vector begins behind the coefficient's mask; last, where the triples begin.
-const STARTS: [[usize; 6]; 2] = [[1, 17, 33, 57, 88, 133], [1, 17, 49, 80, 113, 130]];
-
 // What the working functions are told: the settings, and what each column's numbers add up to, as a factor.
 struct Order {
     set: usize,
@@ -38,12 +35,45 @@ struct Order {
 
 // ---- Places, counted in shared numbers, for `deal` and crates stock, column and side, which ask questions 1 and 2 first.
 
-// Behind the mask of a coefficient: where digit i's vector begins, or for 5 the triples.
+// Set 0, behind the mask of a coefficient: where digit i's vector begins, or for 5 the triples. (The compiler makes one table of a
+// match; it would write out a constant array at each call.)
+fn start_of_first(i: usize) -> usize
+    requires { ⌜ i < 6 ⌝ }
+    ensures { λ r. ⌜ (r ≡ 1 + sumTo i (base (scaleOf 0))) × (r ≤ 133) ⌝ }
+{
+    match i {
+        0 => 1,
+        1 => 17,
+        2 => 33,
+        3 => 57,
+        4 => 88,
+        _ => 133,
+    }
+}
+
+// The same for set 1.
+fn start_of_second(i: usize) -> usize
+    requires { ⌜ i < 6 ⌝ }
+    ensures { λ r. ⌜ (r ≡ 1 + sumTo i (base (scaleOf 1))) × (r ≤ 133) ⌝ }
+{
+    match i {
+        0 => 1,
+        1 => 17,
+        2 => 49,
+        3 => 80,
+        4 => 113,
+        _ => 130,
+    }
+}
+
 fn start_of(set: usize, i: usize) -> usize
     requires { ⌜ (set < 2) × (i < 6) ⌝ }
     ensures { λ r. ⌜ (r ≡ 1 + sumTo i (base (scaleOf set))) × (r ≤ 133) ⌝ }
 {
-    STARTS[set][i]
+    if set == 0 {
+        return start_of_first(i);
+    }
+    start_of_second(i)
 }
 
 // The places of one coefficient.
@@ -94,7 +124,7 @@ pub fn group_at(set: usize, kind: u32, n: usize, g: usize) -> usize
 }
 
 // The K of a zero check.
-fn group_k(kind: u32, n: usize) -> usize
+pub fn group_k(kind: u32, n: usize) -> usize
     requires { ⌜ n ≤ 8 ⌝ }
     ensures { λ r. ⌜ (r ≡ groupK kind n) × (r ≤ 8) ⌝ }
 {

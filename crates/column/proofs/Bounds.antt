@@ -1,13 +1,13 @@
 -- Bounds that the functions need: places in a column, digits, thresholds, indices, and how many openings a round has.
 use mathlib.Core.Path.{_≡_, refl, ap}
 use mathlib.Core.Logic.{_≢_}
-use mathlib.Core.Bool.{Bool, true, false, cond}
+use mathlib.Core.Bool.{Bool, true, false, cond, false≢true}
 use Prim.Native.Nat.{ℕ, zero, suc, _+_, _-_, _*_, _/_, _%_, _≤_, _<_}
 use native.Mathlib.Nat.{mod-lt, mul-le-mul-left, mul-le-mul-right, le-div-iff-mul-le}
 use native.Mathlib.Decide.{decLt}
 use native.Mathlib.Omega.{arith}
-use lib.Dec.{eqb, leb}
-use borrow.Author.Tests.{leb-true, ne-eqb, eq-eqb, le-leb, lt-leb}
+use lib.Dec.{eqb, leb, ltb}
+use borrow.Author.Tests.{leb-true, ne-eqb, eq-eqb, le-leb, lt-leb, lt-ltb, le-ltb}
 use Rattle.lists.specs.Lists.{allTo}
 use Rattle.lists.proofs.Every.{allTo-at}
 use Rattle.field.specs.Field.{q}
@@ -20,7 +20,10 @@ use Rattle.rounding.proofs.Sets.{lawful, base-range}
 use Rattle.rounding.proofs.Radix.{low-digit, top-digit, unit-alpha, digit-below}
 use Rattle.message.specs.Lengths.{openings}
 use Rattle.book.specs.Book.{groupK, stride, vectorAt}
-use Rattle.column.specs.Steps.{lookedAt, groupOf}
+use Rattle.column.specs.Steps.{lookedAt, limitOf, groupOf}
+use Rattle.column.specs.Weights.{ruleOf}
+use Rattle.column.specs.declared.Rule.{Rule}
+use Rattle.column.specs.declared.Rule.the-variants.{Carry, Zero, Top, Over, Below}
 
 -- ---- Places
 
@@ -56,6 +59,34 @@ digit-small set x i hs hi l = go (decLt i 4)
     go (no p) =
         let e : i ≡ 4 = omega arith in
         rw (e, top-digit (scaleOf set) x, unit-alpha (scaleOf set) (lawful set hs)) (top-small set x hs l)
+
+-- ---- The rule Zero: digits 0 to 3 of HIGH alone have it
+
+isZero : Rule → Bool
+isZero Carry = false
+isZero Zero = true
+isZero Top = false
+isZero Over = false
+isZero Below = false
+
+zero-low : (kind i k : ℕ) → ruleOf kind i k ≡ Zero → i < 4
+unfolding ruleOf isZero
+zero-low kind i k e = go (eqb kind 0) (eqb k 0) (decLt i 4) (ap isZero e)
+  where
+    go : (a b : Bool) → Dec (i < 4) → isZero (cond a (cond (ltb i 4) (cond b Carry Zero) (cond b Top Over)) Below) ≡ true → i < 4
+    go a b (yes h) t = h
+    go true true (no h) t = absurd (false≢true (rw (le-ltb i 4 (omega arith)) at t))
+    go true false (no h) t = absurd (false≢true (rw (le-ltb i 4 (omega arith)) at t))
+    go false b (no h) t = absurd (false≢true t)
+
+-- its limit is the digit's base, and the public digit + 1 is at most that
+pub zero-fits : (set kind i k x d up : ℕ) → set < 2 → up ≤ 1 → d ≡ digit (scaleOf set) x i → ruleOf kind i k ≡ Zero → (base (scaleOf set) i ≡ limitOf (scaleOf set) i) × (d + up ≤ limitOf (scaleOf set) i)
+unfolding limitOf
+zero-fits set kind i k x d up hs hu e rule =
+    let low = zero-low kind i k rule in
+    let b = base-range set i hs (omega arith) in
+    rw (lt-ltb i 4 low)
+    (refl, rw (e, low-digit (scaleOf set) x i low) (omega (arith, mod-lt (x / unit (scaleOf set) i) {m = base (scaleOf set) i} (omega arith))))
 
 -- a threshold is below q, and so its digits are below their bases
 threshold-below : (bound k y : ℕ) → threshold q bound k y < q

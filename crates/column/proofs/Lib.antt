@@ -11,3 +11,4 @@ pub mod Checks
 pub mod Start
 pub mod Rounds
 pub mod PlainRun
+pub mod Ranges

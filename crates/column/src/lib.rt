@@ -1,15 +1,17 @@
 // The seven rounds on a side's working slice: what each column gives to a round's openings, and what the opened
 // numbers make of it. Every step is a linear form with public coefficients, the same in every column.
 ghost use mathlib.Core.Path.{_≡_};
-ghost use mathlib.Core.Logic.{_≢_};
+ghost use mathlib.Core.Logic.{_≢_, _⊎_};
+ghost use mathlib.Core.Bool.{cond};
 ghost use mathlib.Core.List.{List};
-ghost use Prim.Native.Nat.{ℕ, _+_, _*_, _/_, _≤_, _<_};
+ghost use Prim.Native.Nat.{ℕ, _+_, _*_, _-_, _/_, _%_, _≤_, _<_, min};
 ghost use lib.Dec.{ltb, leb, eqb};
 ghost use lib.ListN.{length, getD};
 ghost use Rattle.lists.specs.Answers.{bit};
 ghost use Rattle.lists.specs.Lists.{fill};
 ghost use Rattle.field.specs.Field.{q, add, sub, mul};
-ghost use Rattle.field.specs.Forms.{value, sum};
+ghost use Rattle.field.specs.Forms.{value, sum, _⊟_};
+ghost use Rattle.field.specs.Sums.{sumTo};
 ghost use Rattle.rounding.specs.Sets.{scaleOf};
 ghost use Rattle.rounding.specs.Digits.{digit};
 ghost use Rattle.rounding.specs.Rounds.{top, threshold, gap};
@@ -17,14 +19,17 @@ ghost use Rattle.message.specs.Lengths.{openings};
 ghost use Rattle.book.specs.Book.{groupK};
 ghost use Rattle.column.specs.Layout.{places, ownAt, runningAt, column, maskedIn};
 ghost use Rattle.column.specs.Weights.{weigh, ruleOf};
+ghost use Rattle.column.specs.declared.Rule.the-variants.{Zero};
 ghost use Rattle.column.specs.Steps.{publicOf, lookedAt, limitOf, vectorSum, addend, factorU, factorV, tripleOf, shiftOf, openInput, openFactor, insideForm, insides, checked, openCheck, gateResult, groupOf, checkEntry, afterCheck, running};
 ghost use Rattle.column.specs.Work.{openingOn, runningOn, takenColumn, takenColumns, takenWork};
 ghost use Rattle.column.specs.Calls.{publicBy, Ready, Held, HeldAll};
 use book::group_at;
 use book::group_gap;
+use book::group_k;
 use book::mask_at;
 use book::triple_at;
 use book::vector_at;
+use field::Q;
 use field::Q64;
 use field::add_mod;
 use field::mul_mod;
@@ -38,15 +43,15 @@ use rounding::split_number;
 
 // The places of a column, and where in it stand the inputs, the two running registers of each coefficient, this side's
 // own numbers for the openings, and (in column 0 alone) the masked numbers.
-const PLACES: usize = 1536;
+pub const PLACES: usize = 1536;
 
-const INPUT: usize = 1320;
+pub const INPUT: usize = 1320;
 
 const FIRST: usize = 1328;
 
 const SECOND: usize = 1336;
 
-const OWN: usize = 1344;
+pub const OWN: usize = 1344;
 
 const MASKED: usize = 1376;
 
@@ -73,6 +78,26 @@ pub enum Rule {
 
 // ---- Sums over a digit's vector
 
+// a - b, or 0 if b is larger.
+fn less_by(a: u32, b: u32) -> u32
+    ensures { λ r. ⌜ r ≡ a - b ⌝ }
+{
+    if a < b {
+        return 0;
+    }
+    a - b
+}
+
+// The smaller of the two.
+fn least(a: u32, b: u32) -> u32
+    ensures { λ r. ⌜ (r ≡ min a b) × (r ≤ b) ⌝ }
+{
+    if a < b {
+        return a;
+    }
+    b
+}
+
 // 1 where the test passes, else 0.
 fn less(a: u32, b: u32) -> u32
     ensures { λ r. ⌜ (r ≡ bit (ltb a b)) × (r ≤ 1) ⌝ }
@@ -80,37 +105,11 @@ fn less(a: u32, b: u32) -> u32
     if a < b { 1 } else { 0 }
 }
 
-fn not_above(a: u32, b: u32) -> u32
-    ensures { λ r. ⌜ (r ≡ bit (leb a b)) × (r ≤ 1) ⌝ }
-{
-    if a <= b { 1 } else { 0 }
-}
-
-fn equal(a: u32, b: u32) -> u32
-    ensures { λ r. ⌜ (r ≡ bit (eqb a b)) × (r ≤ 1) ⌝ }
-{
-    if a == b { 1 } else { 0 }
-}
-
 // t(d).
 fn top_of(s: u32, d: u32) -> u32
     ensures { λ r. ⌜ (r ≡ top s d) × (r ≤ d) ⌝ }
 {
     if d < s { d } else { d - s }
-}
-
-// The public weight of entry j for the public digit d.
-fn weigh_entry(rule: Rule, b: u32, d: u32, j: u32) -> u32
-    requires { ⌜ (1 ≤ b) × (b ≤ 45) × (d ≤ 65536) × (j < 64) ⌝ }
-    ensures { λ r. ⌜ (r ≡ weigh rule b d j) × (r < 131072) ⌝ }
-{
-    match rule {
-        Rule::Carry => not_above(b, j + d),
-        Rule::Zero => equal((j + d) % b, 0),
-        Rule::Top => top_of(b, j + d),
-        Rule::Over => less(b, j + d),
-        Rule::Below => less(j, d),
-    }
 }
 
 fn times(a: u32, b: u32) -> u64
@@ -128,22 +127,102 @@ fn register(work: &[u32], col: usize, i: usize) -> u32
     work[col * PLACES + i]
 }
 
-// n registers from a place on, each times its weight by the rule. The sum is reduced once.
-fn weighted_sum(work: &[u32], col: usize, place: usize, n: usize, rule: Rule, b: u32, d: u32) -> u32
-    requires { ⌜ ((col + 1) * places ≤ length (now work)) × (place + n ≤ ownAt 0) × (n ≤ 64) × (1 ≤ b) × (b ≤ 45) × (d ≤ 65536) ⌝ }
-    ensures { λ r. ⌜ ((κ : ℕ) → r ≡ value q κ (column (now (work .entry)) col) (sum n place (weigh rule b d))) ⌝ }
+// Entries `from` to `to` of the vector at a place, each once. Sums are reduced once.
+fn part_sum(work: &[u32], col: usize, place: usize, from: usize, to: usize) -> u32
+    requires { ⌜ ((col + 1) * places ≤ length (now work)) × (place + to ≤ ownAt 0) × (to ≤ 64) × (from ≤ 64) ⌝ }
+    ensures { λ r. ⌜ r ≡ sumTo (to - from) (λ (j : ℕ). column (now (work .entry)) col (place + (from + j))) % q ⌝ }
+{
+    let mut total: u64 = 0;
+    let mut j = from;
+    while j < to {
+        total = total + register(work, col, place + j) as u64;
+        j += 1;
+    }
+    (total % Q64) as u32
+}
+
+// The n entries of the vector at a place, entry j times t(j + d).
+fn top_sum(work: &[u32], col: usize, place: usize, n: usize, s: u32, d: u32) -> u32
+    requires { ⌜ ((col + 1) * places ≤ length (now work)) × (place + n ≤ ownAt 0) × (n ≤ 64) × (d ≤ 65536) ⌝ }
+    ensures { λ r. ⌜ r ≡ sumTo n (λ (j : ℕ). top s (j + d) * column (now (work .entry)) col (place + j)) % q ⌝ }
 {
     let mut total: u64 = 0;
     let mut j = 0;
     while j < n {
-        total = total
-            + times(
-                weigh_entry(rule, b, d, j as u32),
-                register(work, col, place + j),
-            );
+        total = total + times(top_of(s, j as u32 + d), register(work, col, place + j));
         j += 1;
     }
     (total % Q64) as u32
+}
+
+// The entry j below b with (j + d) mod b = 0.
+fn zero_entry(b: u32, d: u32) -> usize
+    requires { ⌜ (1 ≤ b) × (d ≤ b) ⌝ }
+    ensures { λ r. ⌜ (r < b) × ((r + d ≡ 0) ⊎ (r + d ≡ b)) ⌝ }
+{
+    if d == 0 {
+        return 0;
+    }
+    (b - d) as usize
+}
+
+// The n entries of the vector at a place, each times its weight by the rule. But for Top's, weights are 0 or 1: the sum goes through
+// the entries of weight 1 alone.
+fn weighted_sum(work: &[u32], col: usize, place: usize, n: usize, rule: Rule, b: u32, d: u32) -> u32
+    requires { ⌜ ((col + 1) * places ≤ length (now work)) × (place + n ≤ ownAt 0) × (n ≤ 64) × (1 ≤ b) × (b ≤ 45) × (d ≤ 65536) ⌝ }
+    requires { ⌜ (rule ≡ Zero → (n ≡ b) × (d ≤ b)) ⌝ }
+    ensures { λ r. ⌜ ((κ : ℕ) → r ≡ value q κ (column (now (work .entry)) col) (sum n place (weigh rule b d))) ⌝ }
+{
+    match rule {
+        Rule::Carry => part_sum(work, col, place, less_by(b, d) as usize, n),
+        Rule::Zero => register(work, col, place + zero_entry(b, d)) % Q,
+        Rule::Top => top_sum(work, col, place, n, b, d),
+        Rule::Over => part_sum(work, col, place, less_by(b + 1, d) as usize, n),
+        Rule::Below => part_sum(work, col, place, 0, least(d, n as u32) as usize),
+    }
+}
+
+// An entry of the vector of n at a place, or 0 behind its end.
+fn entry_at(work: &[u32], col: usize, place: usize, n: usize, j: usize) -> u32
+    requires { ⌜ ((col + 1) * places ≤ length (now work)) × (place + n ≤ ownAt 0) ⌝ }
+    ensures { λ r. ⌜ r ≡ cond (ltb j n) (column (now (work .entry)) col (place + j)) 0 % q ⌝ }
+{
+    if j < n {
+        return register(work, col, place + j) % Q;
+    }
+    0
+}
+
+// The entry j with j + d = b, or n if there is none.
+fn back_from(b: u32, d: u32, n: usize) -> usize
+    ensures { λ r. ⌜ r ≡ cond (leb d b) (b - d) n ⌝ }
+{
+    if d <= b {
+        return (b - d) as usize;
+    }
+    n
+}
+
+// What the weighted sum grows by where the digit is one higher: one weight becomes 1, for Zero one becomes 0 too. For Top all grow by
+// 1, but for the one that falls from s - 1 to 0.
+fn raised_by(work: &[u32], col: usize, place: usize, n: usize, rule: Rule, b: u32, d: u32) -> u32
+    requires { ⌜ ((col + 1) * places ≤ length (now work)) × (place + n ≤ ownAt 0) × (n ≤ 64) × (1 ≤ b) × (b ≤ 45) × (d < 65536) ⌝ }
+    requires { ⌜ (rule ≡ Zero → (n ≡ b) × (d + 1 ≤ b)) ⌝ }
+    ensures { λ r. ⌜ ((κ : ℕ) → r ≡ value q κ (column (now (work .entry)) col) (sum n place (weigh rule b (d + 1)) ⊟ sum n place (weigh rule b d))) ⌝ }
+{
+    match rule {
+        Rule::Carry => entry_at(work, col, place, n, back_from(b, d + 1, n)),
+        Rule::Zero => sub_mod(
+            register(work, col, place + zero_entry(b, d + 1)),
+            register(work, col, place + zero_entry(b, d)),
+        ),
+        Rule::Top => {
+            let turned = entry_at(work, col, place, n, back_from(b, d + 1, n));
+            sub_mod(part_sum(work, col, place, 0, n), mul_mod(b, turned))
+        }
+        Rule::Over => entry_at(work, col, place, n, back_from(b, d, n)),
+        Rule::Below => entry_at(work, col, place, n, d as usize),
+    }
 }
 
 // ---- Digits. (k is the first (0) or second (1) gate and running register of a coefficient.)
@@ -219,7 +298,7 @@ fn limit_of(set: usize, i: usize) -> u32
 
 // ---- Gates: addend + u × v, of digit i of coefficient c. No public number is added: the weight does not matter.
 
-// A, Z, F, G, or the sum below Ti; with up = 1 the same with the digit + 1.
+// A, Z, F, G, or the sum below Ti.
 fn vector_sum(
     work: &[u32],
     col: usize,
@@ -228,18 +307,39 @@ fn vector_sum(
     c: usize,
     i: usize,
     k: usize,
-    up: u32,
 ) -> u32
     requires { ⌜ Ready settings ⌝ }
-    requires { ⌜ ((col + 1) * places ≤ length (now work)) × (c < settings .n) × (i < 5) × (up ≤ 1) ⌝ }
-    ensures { λ r. ⌜ ((κ : ℕ) → r ≡ value q κ (column (now (work .entry)) col) (vectorSum (publicBy settings ys) c i k up)) ⌝ }
+    requires { ⌜ ((col + 1) * places ≤ length (now work)) × (c < settings .n) × (i < 5) ⌝ }
+    ensures { λ r. ⌜ ((κ : ℕ) → r ≡ value q κ (column (now (work .entry)) col) (vectorSum (publicBy settings ys) c i k 0)) ⌝ }
 {
-    let d = digit_of(settings, ys[c], i, k) + up;
+    let d = digit_of(settings, ys[c], i, k);
     let place = vector_at(settings.set, settings.kind, c, i);
     let b = base_of(settings.set, i) as usize;
     let limit = limit_of(settings.set, i);
     let rule = rule_of(settings.kind, i, k);
     weighted_sum(work, col, place, b, rule, limit, d)
+}
+
+// A′ − A, Z′ − Z, F′ − F or G′ − G.
+fn vector_raise(
+    work: &[u32],
+    col: usize,
+    settings: Settings,
+    ys: [u32; 8],
+    c: usize,
+    i: usize,
+    k: usize,
+) -> u32
+    requires { ⌜ Ready settings ⌝ }
+    requires { ⌜ ((col + 1) * places ≤ length (now work)) × (c < settings .n) × (i < 5) ⌝ }
+    ensures { λ r. ⌜ ((κ : ℕ) → r ≡ value q κ (column (now (work .entry)) col) (vectorSum (publicBy settings ys) c i k 1 ⊟ vectorSum (publicBy settings ys) c i k 0)) ⌝ }
+{
+    let d = digit_of(settings, ys[c], i, k);
+    let place = vector_at(settings.set, settings.kind, c, i);
+    let b = base_of(settings.set, i) as usize;
+    let limit = limit_of(settings.set, i);
+    let rule = rule_of(settings.kind, i, k);
+    raised_by(work, col, place, b, rule, limit, d)
 }
 
 fn addend_value(
@@ -255,7 +355,7 @@ fn addend_value(
     requires { ⌜ ((col + 1) * places ≤ length (now work)) × (c < settings .n) × (i < 5) × (k < 2) ⌝ }
     ensures { λ r. ⌜ ((κ : ℕ) → r ≡ value q κ (column (now (work .entry)) col) (addend (publicBy settings ys) c i k)) ⌝ }
 {
-    let a = vector_sum(work, col, settings, ys, c, i, k, 0);
+    let a = vector_sum(work, col, settings, ys, c, i, k);
     if settings.kind == 0 {
         if k == 1 {
             return add_mod(register(work, col, SECOND + c), a);
@@ -300,9 +400,7 @@ fn v_value(
     ensures { λ r. ⌜ ((κ : ℕ) → r ≡ value q κ (column (now (work .entry)) col) (factorV (publicBy settings ys) c i k)) ⌝ }
 {
     if settings.kind == 0 {
-        let b = vector_sum(work, col, settings, ys, c, i, k, 1);
-        let a = vector_sum(work, col, settings, ys, c, i, k, 0);
-        return sub_mod(b, a);
+        return vector_raise(work, col, settings, ys, c, i, k);
     }
     register(work, col, FIRST + 8 * k + c)
 }
@@ -401,17 +499,6 @@ fn insides_value(
     total
 }
 
-// The K of a zero check.
-fn most_of(kind: u32, n: usize) -> u32
-    requires { ⌜ n ≤ 8 ⌝ }
-    ensures { λ r. ⌜ r ≡ groupK kind n ⌝ }
-{
-    if kind == 0 {
-        return 5;
-    }
-    n as u32
-}
-
 // The number that group g checks for zero.
 fn checked_value(
     work: &[u32],
@@ -425,7 +512,7 @@ fn checked_value(
     requires { ⌜ ((col + 1) * places ≤ length (now work)) × (g < settings .n) ⌝ }
     ensures { λ r. ⌜ r ≡ value q weight (column (now (work .entry)) col) (checked (publicBy settings ys) g) ⌝ }
 {
-    let most = mul_mod(weight, most_of(settings.kind, settings.n));
+    let most = mul_mod(weight, group_k(settings.kind, settings.n) as u32);
     if settings.kind == 0 {
         return sub_mod(most, register(work, col, SECOND + g));
     }
@@ -581,7 +668,7 @@ fn running_value(
     ensures { λ r. ⌜ r ≡ runningOn (publicBy settings ys) round (λ (o : ℕ). getD (now (opened .entry)) o 0) weight (column (now (work .entry)) col) k c ⌝ }
 {
     if round == 1 {
-        return vector_sum(work, col, settings, ys, c, 0, k, 0);
+        return vector_sum(work, col, settings, ys, c, 0, k);
     }
     if round <= 5 {
         let i = (round - 1) as usize;

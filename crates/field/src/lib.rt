@@ -29,16 +29,17 @@ pub fn mul_mod(a: u32, b: u32) -> u32
     ((a as u64 * b as u64) % Q64) as u32
 }
 
-// Question 6 of a list: is every number below q?
+// Question 6 of a list: is every number below q? None is passed over after a first no, so that several are compared at a time.
 pub fn all_below_q(numbers: &[u32]) -> bool
     ensures { λ r. ⌜ r ≡ allBelow q (now (numbers .entry)) ⌝ }
 {
+    let mut good = true;
     let mut i = 0;
     while i < numbers.len() {
         if numbers[i] >= Q {
-            return false;
+            good = false;
         }
         i += 1;
     }
-    true
+    good
 }

@@ -18,7 +18,8 @@ use Rattle.rounding.specs.Questions.{isBit, countOk, boundOk, askSettings}
 use Rattle.rounding.proofs.Ready.{count-ready}
 use Rattle.book.specs.Book.{shared}
 use Rattle.book.specs.Deal.{dealNo}
-use Rattle.side.specs.Side.{freshSide, whole, sendDue, takeDue, underWay, handedNo, beginNo}
+use Rattle.state.specs.State.{freshSide, whole, sendDue, takeDue, underWay}
+use Rattle.side.specs.Side.{handedNo, beginNo}
 use Rattle.lines.specs.declared.Order.{Order}
 use Rattle.lines.specs.Plain.{secretOf, orderNo}
 use Rattle.lines.specs.Play.{ones, thrice, Lent}

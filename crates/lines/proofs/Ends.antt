@@ -18,8 +18,8 @@ use Rattle.rounding.specs.Plain.{highPart, verdict}
 use Rattle.rounding.proofs.Ready.{settings-ready, settings-rest}
 use Rattle.book.specs.Book.{shared, drawLength}
 use Rattle.book.specs.Deal.{multipliers, serverBook, phoneBook, Dealt, dealNo, dealCall}
-use Rattle.side.specs.declared.Side.{Side}
-use Rattle.side.specs.Side.{freshSide, whole, sendDue, takeDue, underWay, finished, answerPlaces, heldAnswer, answerNo, answerCall}
+use Rattle.state.specs.declared.Side.{Side}
+use Rattle.state.specs.State.{freshSide, whole, sendDue, takeDue, underWay, finished, answerPlaces, heldAnswer, answerNo, answerCall}
 use Rattle.runs.specs.Records.{Settings, answerOf, missing, Hand, Seat, World, outcome, step, worldAfter}
 use Rattle.runs.specs.Demands.{Fixed, Idle, ownHand, otherHand, Ended}
 use Rattle.runs.proofs.Theorem.{every-run-ends}

@@ -9,7 +9,7 @@ use lib.Dec.{eqb}
 use lib.ListN.{length, take}
 use borrow.Author.Tests.{eqb-true}
 use Rattle.message.specs.Lengths.{messageLength}
-use Rattle.side.specs.declared.Side.{Side}
+use Rattle.state.specs.declared.Side.{Side}
 use Rattle.side.specs.Side.{sendNo, message, sentSide, afterSend, sendCall}
 use Rattle.side.proofs.Sending.{send-ready}
 use Rattle.lists.specs.Lists.{inFront}

@@ -1,5 +1,4 @@
 -- The laws of input lines and output lines.
-pub mod Choices
 pub mod Rows
 pub mod Numbers
 pub mod Words
@@ -15,3 +14,4 @@ pub mod Handed
 pub mod Ends
 pub mod Asked
 pub mod Lines
+pub mod Cut

@@ -10,7 +10,7 @@ use borrow.Author.Tests.{lt-ltb, le-ltb}
 use lib.ListN.{length, getD, take, drop, length-append, length-take, drop-of-length-le}
 use native.Mathlib.Decide.{decLt}
 use lib.Seq.{drop-cons, take-all}
-use Rattle.lines.specs.Answer.{decimalIn, decimal, lastDigit, numbersText, refusalText, answerPart, answerText, textOf, put, puts}
+use Rattle.lines.specs.Answer.{decimalIn, decimal, lineNumber, lastDigit, numbersText, refusalText, answerPart, answerText, textOf, put, puts}
 use Rattle.lines.specs.declared.Text.{Text}
 use Rattle.lines.proofs.Rows.{set-row}
 
@@ -66,6 +66,10 @@ pub length-decimal : (n : ℕ) → length (decimal n) ≤ 10
 unfolding decimal
 length-decimal n = length-decimalIn 9 n
 
+length-line-number : (n : ℕ) → length (lineNumber n) ≤ 20
+unfolding lineNumber
+length-line-number n = length-decimalIn 19 n
+
 length-numbers : (ns : List ℕ) → length (numbersText ns) ≤ length ns * 11
 unfolding numbersText
 length-numbers [] = omega arith
@@ -77,9 +81,9 @@ pub length-answer : (number refused : ℕ) (ns : List ℕ) → length ns ≤ 8 �
 unfolding answerText answerPart refusalText
 length-answer number refused ns h = go (eqb refused 0)
   where
-    go : (t : Bool) → length (decimal number ++ cond t (numbersText ns) (refusalText refused) ++ 10 ∷ []) ≤ 112
-    go true = omega (arith, h, length-append (decimal number ++ numbersText ns) (10 ∷ []), length-append (decimal number) (numbersText ns), length-decimal number, length-numbers ns)
-    go false = omega (arith, length-append (decimal number ++ 32 ∷ 33 ∷ decimal refused) (10 ∷ []), length-append (decimal number) (32 ∷ 33 ∷ decimal refused), length-decimal number, length-decimal refused)
+    go : (t : Bool) → length (lineNumber number ++ cond t (numbersText ns) (refusalText refused) ++ 10 ∷ []) ≤ 112
+    go true = omega (arith, h, length-append (lineNumber number ++ numbersText ns) (10 ∷ []), length-append (lineNumber number) (numbersText ns), length-line-number number, length-numbers ns)
+    go false = omega (arith, length-append (lineNumber number ++ 32 ∷ 33 ∷ decimal refused) (10 ∷ []), length-append (lineNumber number) (32 ∷ 33 ∷ decimal refused), length-line-number number, length-decimal refused)
 
 -- ---- the loop over numbers
 
@@ -94,7 +98,7 @@ numbers-done s t ns i h e = rw (drop-of-length-le ns h) at e
 
 -- ---- a line from its parts
 
-answer-text : (n r : ℕ) (xs : List ℕ) → answerText n r xs ≡ decimal n ++ answerPart r xs ++ 10 ∷ []
+answer-text : (n r : ℕ) (xs : List ℕ) → answerText n r xs ≡ lineNumber n ++ answerPart r xs ++ 10 ∷ []
 unfolding answerText
 answer-text n r xs = refl
 
@@ -106,12 +110,16 @@ take-kept k count ns l e = go (decLt count 8)
     go (no h) = take-all k ns (omega (arith, e, h, l)) ∙ sym (take-all count ns (omega (arith, h, l)))
 
 pub answer-is : (number refused k count : ℕ) (ns : List ℕ) (a b c d : Text) → length ns ≡ 8 → k ≡ min count 8
-    → a ≡ textOf [] → b ≡ puts a (decimal number) → c ≡ puts b (answerPart refused (take k ns)) → d ≡ put c 10
+    → a ≡ textOf [] → b ≡ puts a (lineNumber number) → c ≡ puts b (answerPart refused (take k ns)) → d ≡ put c 10
     → d ≡ textOf (answerText number refused (take count ns))
 answer-is number refused k count ns a b c d l e pa pb pc pd =
     let whole : puts (textOf []) (answerText number refused (take count ns)) ≡ textOf (answerText number refused (take count ns)) =
     puts-text [] _ (omega (arith, length-answer number refused (take count ns) (omega (arith, l, length-take count ns)))) in
     rw (pd, pc, pb, pa, take-kept k count ns l e) (parts (textOf []) number refused (take count ns) ∙ whole)
   where
-    parts : (t : Text) (n r : ℕ) (xs : List ℕ) → put (puts (puts t (decimal n)) (answerPart r xs)) 10 ≡ puts t (answerText n r xs)
-    parts t n r xs = sym (puts-one _ 10) ∙ puts-append (puts t (decimal n)) (answerPart r xs) (10 ∷ []) ∙ puts-append t (decimal n) (answerPart r xs ++ 10 ∷ []) ∙ ap (puts t) (sym (append-assoc (decimal n) (answerPart r xs) (10 ∷ [])) ∙ sym (answer-text n r xs))
+    parts : (t : Text) (n r : ℕ) (xs : List ℕ) → put (puts (puts t (lineNumber n)) (answerPart r xs)) 10 ≡ puts t (answerText n r xs)
+    parts t n r xs = sym (puts-one _ 10) ∙ puts-append (puts t (lineNumber n)) (answerPart r xs) (10 ∷ []) ∙ puts-append t (lineNumber n) (answerPart r xs ++ 10 ∷ []) ∙ ap (puts t) (sym (append-assoc (lineNumber n) (answerPart r xs) (10 ∷ [])) ∙ sym (answer-text n r xs))
+
+pub answer-fits : (number refused count : ℕ) (ns : List ℕ) (t : Text) → length ns ≡ 8 → t ≡ textOf (answerText number refused (take count ns)) → t .length ≤ 112
+unfolding textOf
+answer-fits number refused count ns t l e = rw e (length-answer number refused (take count ns) (omega (arith, l, length-take count ns)))

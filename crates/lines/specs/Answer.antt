@@ -21,6 +21,10 @@ decimalIn (suc k) n = cond (ltb n 10) (lastDigit n ∷ []) (decimalIn k (n / 10)
 unfoldable pub decimal : ℕ → List ℕ
 decimal n = decimalIn 9 n
 
+-- a line number in decimal: one below 10^20, so any of 64 bits
+unfoldable pub lineNumber : ℕ → List ℕ
+lineNumber n = decimalIn 19 n
+
 -- a blank before each number
 unfoldable pub numbersText : List ℕ → List ℕ
 numbersText [] = []
@@ -36,7 +40,7 @@ answerPart refused ns = cond (eqb refused 0) (numbersText ns) (refusalText refus
 
 -- "Each output line: line number, then high parts or verdict, or `!` and the refusal, one blank between numbers"; byte 10 ends it
 unfoldable pub answerText : ℕ → ℕ → List ℕ → List ℕ
-answerText number refused ns = decimal number ++ answerPart refused ns ++ 10 ∷ []
+answerText number refused ns = lineNumber number ++ answerPart refused ns ++ 10 ∷ []
 
 -- bytes as they stand in a text
 unfoldable pub textOf : List ℕ → Text

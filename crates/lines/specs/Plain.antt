@@ -2,18 +2,18 @@
 use Prim.Native.Nat.{ℕ}
 use mathlib.Core.Bool.{cond}
 use mathlib.Core.List.{List, []}
-use lib.Dec.{eqb, ltb}
+use lib.Dec.{eqb, leb, ltb}
 use lib.ListN.{take, replicate}
 use Rattle.lists.specs.Answers.{ask}
 use Rattle.lists.specs.Lists.{allBelow, inFront}
 use Rattle.field.specs.Field.{q}
 use Rattle.rounding.specs.Questions.{askSettings}
-use Rattle.side.specs.Side.{answerPlaces}
+use Rattle.state.specs.State.{answerPlaces}
 use Rattle.runs.specs.Records.{Settings, answerOf}
 use Rattle.lines.specs.declared.Order.{Order}
 use Rattle.lines.specs.declared.Outcome.{Outcome}
 use Rattle.lines.specs.declared.Text.{Text}
-use Rattle.lines.specs.Line.{lineOf}
+use Rattle.lines.specs.Line.{tooLarge, lineOf}
 use Rattle.lines.specs.Answer.{answerText, textOf}
 
 -- the settings of a line
@@ -42,9 +42,11 @@ outcomeOf serial o =
     (record { refused = 0; length = answerPlaces (o .kind) (o .count); numbers = inFront (answerOf (settingsOf o) (secretOf o)) (replicate 8 0) })
     (record { refused = refusal; length = 0; numbers = replicate 8 0 })
 
--- "Each output line: line number, then high parts or verdict, or `!` and the refusal"; "malformed: `!12`, no run"; "serial = line number"
+-- "Each output line: line number, then high parts or verdict, or `!` and the refusal"; "malformed: `!12`, no run"; "serial = line number",
+-- and serials end at 2^32 − 1, so that no line beyond has a run
 unfoldable pub lineAnswer : ℕ → List ℕ → Text
 lineAnswer number line =
     let o = lineOf line in
     let r = outcomeOf number o in
-    cond (o .good) (textOf (answerText number (r .refused) (take (r .length) (r .numbers)))) (textOf (answerText number 12 []))
+    cond (leb tooLarge number) (textOf (answerText number 12 []))
+    (cond (o .good) (textOf (answerText number (r .refused) (take (r .length) (r .numbers)))) (textOf (answerText number 12 [])))

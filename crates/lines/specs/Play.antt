@@ -9,8 +9,9 @@ use Rattle.lists.specs.Lists.{listTo, allBelow}
 use Rattle.field.specs.Field.{q}
 use Rattle.rounding.specs.Sets.{scaleOf}
 use Rattle.book.specs.Book.{shared, drawLength}
-use Rattle.side.specs.declared.Side.{Side}
-use Rattle.side.specs.Side.{freshSide, After, beginCall, sendCall, takeCall, answerCall}
+use Rattle.state.specs.declared.Side.{Side}
+use Rattle.state.specs.State.{freshSide, answerCall}
+use Rattle.side.specs.Side.{After, beginCall, sendCall, takeCall}
 use Rattle.runs.specs.Records.{Seat, World}
 use Rattle.lines.specs.declared.Order.{Order}
 use Rattle.lines.specs.declared.Outcome.{Outcome}

@@ -7,7 +7,7 @@ ghost use lib.ListN.{length, take, set};
 ghost use Rattle.lists.specs.Lists.{every};
 ghost use Rattle.lines.specs.Line.{digitByte, valueOf, tooLarge, fit, unfit, numberIn, isByte, kindIn, setIn, fieldAt, words, malformed, ordered, lineOf};
 ghost use Rattle.lines.specs.Reading.{wordLength, startReading, withWord, withWords, finish};
-ghost use Rattle.lines.specs.Answer.{lastDigit, decimalIn, decimal, numbersText, refusalText, answerPart, answerText, textOf, put, puts};
+ghost use Rattle.lines.specs.Answer.{lastDigit, decimalIn, decimal, lineNumber, numbersText, refusalText, answerPart, answerText, textOf, put, puts};
 ghost use Rattle.lines.specs.Plain.{orderNo, outcomeOf, lineAnswer};
 ghost use Rattle.lines.specs.Play.{seatOf, worldOf, Fits, sentAt, tookAt, serverHalf, phoneHalf, roundAfter, roundsAfter, thrice, begunAt, toldBy, playedWith, Lent};
 use book::deal;
@@ -15,12 +15,13 @@ use book::draw_length;
 use book::shared_of;
 use field::all_below_q;
 use rounding::settings_no;
-use side::Side;
-use side::answer;
+use side::WORK_LENGTH;
 use side::begin;
-use side::fresh;
 use side::send;
 use side::take;
+use state::Side;
+use state::answer;
+use state::fresh;
 
 // The most bytes of a line, without its line end.
 pub const LONGEST: usize = 1024;
@@ -37,7 +38,7 @@ const DIGITS: usize = 10;
 // The first number that is too large.
 const TOO_LARGE: u64 = 1 << 32;
 
-// The longest output line has 99 bytes: nine numbers of ten digits, eight blanks and the line end.
+// The longest output line has 109 bytes: a line number of 20 digits, eight numbers of ten digits, eight blanks and the line end.
 const ROOM: usize = 112;
 
 // What a line asks for: kind 0 HIGH or 1 BOUND, set, B, how many coefficients, and the first 8 of them. All is 0 where the line
@@ -366,14 +367,14 @@ fn put_byte(text: Text, byte: u8) -> Text
     text
 }
 
-fn put_last_digit(text: Text, number: u32) -> Text
+fn put_last_digit(text: Text, number: u64) -> Text
     ensures { λ r. ⌜ r ≡ put text (lastDigit number) ⌝ }
 {
     put_byte(text, b'0' + (number % 10) as u8)
 }
 
 // A number in decimal, of at most `more` digits more than one.
-fn put_digits(text: Text, number: u32, more: u32) -> Text
+fn put_digits(text: Text, number: u64, more: u32) -> Text
     ensures { λ r. ⌜ r ≡ puts text (decimalIn more number) ⌝ }
 {
     if more == 0 {
@@ -389,7 +390,14 @@ fn put_digits(text: Text, number: u32, more: u32) -> Text
 fn put_number(text: Text, number: u32) -> Text
     ensures { λ r. ⌜ r ≡ puts text (decimal number) ⌝ }
 {
-    put_digits(text, number, 9)
+    put_digits(text, number as u64, 9)
+}
+
+// Any number of 64 bits.
+fn put_line_number(text: Text, number: u64) -> Text
+    ensures { λ r. ⌜ r ≡ puts text (lineNumber number) ⌝ }
+{
+    put_digits(text, number, 19)
 }
 
 // A blank, then a number.
@@ -444,11 +452,12 @@ fn keep(count: usize) -> usize
 }
 
 // The output line for a line number: the numbers, or the refusal where it is not 0. A count above 8 counts as 8.
-pub fn answer_text(number: u32, refused: u32, count: usize, numbers: [u32; 8]) -> Text
+pub fn answer_text(number: u64, refused: u32, count: usize, numbers: [u32; 8]) -> Text
     ensures { λ r. ⌜ r ≡ textOf (answerText number refused (take count numbers)) ⌝ }
+    ensures { λ r. ⌜ r .length ≤ 112 ⌝ }
 {
     let n = keep(count);
-    let text = put_number(empty_text(), number);
+    let text = put_line_number(empty_text(), number);
     let answered = put_answer(text, refused, &numbers[..n]);
     put_byte(answered, b'\n')
 }
@@ -458,14 +467,12 @@ pub fn answer_text(number: u32, refused: u32, count: usize, numbers: [u32; 8]) -
 // Numbers of a shared number on one side.
 const WIDTH: usize = 3;
 
-// The most numbers of a draw, a book and a side's inputs; the numbers of a working slice; the most bytes of a message.
+// The most numbers of a draw, a book and a side's inputs; the most bytes of a message.
 const DRAW_LENGTH: usize = 4104;
 
 const BOOK_LENGTH: usize = 3960;
 
 const INPUTS_LENGTH: usize = 24;
-
-const WORK_LENGTH: usize = 4608;
 
 const MESSAGE_LENGTH: usize = 192;
 
@@ -769,15 +776,27 @@ pub fn play_order(serial: u32, order: Order) -> Outcome
 
 // ---- The whole line
 
-// The output line for an input line without its line end. Its number is the serial of its run.
-pub fn answer_line(number: u32, line: &[u8]) -> Text
-    ensures { λ r. ⌜ r ≡ lineAnswer number (now (line .entry)) ⌝ }
+// Refusal 12, for a line that asks for no run.
+fn malformed_text(number: u64) -> Text
+    ensures { λ r. ⌜ r ≡ textOf (answerText number 12 []) ⌝ }
+    ensures { λ r. ⌜ r .length ≤ 112 ⌝ }
 {
+    answer_text(number, 12, 0, [0; 8])
+}
+
+// The output line for an input line without its line end. Its number is the serial of its run; a line beyond the last serial is malformed.
+pub fn answer_line(number: u64, line: &[u8]) -> Text
+    ensures { λ r. ⌜ r ≡ lineAnswer number (now (line .entry)) ⌝ }
+    ensures { λ r. ⌜ r .length ≤ 112 ⌝ }
+{
+    if number >= TOO_LARGE {
+        return malformed_text(number);
+    }
     let order = read_line(line);
     if !order.good {
-        return answer_text(number, 12, 0, [0; 8]);
+        return malformed_text(number);
     }
-    let outcome = play_order(number, order);
+    let outcome = play_order(number as u32, order);
     let numbers = outcome.numbers;
     answer_text(number, outcome.refused, outcome.length, numbers)
 }

@@ -1,6 +1,6 @@
 -- Tests of every member of a list: one member, and a loop that stops at the first that fails.
 use mathlib.Core.Path.{_≡_, refl, sym, ap, _∙_}
-use mathlib.Core.Bool.{Bool, true, false, _&&_, and-false}
+use mathlib.Core.Bool.{Bool, true, false, _&&_, and-false, and-true}
 use mathlib.Core.List.{List, [], _∷_, _++_}
 use Prim.Native.Nat.{ℕ, zero, suc, _+_, _≤_, _<_}
 use native.Mathlib.Numerals.{add-one}
@@ -34,17 +34,20 @@ module _ (m : ℕ) (xs : List ℕ) (i : ℕ) where
   abbrev less : ℕ → Bool
   less x = ltb x m
 
-  pub below-again : i < length xs → getD xs i 0 < m → allBelow m (drop i xs) ≡ allBelow m xs → allBelow m (drop (i + 1) xs) ≡ allBelow m xs
-  unfolding allBelow
-  below-again h e inv = every-again less xs i h (lt-ltb (getD xs i 0) m e) inv
+  step : i < length xs → allBelow m (drop i xs) ≡ (ltb (getD xs i 0) m && allBelow m (drop (i + 1) xs))
+  unfolding allBelow every
+  step h = rw (drop-cons xs i 0 h, add-one) refl
 
-  pub below-stop : i < length xs → m ≤ getD xs i 0 → allBelow m (drop i xs) ≡ allBelow m xs → false ≡ allBelow m xs
-  unfolding allBelow
-  below-stop h e inv = every-stop less xs i h (le-ltb (getD xs i 0) m e) inv
+  -- a loop that looks at every number, `good` being whether all passed so far
+  pub below-passed : (good : Bool) → i < length xs → getD xs i 0 < m → (good && allBelow m (drop i xs)) ≡ allBelow m xs → (good && allBelow m (drop (i + 1) xs)) ≡ allBelow m xs
+  below-passed good h e inv = rw (step h, lt-ltb (getD xs i 0) m e) at inv
 
-  pub below-end : length xs ≤ i → allBelow m (drop i xs) ≡ allBelow m xs → true ≡ allBelow m xs
-  unfolding allBelow
-  below-end h inv = every-end less xs i h inv
+  pub below-failed : (good : Bool) → i < length xs → m ≤ getD xs i 0 → (good && allBelow m (drop i xs)) ≡ allBelow m xs → false ≡ allBelow m xs
+  below-failed good h e inv = sym (and-false good) ∙ rw (step h, le-ltb (getD xs i 0) m e) at inv
+
+  pub below-ended : (good : Bool) → length xs ≤ i → (good && allBelow m (drop i xs)) ≡ allBelow m xs → good ≡ allBelow m xs
+  unfolding allBelow every
+  below-ended good h inv = sym (and-true good) ∙ rw (drop-of-length-le xs h) at inv
 
 -- ---- one member
 

@@ -5,3 +5,4 @@ pub mod Every
 pub mod Lists
 pub mod Fill
 pub mod Part
+pub mod Choices

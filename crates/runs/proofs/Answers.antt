@@ -25,7 +25,8 @@ use Rattle.book.specs.Book.{widthOf}
 use Rattle.book.specs.Theorems.{Sizes}
 use Rattle.column.specs.Run.{openedFrom, plainOpened}
 use Rattle.column.specs.Theorems.{Sound, T2}
-use Rattle.side.specs.Side.{answerPlaces, begunSide, heldAnswer, finished, countCall}
+use Rattle.state.specs.State.{answerPlaces, heldAnswer, finished, countCall}
+use Rattle.side.specs.Side.{begunSide}
 use Rattle.runs.specs.Records.{Settings, settingsOk, answerOf, Hand}
 use Rattle.runs.specs.Demands.{Secret, Possible, Ended, Demand2, FipsHigh, ownHand, otherHand}
 use Rattle.runs.specs.Progress.{sideAt, seatAt, worldAt}

@@ -13,7 +13,7 @@ use Rattle.message.specs.Bits.{bytesFor, packed}
 use Rattle.message.specs.Lengths.{openings, messageBits, fieldCount, messageLength}
 use Rattle.message.specs.Message.{messageOf, headerIn, headerNumber}
 use Rattle.side.specs.Side.{message}
-use Rattle.side.specs.declared.Side.{Side}
+use Rattle.state.specs.declared.Side.{Side}
 
 pub length-join : (i n w : ℕ) (f : ℕ → List ℕ) → ((j : ℕ) → length (f j) ≡ w) → length (joinFrom i n f) ≡ w * n
 unfolding joinFrom

@@ -15,7 +15,7 @@ use Rattle.field.specs.Forms.{Adds}
 use Rattle.message.specs.Lengths.{openings}
 use Rattle.message.specs.Theorems.{RoundTrip}
 use Rattle.column.specs.Theorems.{T1Work}
-use Rattle.side.specs.declared.Side.{Side}
+use Rattle.state.specs.declared.Side.{Side}
 use Rattle.side.specs.Side.{partColumn, begunSide, prepared, incoming, opened, openedList, passes}
 use Rattle.runs.specs.Records.{Settings, settingsOk, Hand}
 use Rattle.runs.specs.Progress.{workAt, sideAt, seatAt, messageAt}

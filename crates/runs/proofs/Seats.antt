@@ -11,9 +11,10 @@ use borrow.Author.Tests.{le-leb, eqb-false}
 use Rattle.lists.specs.Answers.{ask}
 use Rattle.rounding.specs.Questions.{isBit, countOk, boundOk, askSettings, keysOk}
 use Rattle.message.specs.Lengths.{messageLength}
-use Rattle.side.specs.Side.{isSending, isTaking, whole, sendDue, takeDue, begunSide, sentSide, takenSide}
-use Rattle.side.specs.declared.Phase.{Phase}
-use Rattle.side.specs.declared.Phase.the-variants.{Sending, Taking, Finished}
+use Rattle.state.specs.State.{isSending, isTaking, whole, sendDue, takeDue}
+use Rattle.side.specs.Side.{begunSide, sentSide, takenSide}
+use Rattle.state.specs.declared.Phase.{Phase}
+use Rattle.state.specs.declared.Phase.the-variants.{Sending, Taking, Finished}
 use Rattle.runs.specs.Records.{Settings, Hand, Seat}
 use Rattle.runs.specs.Progress.{workAt, sideAt, messageAt, seatAt}
 use Rattle.runs.specs.Honest.{takeStep}

@@ -24,7 +24,7 @@ use Rattle.column.specs.Layout.{places, column, maskedIn, weights}
 use Rattle.column.specs.Steps.{publicOf}
 use Rattle.column.specs.Work.{openingOn}
 use Rattle.column.specs.Theorems.{T1Work}
-use Rattle.side.specs.declared.Side.{Side}
+use Rattle.state.specs.declared.Side.{Side}
 use Rattle.side.specs.Side.{partColumn, begunSide, prepared, outgoing, message}
 use Rattle.runs.specs.Records.{Settings, settingsOk, Hand}
 use Rattle.runs.specs.Progress.{workAt, sideAt, seatAt, messageAt}

@@ -13,8 +13,9 @@ use Rattle.field.specs.Field.{q}
 use Rattle.message.specs.Lengths.{openings, fieldCount, messageLength}
 use Rattle.message.specs.Message.{headerIn, headerNumber, fieldsOk, askForm}
 use Rattle.column.specs.Layout.{workLength}
-use Rattle.side.specs.declared.Phase.the-variants.{Sending, Taking, Finished}
-use Rattle.side.specs.Side.{begunSide, sendNo, takeNo, passes, sendDue, takeDue}
+use Rattle.state.specs.declared.Phase.the-variants.{Sending, Taking, Finished}
+use Rattle.state.specs.State.{sendDue, takeDue}
+use Rattle.side.specs.Side.{begunSide, sendNo, takeNo, passes}
 use Rattle.runs.specs.Records.{Settings, Hand, Seat, Call, outcome}
 use Rattle.runs.specs.Records.Call.{begin, send, takeLatest}
 use Rattle.runs.specs.Progress.{sideAt, seatAt}

@@ -11,9 +11,10 @@ use Rattle.rounding.specs.Sets.{scaleOf}
 use Rattle.message.specs.Lengths.{openingsUpTo}
 use Rattle.book.specs.Book.{widthOf}
 use Rattle.column.specs.Run.{plainOpened}
-use Rattle.side.specs.declared.Phase.{Phase}
-use Rattle.side.specs.declared.Phase.the-variants.{Sending, Taking, Finished}
-use Rattle.side.specs.Side.{isSending, isTaking, isFinished, sendDue, takeDue, underWay, finished, begunSide, roundsTaken, countCall}
+use Rattle.state.specs.declared.Phase.{Phase}
+use Rattle.state.specs.declared.Phase.the-variants.{Sending, Taking, Finished}
+use Rattle.state.specs.State.{isSending, isTaking, isFinished, sendDue, takeDue, underWay, finished, roundsTaken, countCall}
+use Rattle.side.specs.Side.{begunSide}
 use Rattle.runs.specs.Records.{Settings, Hand, Seat, Event}
 use Rattle.runs.specs.Demands.{Steady, Demand2Steady, takesIn, sendsIn, beganIn, ownHand, otherHand}
 use Rattle.runs.specs.Progress.{takenBy, sentBy, phaseAt, sideAt, seatAt, seatFrom, none, worldAt}

@@ -14,7 +14,8 @@ use Rattle.rounding.specs.Sets.{scaleOf}
 use Rattle.rounding.specs.Questions.{askSettings}
 use Rattle.book.specs.Book.{shared, widthOf}
 use Rattle.column.specs.Layout.{workLength}
-use Rattle.side.specs.Side.{handedNo, beginNo, underWay, sendDue, takeDue}
+use Rattle.state.specs.State.{underWay, sendDue, takeDue}
+use Rattle.side.specs.Side.{handedNo, beginNo}
 use Rattle.runs.specs.Records.{Settings, Hand, Seat, Call, outcome}
 use Rattle.runs.specs.Records.Call.{begin, send, takeLatest, answer, count}
 use Rattle.runs.specs.Demands.{Idle}

@@ -16,7 +16,7 @@ use Rattle.message.specs.Lengths.{openingsUpTo, messageLength}
 use Rattle.book.specs.Book.{widthOf, drawLength}
 use Rattle.book.specs.Deal.{multipliers}
 use Rattle.column.specs.Layout.{workLength}
-use Rattle.side.specs.Side.{underWay, finished, heldAnswer, countCall}
+use Rattle.state.specs.State.{underWay, finished, heldAnswer, countCall}
 use Rattle.runs.specs.Records.{Settings, settingsOk, answerOf, missing, Hand, handOf, Seat, World, Who, Call, Move, Event, worldAfter, events}
 use Rattle.runs.specs.Records.Who.{mine, theirs}
 use Rattle.runs.specs.Records.Call.{begin, send, takeLatest, answer, count}

@@ -10,10 +10,11 @@ use Rattle.message.specs.Lengths.{messageLength}
 use Rattle.book.specs.Book.{widthOf}
 use Rattle.column.specs.Layout.{begunWork, weights}
 use Rattle.column.specs.Work.{takenWork}
-use Rattle.side.specs.declared.Side.{Side}
-use Rattle.side.specs.declared.Phase.{Phase}
-use Rattle.side.specs.declared.Phase.the-variants.{Sending, Taking, Finished}
-use Rattle.side.specs.Side.{begunSide, moved, message}
+use Rattle.state.specs.declared.Side.{Side}
+use Rattle.state.specs.declared.Phase.{Phase}
+use Rattle.state.specs.declared.Phase.the-variants.{Sending, Taking, Finished}
+use Rattle.state.specs.State.{moved}
+use Rattle.side.specs.Side.{begunSide, message}
 use Rattle.runs.specs.Records.{Settings, Hand, Seat, World, Who, Call, Move}
 use Rattle.runs.specs.Records.Who.{mine, theirs}
 use Rattle.runs.specs.Records.Call.{begin, send, takeLatest, answer, count}

@@ -10,8 +10,9 @@ use Rattle.rounding.specs.Questions.{isBit, countOk, boundOk}
 use Rattle.rounding.specs.Plain.{highPart, verdict}
 use Rattle.book.specs.Book.{widthOf}
 use Rattle.book.specs.Deal.{multipliers, inOrder, serverBook, phoneBook}
-use Rattle.side.specs.declared.Side.{Side}
-use Rattle.side.specs.Side.{After, AfterSend, beginCall, sendCall, takeCall, answerCall, countCall}
+use Rattle.state.specs.declared.Side.{Side}
+use Rattle.state.specs.State.{answerCall, countCall}
+use Rattle.side.specs.Side.{After, AfterSend, beginCall, sendCall, takeCall}
 
 -- ---- Settings, secrets, shares
 

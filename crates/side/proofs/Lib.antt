@@ -1,5 +1,4 @@
--- Laws of a side's states and calls.
-pub mod States
+-- Laws of a side's calls.
 pub mod Loading
 pub mod Ready
 pub mod Openings

@@ -15,9 +15,10 @@ use Rattle.column.specs.Steps.{Public}
 use Rattle.column.specs.Work.{openingOn}
 use Rattle.column.specs.Calls.{publicBy, Ready}
 use Rattle.column.proofs.Written.{public-same}
-use Rattle.side.specs.declared.Side.{Side}
+use Rattle.state.specs.declared.Side.{Side}
+use Rattle.state.specs.State.{Whole}
 use Rattle.side.specs.Side.{prepared}
-use Rattle.side.specs.Work.{settingsIn, Whole}
+use Rattle.side.specs.Work.{settingsIn}
 
 -- the settings of a side whose call is due are ready for the rounds
 pub settings-in-ready : (s : Side) (settings : Settings) → settings ≡ settingsIn s → Whole s → Ready settings

@@ -15,8 +15,9 @@ use Rattle.rounding.specs.Questions.{askSettings, keysOk, SettingsReady}
 use Rattle.rounding.proofs.Ready.{settings-ready, settings-rest}
 use Rattle.book.specs.Book.{shared, widthOf}
 use Rattle.column.specs.Layout.{workLength}
-use Rattle.side.specs.declared.Side.{Side}
-use Rattle.side.specs.Side.{underWay, handedNo, beginNo}
+use Rattle.state.specs.declared.Side.{Side}
+use Rattle.state.specs.State.{underWay}
+use Rattle.side.specs.Side.{handedNo, beginNo}
 
 -- ---- begin
 

@@ -10,7 +10,7 @@ use lib.ListN.{length, getD, set, take}
 use lib.Seq.{take-at}
 use borrow.Author.Tests.{eqb-true, leb-true, lt-ltb, eq-eqb, ne-eqb}
 use Rattle.lists.specs.Lists.{allBelow, fill, listFrom, listTo, joinFrom, joinTo}
-use Rattle.lists.proofs.Questions.{passed, both-yes}
+use Rattle.lists.proofs.Questions.{passed}
 use Rattle.lists.proofs.Every.{below-at, every-listTo}
 use Rattle.lists.proofs.Lists.{length-listFrom}
 use Rattle.lists.proofs.Fill.{fill-same, front-at, front-is}
@@ -25,16 +25,13 @@ use Rattle.message.specs.declared.Header.{Header}
 use Rattle.message.proofs.Form.{settings-fit}
 use Rattle.column.specs.Layout.{workLength, column, ownIn, maskedIn, weights}
 use Rattle.column.specs.Steps.{publicOf, opening}
-use Rattle.side.specs.declared.Side.{Side}
-use Rattle.side.specs.Side.{isSending, whole, sendDue, sendNo, prepared, outgoing, partColumn, message, afterSend}
-use Rattle.side.specs.Work.{paired, outgoingField, Whole}
-use Rattle.side.proofs.States.{whole-fields}
+use Rattle.state.specs.declared.Side.{Side}
+use Rattle.state.specs.State.{sendDue, Whole}
+use Rattle.state.proofs.States.{send-whole}
+use Rattle.side.specs.Side.{sendNo, prepared, outgoing, partColumn, message, afterSend}
+use Rattle.side.specs.Work.{paired, outgoingField}
 
 -- ---- the questions
-
-pub send-whole : (s : Side) → sendDue s ≡ true → Whole s
-unfolding sendDue
-send-whole s e = whole-fields s (both-yes (whole s) (isSending (s .phase)) e .0)
 
 pub record SendReady (k : ℕ) (s : Side) (work out : List ℕ) : Type 0 where
   pub kept : Whole s

@@ -13,7 +13,7 @@ use Rattle.lists.specs.Answers.{ask}
 use Rattle.lists.specs.Lists.{fill, listTo, allBelow, allTo}
 use Rattle.lists.proofs.Fill.{length-fill, fill-at, fill-before, front-at, front-behind}
 use Rattle.lists.proofs.Lists.{length-listFrom, getD-listTo, listTo-cong}
-use Rattle.lists.proofs.Questions.{passed, both-yes}
+use Rattle.lists.proofs.Questions.{passed}
 use Rattle.field.specs.Field.{q, add}
 use Rattle.rounding.specs.Sets.{scaleOf}
 use Rattle.message.specs.Lengths.{openings, fieldCount, messageLength}
@@ -26,17 +26,14 @@ use Rattle.column.specs.Steps.{publicOf}
 use Rattle.column.specs.Work.{takenWork}
 use Rattle.column.specs.Calls.{HeldAll}
 use Rattle.column.proofs.Bounds.{openings-most}
-use Rattle.side.specs.declared.Side.{Side}
-use Rattle.side.specs.declared.Phase.the-variants.{Sending, Stopped, Finished}
-use Rattle.side.specs.Side.{isTaking, whole, takeDue, moved, inPhase, after, prepared, incoming, opened, passes, takeNo, openedList, answerAfter, takenSide, takeCall}
-use Rattle.side.specs.Work.{settingsIn, Whole, takeDoor, preparedTo, joinedAt, checkedAt, frontOf}
-use Rattle.side.proofs.States.{whole-fields}
+use Rattle.state.specs.declared.Side.{Side}
+use Rattle.state.specs.declared.Phase.the-variants.{Sending, Stopped, Finished}
+use Rattle.state.specs.State.{takeDue, moved, inPhase, Whole}
+use Rattle.state.proofs.States.{due-whole}
+use Rattle.side.specs.Side.{after, prepared, incoming, opened, passes, takeNo, openedList, answerAfter, takenSide, takeCall}
+use Rattle.side.specs.Work.{settingsIn, takeDoor, preparedTo, joinedAt, checkedAt, frontOf}
 
 -- ---- The questions
-
-pub due-whole : (s : Side) → takeDue s ≡ true → Whole s
-unfolding takeDue
-due-whole s e = whole-fields s (both-yes (whole s) (isTaking (s .phase)) e .0)
 
 pub whole-fits : (s : Side) → Whole s → HeaderFits (s .number) (s .set) (s .kind) (s .n) (s .round) (s .bound)
 whole-fits s h = settings-fit (s .number) (s .set) (s .kind) (s .n) (s .bound) (s .round) (h .settings) (omega (arith, h .round-most))

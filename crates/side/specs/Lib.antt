@@ -1,3 +1,3 @@
--- A side and its calls.
+-- The calls of a side.
 pub mod Side
 pub mod Work

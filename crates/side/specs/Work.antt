@@ -1,20 +1,19 @@
 -- Names for what the working functions of a side leave, between the calls' own definitions.
-use Prim.Native.Nat.{ℕ, zero, suc, _+_, _-_, _*_, _/_, _%_, _≤_}
-use mathlib.Core.Path.{_≡_}
-use mathlib.Core.Bool.{Bool, true, cond}
+use Prim.Native.Nat.{ℕ, zero, suc, _+_, _-_, _*_, _/_, _%_}
+use mathlib.Core.Bool.{Bool, cond}
 use mathlib.Core.List.{List}
 use lib.Dec.{eqb}
 use lib.ListN.{length, getD}
 use Rattle.lists.specs.Answers.{ask}
 use Rattle.lists.specs.Lists.{fill, listTo, allBelow}
 use Rattle.field.specs.Field.{q, add, mul}
-use Rattle.rounding.specs.Questions.{keysOk, SettingsReady}
 use Rattle.message.specs.Lengths.{openings}
 use Rattle.message.specs.Message.{askForm}
 use Rattle.column.specs.Layout.{places, inputAt, workLength}
 use Rattle.column.specs.declared.Settings.{Settings}
-use Rattle.side.specs.declared.Side.{Side}
-use Rattle.side.specs.Side.{takeDue, prepared, outgoing, incoming}
+use Rattle.state.specs.declared.Side.{Side}
+use Rattle.state.specs.State.{takeDue}
+use Rattle.side.specs.Side.{prepared, outgoing, incoming}
 
 -- a slice with book and inputs loaded into its first columns
 unfoldable pub loaded : ℕ → ℕ → ℕ → List ℕ → List ℕ → List ℕ → ℕ → List ℕ
@@ -36,14 +35,6 @@ paired shares parts x = cond (eqb (x % 2) 0) (getD shares (x / 2) 0) (getD parts
 unfoldable pub outgoingField : Side → List ℕ → ℕ → ℕ
 outgoingField s work x =
     cond (eqb (x % 2) 0) (outgoing 1 s work 0 (x / 2)) (outgoing 1 s work (2 - s .number) (x / 2))
-
--- what the kept fields of a side are whose call is due
-pub record Whole (s : Side) : Type 0 where
-  pub settings : SettingsReady (s .number) (s .set) (s .kind) (s .n) (s .bound)
-  pub keys : keysOk (s .keys) ≡ true
-  pub begun : 1 ≤ s .serial
-  pub round-some : 1 ≤ s .round
-  pub round-most : s .round ≤ 7
 
 -- ---- Take
 

@@ -1,4 +1,4 @@
-// A side of a run, server or phone: begin, send, take, answer and opening count. A side goes in by value and comes back by value.
+// The calls that move a run on: begin, send and take. A side goes in by value and comes back by value.
 ghost use mathlib.Core.Path.{_≡_};
 ghost use mathlib.Core.Bool.{Bool, true};
 ghost use mathlib.Core.List.{[], _∷_};
@@ -6,13 +6,16 @@ ghost use Prim.Native.Nat.{ℕ, _+_, _*_, _≤_, _<_};
 ghost use lib.Dec.{leb};
 ghost use lib.ListN.{length, getD};
 ghost use Rattle.lists.specs.Lists.{fill, inFront, allBelow, allTo};
-ghost use Rattle.message.specs.Lengths.{openings, openingsUpTo, messageLength};
+ghost use Rattle.message.specs.Lengths.{openings, messageLength};
 ghost use Rattle.field.specs.Field.{q};
-ghost use Rattle.rounding.specs.Questions.{keysOk};
 ghost use Rattle.column.specs.Layout.{ownIn, weights};
-ghost use Rattle.side.specs.Work.{loaded, settingsIn, paired, outgoingField, Whole, takeDoor, preparedTo, joinedAt, checkedAt, frontOf};
-ghost use Rattle.side.specs.Side.{isSending, isTaking, isFinished, whole, sendDue, takeDue, underWay, finished, freshSide, moved, inPhase, answerPlaces, handedNo, beginNo, begunSide, beginCall, after, prepared, outgoing, sendNo, message, sentSide, sendCall, afterSend, incoming, takeNo, answerAfter, takenSide, takeCall, answerNo, answerCall, afterAnswer, roundsTaken, countCall};
+ghost use Rattle.state.specs.State.{Whole};
+ghost use Rattle.side.specs.Work.{loaded, settingsIn, paired, outgoingField, takeDoor, preparedTo, joinedAt, checkedAt, frontOf};
+ghost use Rattle.side.specs.Side.{handedNo, beginNo, begunSide, beginCall, after, prepared, outgoing, sendNo, message, sentSide, sendCall, afterSend, incoming, takeNo, answerAfter, takenSide, takeCall};
 use book::shared_of;
+use column::INPUT;
+use column::OWN;
+use column::PLACES;
 use column::Settings;
 use column::masked_in;
 use column::prepare;
@@ -30,44 +33,22 @@ use message::openings_in;
 use message::put_message;
 use rounding::key_ok;
 use rounding::settings_no;
+use state::Phase;
+use state::Side;
+use state::copy_front;
+use state::in_phase;
+use state::move_to;
+use state::send_due;
+use state::take_due;
+use state::under_way;
 
-// Numbers of a shared number on one side; the places of a column, where its inputs and own openings begin; the numbers of a
-// working slice.
+// Numbers of a shared number on one side, and the numbers of a working slice: a column for each.
 const WIDTH: usize = 3;
 
-const PLACES: usize = 1536;
-
-const INPUTS: usize = 1320;
-
-const OWN: usize = 1344;
-
-const WORK_LENGTH: usize = WIDTH * PLACES;
+pub const WORK_LENGTH: usize = WIDTH * PLACES;
 
 // The most openings of a round.
 const MOST: usize = 32;
-
-// Where a side stands in its round.
-pub enum Phase {
-    Sending,
-    Taking,
-    Stopped,
-    Finished,
-}
-
-// What a side keeps: its number, 0 server and 1 phone, and settings; its key; the serial of its latest run; where that run
-// stands; and the opened answer.
-pub struct Side {
-    pub number: u32,
-    pub set: u32,
-    pub kind: u32,
-    pub n: u32,
-    pub bound: u32,
-    pub keys: [u32; 1],
-    pub serial: u32,
-    pub round: u32,
-    pub phase: Phase,
-    pub answer: [u32; 8],
-}
 
 // What begin and take give back: the number of the first no, or 0, and the side.
 pub struct Done {
@@ -80,256 +61,6 @@ pub struct Sent {
     pub refused: u32,
     pub length: usize,
     pub side: Side,
-}
-
-// What answer gives back: also how many places it wrote.
-pub struct Told {
-    pub refused: u32,
-    pub length: usize,
-}
-
-// ---- States
-
-// A side at first.
-pub fn fresh() -> Side
-    ensures { λ r. ⌜ r ≡ freshSide ⌝ }
-{
-    Side {
-        number: 0,
-        set: 0,
-        kind: 0,
-        n: 0,
-        bound: 0,
-        keys: [0; 1],
-        serial: 0,
-        round: 0,
-        phase: Phase::Stopped,
-        answer: [0; 8],
-    }
-}
-
-fn is_sending(phase: Phase) -> bool
-    ensures { λ r. ⌜ r ≡ isSending phase ⌝ }
-{
-    match phase {
-        Phase::Sending => true,
-        Phase::Taking => false,
-        Phase::Stopped => false,
-        Phase::Finished => false,
-    }
-}
-
-fn is_taking(phase: Phase) -> bool
-    ensures { λ r. ⌜ r ≡ isTaking phase ⌝ }
-{
-    match phase {
-        Phase::Sending => false,
-        Phase::Taking => true,
-        Phase::Stopped => false,
-        Phase::Finished => false,
-    }
-}
-
-fn is_finished(phase: Phase) -> bool
-    ensures { λ r. ⌜ r ≡ isFinished phase ⌝ }
-{
-    match phase {
-        Phase::Sending => false,
-        Phase::Taking => false,
-        Phase::Stopped => false,
-        Phase::Finished => true,
-    }
-}
-
-// Question 4 of the one key.
-fn keys_ok(keys: [u32; 1]) -> bool
-    ensures { λ r. ⌜ r ≡ keysOk keys ⌝ }
-{
-    key_ok(keys[0])
-}
-
-// Are the kept fields whole? Broken ones count as stopped, whatever the phase says.
-fn is_whole(side: Side) -> bool
-    ensures { λ r. ⌜ r ≡ whole side ⌝ }
-{
-    if settings_no(side.number, side.set, side.kind, side.n, side.bound) != 0 {
-        return false;
-    }
-    let keys = side.keys;
-    if !keys_ok(keys) {
-        return false;
-    }
-    if side.serial < 1 {
-        return false;
-    }
-    if side.round < 1 {
-        return false;
-    }
-    side.round <= 7
-}
-
-fn send_due(side: Side) -> bool
-    ensures { λ r. ⌜ r ≡ sendDue side ⌝ }
-{
-    if !is_whole(side) {
-        return false;
-    }
-    let phase = side.phase;
-    is_sending(phase)
-}
-
-fn take_due(side: Side) -> bool
-    ensures { λ r. ⌜ r ≡ takeDue side ⌝ }
-{
-    if !is_whole(side) {
-        return false;
-    }
-    let phase = side.phase;
-    is_taking(phase)
-}
-
-fn under_way(side: Side) -> bool
-    ensures { λ r. ⌜ r ≡ underWay side ⌝ }
-{
-    if send_due(side) {
-        return true;
-    }
-    take_due(side)
-}
-
-fn run_finished(side: Side) -> bool
-    ensures { λ r. ⌜ r ≡ finished side ⌝ }
-{
-    if !is_whole(side) {
-        return false;
-    }
-    let phase = side.phase;
-    is_finished(phase)
-}
-
-// The side at another round, in another phase, with another answer.
-fn move_to(side: Side, round: u32, phase: Phase, answer: [u32; 8]) -> Side
-    ensures { λ r. ⌜ r ≡ moved side round phase answer ⌝ }
-{
-    let keys = side.keys;
-    Side {
-        number: side.number,
-        set: side.set,
-        kind: side.kind,
-        n: side.n,
-        bound: side.bound,
-        keys,
-        serial: side.serial,
-        round,
-        phase,
-        answer,
-    }
-}
-
-// The side in another phase.
-fn in_phase(side: Side, phase: Phase) -> Side
-    ensures { λ r. ⌜ r ≡ inPhase side phase ⌝ }
-{
-    let answer = side.answer;
-    move_to(side, side.round, phase, answer)
-}
-
-// ---- Opening count
-
-// The openings of the first rounds.
-fn openings_up_to(kind: u32, n: u32, rounds: u32) -> u32
-    requires { ⌜ (n ≤ 8) × (rounds ≤ 7) ⌝ }
-    ensures { λ r. ⌜ r ≡ openingsUpTo kind n rounds ⌝ }
-{
-    let mut total: u32 = 0;
-    let mut round: u32 = 0;
-    while round < rounds {
-        total += openings_in(kind, n, round + 1);
-        round += 1;
-    }
-    total
-}
-
-// The rounds whose openings the latest run has accepted.
-fn rounds_taken(side: Side) -> u32
-    requires { ⌜ 1 ≤ side .round ⌝ }
-    ensures { λ r. ⌜ r ≡ roundsTaken side ⌝ }
-{
-    let phase = side.phase;
-    if is_finished(phase) {
-        return 7;
-    }
-    if side.number == 1 {
-        if is_sending(phase) {
-            return side.round;
-        }
-        return side.round - 1;
-    }
-    side.round - 1
-}
-
-// How many openings the side has accepted in its latest run; 0 if none has begun or kept fields are broken.
-pub fn opening_count(side: Side) -> u32
-    ensures { λ r. ⌜ r ≡ countCall side ⌝ }
-{
-    if !is_whole(side) {
-        return 0;
-    }
-    openings_up_to(side.kind, side.n, rounds_taken(side))
-}
-
-// ---- Answer
-
-// The places of an answer.
-fn answer_places(kind: u32, n: u32) -> usize
-    ensures { λ r. ⌜ r ≡ answerPlaces kind n ⌝ }
-{
-    if kind == 0 {
-        return n as usize;
-    }
-    1
-}
-
-// The first no of answer, or 0.
-fn answer_no(side: Side, out: &[u32]) -> u32
-    ensures { λ r. ⌜ r ≡ answerNo side (now (out .entry)) ⌝ }
-{
-    if !run_finished(side) {
-        return 8;
-    }
-    if out.len() < answer_places(side.kind, side.n) {
-        return 9;
-    }
-    0
-}
-
-// The first `count` numbers of `from`, in front of `out`.
-fn copy_front(out: &mut [u32], from: &[u32], count: usize)
-    requires { ⌜ (count ≤ length (now from)) × (count ≤ length (now out)) ⌝ }
-    ensures { λ _. ⌜ now (out .exit) ≡ fill (now (out .entry)) 0 count (λ (j : ℕ). getD (now (from .entry)) j 0) ⌝ }
-{
-    let mut i = 0;
-    while i < count {
-        out[i] = from[i];
-        i += 1;
-    }
-}
-
-// The opened answer of a finished run, in front of `out`.
-pub fn answer(side: Side, out: &mut [u32]) -> Told
-    ensures { λ r. ⌜ record { told = r; out = now (out .exit) } ≡ answerCall side (now (out .entry)) ⌝ }
-{
-    let refused = answer_no(side, out);
-    if refused != 0 {
-        return Told { refused, length: 0 };
-    }
-    let count = answer_places(side.kind, side.n);
-    let held = side.answer;
-    copy_front(out, &held, count);
-    Told {
-        refused: 0,
-        length: count,
-    }
 }
 
 // ---- Begin
@@ -452,7 +183,7 @@ fn load_columns(work: &mut [u32], book: &[u32], count: usize, inputs: &[u32], n:
     let mut c = 0;
     while c < WIDTH {
         load(work, c * PLACES, book, c, count);
-        load(work, c * PLACES + INPUTS, inputs, c, n);
+        load(work, c * PLACES + INPUT, inputs, c, n);
         c += 1;
     }
 }

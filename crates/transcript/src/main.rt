@@ -4,18 +4,17 @@
 //
 // An input, decimal numbers between blanks or line ends: set, kind, n, bound, serial, key0, key1; 3n numbers of the server's input;
 // 3n of the phone's; all others are the draw.
-mod numbers;
+mod lines;
 mod play;
-mod text;
 
-use numbers::MOST;
-use numbers::Reading;
-use numbers::end;
-use numbers::feed_all;
-use numbers::start;
+use lines::put_malformed;
 use play::transcript;
+use text::MOST;
+use text::Reading;
 use text::cut;
-use text::put_malformed;
+use text::end;
+use text::feed_all;
+use text::start;
 
 const STDIN: i32 = 0;
 

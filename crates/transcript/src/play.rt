@@ -1,22 +1,23 @@
 // One run, played through the calls of the library.
 ghost use Prim.Native.Nat.{_≤_};
 ghost use lib.ListN.{length};
-use crate::text::cut;
-use crate::text::put_answer_line;
-use crate::text::put_malformed;
-use crate::text::put_message_line;
-use crate::text::put_openings_line;
-use crate::text::put_refused;
-use crate::text::put_refused_deal;
+use crate::lines::put_answer_line;
+use crate::lines::put_malformed;
+use crate::lines::put_message_line;
+use crate::lines::put_openings_line;
+use crate::lines::put_refused;
+use crate::lines::put_refused_deal;
 use book::deal;
 use book::shared_of;
-use side::Side;
-use side::answer;
+use side::WORK_LENGTH;
 use side::begin;
-use side::fresh;
-use side::opening_count;
 use side::send;
 use side::take;
+use state::Side;
+use state::answer;
+use state::fresh;
+use state::opening_count;
+use text::cut;
 
 // The fewest numbers of an input: those before the inputs and the draw.
 const HEAD: usize = 7;
@@ -24,10 +25,8 @@ const HEAD: usize = 7;
 // The numbers of a shared number on one side.
 const WIDTH: usize = 3;
 
-// The most numbers of a book, the numbers of a working slice, the most bytes of a message, the most numbers of an answer.
+// The most numbers of a book, the most bytes of a message, the most numbers of an answer.
 const BOOK_LENGTH: usize = 1320 * WIDTH;
-
-const WORK_LENGTH: usize = 4608;
 
 const MESSAGE_LENGTH: usize = 192;
 

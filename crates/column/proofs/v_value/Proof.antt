@@ -7,7 +7,7 @@ use Rattle.column.proofs.v_value.Tie as tie
 
 returns : tie.Need-returns
 unfolding factorV
-returns c = λ κ. rw (eq-eqb _ _ (c .before .before .before .if1 .taken), ← c .before .before .vector-sum .ensures κ, ← c .before .vector-sum2 .ensures κ) (c .sub-mod .ensures)
+returns c = λ κ. rw (eq-eqb _ _ (c .before .if1 .taken)) (c .vector-raise .ensures κ)
 
 returns-2 : tie.Need-returns-2
 unfolding factorV
@@ -17,8 +17,6 @@ pub v-value-spec : {M : Type 1} → statement M
 v-value-spec =
     tie.close
     (tie.spec
-    (λ c κs. search needs)
-    (λ c κs. search needs)
     (λ c κs. search needs)
     returns
     (λ c. search needs)

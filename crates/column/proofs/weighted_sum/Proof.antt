@@ -1,47 +1,79 @@
--- `column::weighted_sum` meets its contract.
-use Rattle.field.specs.Field.{q, add}
-use native.Mathlib.Numerals.{add-one}
+-- `column::weighted_sum` meets its contract: each rule's law.
+use Prim.Native.Nat.{ℕ, _+_, _*_, _%_}
+use mathlib.Core.Path.{_≡_, sym, ap, _∙_}
+use native.Mathlib.Omega.{arith}
+use borrow.Author.Needs.{needs}
+use Rattle.field.specs.Field.{q}
+use Rattle.field.specs.Sums.{sumTo}
 use Rattle.column.specs.Layout.{column}
 use Rattle.column.specs.Weights.{weigh}
-use Rattle.field.specs.Sums.{sumTo}
-use Prim.Native.Nat.{ℕ, _≤_, _-_, _+_, _*_, _%_}
-use mathlib.Core.Path.{_≡_, refl, ap}
-use native.Mathlib.Omega.{arith}
+use Rattle.column.proofs.Ranges.{carry-sum, zero-sum, over-sum, below-sum}
 use Rattle.column.proofs.weighted_sum.Statement.{statement}
 use Rattle.column.proofs.weighted_sum.Tie as tie
 
-abbrev Inv-loop : tie.InvT-loop
-Inv-loop work col place n rule b d total₀ j₀ total j = (j ≤ n) × (total ≡ sumTo j (λ (i : ℕ). weigh rule b d i * column work col (place + i))) × (total ≤ j * 562949953421312)
+zero-entry-requires : tie.Need-zero-entry-requires
+zero-entry-requires c κs = omega (arith, c .before .before .before .pre .1 (c .enum-told2 .given .1))
 
-abbrev μ-loop : tie.MeasureT-loop
-μ-loop work col place n rule b d total₀ j₀ total j = n - j
+register-requires : tie.Need-register-requires
+register-requires c κs = omega (arith, c .before .before .before .before .pre .1 (c .before .enum-told2 .given .1))
 
-loop-holds : tie.Need-loop-holds Inv-loop μ-loop
-unfolding sumTo
-loop-holds c = (omega arith, refl, omega arith)
+returns : tie.Need-returns
+returns c κ =
+    let a = c .before .before .before .before .before .args in
+    rw (c .before .before .enum-told .given .1)
+    (c .part-sum .ensures ∙ rw (c .before .less-by .ensures) (ap (λ (x : ℕ). x % q) (sym (carry-sum (a .n) (a .b) (a .d) (λ (j : ℕ). column (a .work .now) (a .col) (a .place + j))))))
 
-loop-again : tie.Need-loop-again Inv-loop μ-loop
-unfolding sumTo
-loop-again c = (omega arith, rw (add-one, ← c .before .before .weigh-entry .ensures .0, ← c .before .register .ensures, ← c .times .ensures .0, ← c .before .before .before .before .loop .inv .1), omega arith)
+returns-2 : tie.Need-returns-2
+returns-2 c κ =
+    let a = c .before .before .before .before .before .args in
+    let told = c .before .before .enum-told2 .given .1 in
+    let z = c .before .before .before .before .before .pre .1 told in
+    let entry = c .before .zero-entry in
+    rw (told, z .0)
+    (ap (λ (x : ℕ). x % q) (c .register .ensures ∙ sym (zero-sum (a .b) (a .d) (entry .result) (z .1) (entry .ensures .0) (λ (j : ℕ). column (a .work .now) (a .col) (a .place + j)) (entry .ensures .1))))
 
-returns : tie.Need-returns Inv-loop μ-loop
-returns c = let e : c .before .loop .j ≡ c .before .before .before .args .n = omega arith in λ κ. rw (← e) (ap (λ (x : ℕ). x % q) (c .before .loop .inv .1))
+returns-3 : tie.Need-returns-3
+unfolding weigh
+returns-3 c κ = rw (c .before .enum-told3 .given .1) (c .top-sum .ensures)
+
+returns-4 : tie.Need-returns-4
+returns-4 c κ =
+    let a = c .before .before .before .before .before .args in
+    rw (c .before .before .enum-told4 .given .1)
+    (c .part-sum2 .ensures ∙ rw (c .before .less-by2 .ensures) (ap (λ (x : ℕ). x % q) (sym (over-sum (a .n) (a .b) (a .d) (λ (j : ℕ). column (a .work .now) (a .col) (a .place + j))))))
+
+returns-5 : tie.Need-returns-5
+returns-5 c κ =
+    let a = c .before .before .before .before .before .args in
+    rw (c .before .before .enum-told5 .given .1)
+    (c .part-sum3 .ensures ∙ rw (c .before .least .ensures .0) (ap (λ (x : ℕ). x % q) (sym (below-sum (a .n) (a .b) (a .d) (λ (j : ℕ). column (a .work .now) (a .col) (a .place + j))))))
 
 pub weighted-sum-spec : {M : Type 1} → statement M
 weighted-sum-spec =
     tie.close
     (tie.spec
-    Inv-loop
-    μ-loop
-    loop-holds
-    (λ c. omega arith)
-    (λ c κs. omega arith)
-    (λ c. omega arith)
-    (λ c κs. omega arith)
-    (λ c κs. omega arith)
-    (λ c. omega arith)
-    (λ c. omega arith)
-    (λ c. omega arith)
-    loop-again
-    (λ c. omega arith)
-    returns)
+    (λ c. search needs)
+    (λ c κs. search needs)
+    (λ c. search needs)
+    (λ c κs. search needs)
+    (λ c. search needs)
+    zero-entry-requires
+    (λ c. search needs)
+    register-requires
+    (λ c. search needs)
+    (λ c κs. search needs)
+    (λ c. search needs)
+    (λ c. search needs)
+    (λ c κs. search needs)
+    (λ c. search needs)
+    (λ c κs. search needs)
+    (λ c. search needs)
+    (λ c. search needs)
+    (λ c κs. search needs)
+    (λ c. search needs)
+    (λ c κs. search needs)
+    returns
+    returns-2
+    returns-3
+    returns-4
+    returns-5)

@@ -2,7 +2,7 @@
 use mathlib.Core.Path.{sym}
 use native.Mathlib.Omega.{arith}
 use lib.Seq.{length-take-le}
-use Rattle.lines.proofs.Texts.{answer-is}
+use Rattle.lines.proofs.Texts.{answer-is, answer-fits}
 use borrow.Author.Needs.{needs}
 use Rattle.lines.proofs.answer_text.Statement.{statement}
 use Rattle.lines.proofs.answer_text.Tie as tie
@@ -11,7 +11,11 @@ slice-aggregate-put-answer : tie.Need-slice-aggregate-put-answer
 slice-aggregate-put-answer c = sym (length-take-le _ _ (omega arith))
 
 returns : tie.Need-returns
-returns c = answer-is _ _ (c .before .before .before .before .before .keep .result) _ (c .before .before .before .before .before .before .args .t4) _ _ _ _ (omega arith) (c .before .before .before .before .before .keep .ensures .0) (c .before .before .before .before .empty-text .ensures) (c .before .before .before .put-number .ensures) (c .before .put-answer .ensures) (c .put-byte .ensures)
+returns c =
+    let a = c .before .before .before .before .before .before .args in
+    let e =
+    answer-is (a .number) (a .refused) (c .before .before .before .before .before .keep .result) (a .count) (a .t4) _ _ _ _ (omega arith) (c .before .before .before .before .before .keep .ensures .0) (c .before .before .before .before .empty-text .ensures) (c .before .before .before .put-line-number .ensures) (c .before .put-answer .ensures) (c .put-byte .ensures) in
+    (e, answer-fits (a .number) (a .refused) (a .count) (a .t4) _ (omega arith) e)
 
 pub answer-text-spec : {M : Type 1} → statement M
 answer-text-spec =

@@ -3,7 +3,7 @@ use borrow.Author.Needs.{needs}
 use mathlib.Core.Path.{ap, _∙_}
 use mathlib.Core.List.{[], _∷_}
 use native.Mathlib.Omega.{arith}
-use Rattle.side.specs.declared.Side.{Side}
+use Rattle.state.specs.declared.Side.{Side}
 use Rattle.side.specs.Side.{beginCall}
 use Rattle.lines.specs.Play.{begunBy, begunAt}
 use Rattle.lines.proofs.begin_at.Statement.{statement}

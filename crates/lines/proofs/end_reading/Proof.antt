@@ -1,5 +1,5 @@
 -- `lines::end_reading` meets its contract. Assumes nothing.
-use Rattle.lines.proofs.Choices.{choices}
+use Rattle.lists.proofs.Choices.{choices}
 use Rattle.lines.specs.Reading.{finish}
 use borrow.Author.Needs.{needs}
 use Rattle.lines.proofs.end_reading.Statement.{statement}

@@ -1,5 +1,5 @@
 -- `lines::field_at` meets its contract. Assumes nothing.
-use Rattle.lines.proofs.Choices.{choices}
+use Rattle.lists.proofs.Choices.{choices}
 use Rattle.lines.specs.Line.{fieldAt}
 use borrow.Author.Needs.{needs}
 use Rattle.lines.proofs.field_at.Statement.{statement}

@@ -1,5 +1,5 @@
 -- `lines::is_byte` meets its contract. Assumes nothing.
-use Rattle.lines.proofs.Choices.{choices}
+use Rattle.lists.proofs.Choices.{choices}
 use Rattle.lines.specs.Line.{isByte}
 use borrow.Author.Needs.{needs}
 use Rattle.lines.proofs.is_byte.Statement.{statement}

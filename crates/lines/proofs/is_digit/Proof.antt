@@ -1,5 +1,5 @@
 -- `lines::is_digit` meets its contract. Assumes nothing.
-use Rattle.lines.proofs.Choices.{choices}
+use Rattle.lists.proofs.Choices.{choices}
 use Rattle.lines.specs.Line.{digitByte}
 use Rattle.lines.proofs.is_digit.Statement.{statement}
 use Rattle.lines.proofs.is_digit.Tie as tie

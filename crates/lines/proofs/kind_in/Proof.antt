@@ -1,5 +1,5 @@
 -- `lines::kind_in` meets its contract. Assumes nothing.
-use Rattle.lines.proofs.Choices.{choices}
+use Rattle.lists.proofs.Choices.{choices}
 use Rattle.lines.specs.Line.{kindIn}
 use borrow.Author.Needs.{needs}
 use Rattle.lines.proofs.kind_in.Statement.{statement}

@@ -1,6 +1,6 @@
 -- `lines::number_in` meets its contract. Assumes nothing.
 use Rattle.lines.proofs.Numbers.{too-large, in-range, fit-same}
-use Rattle.lines.proofs.Choices.{choices}
+use Rattle.lists.proofs.Choices.{choices}
 use Rattle.lines.specs.Line.{numberIn}
 use borrow.Author.Needs.{needs}
 use Rattle.lines.proofs.number_in.Statement.{statement}

@@ -1,5 +1,5 @@
 -- `lines::put_byte` meets its contract. Assumes nothing.
-use Rattle.lines.proofs.Choices.{choices}
+use Rattle.lists.proofs.Choices.{choices}
 use Rattle.lines.specs.Answer.{put}
 use borrow.Author.Needs.{needs}
 use Rattle.lines.proofs.put_byte.Statement.{statement}

@@ -1,6 +1,6 @@
 -- `lines::read_line` meets its contract. Assumes nothing.
 use mathlib.Core.Path.{ap, _∙_}
-use Rattle.lines.proofs.Choices.{choices, passed}
+use Rattle.lists.proofs.Choices.{choices, passed}
 use borrow.Author.Tests.{le-ltb}
 use Rattle.lines.specs.Line.{lineOf}
 use Rattle.lines.specs.Reading.{finish}

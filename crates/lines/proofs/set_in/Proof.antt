@@ -1,5 +1,5 @@
 -- `lines::set_in` meets its contract. Assumes nothing.
-use Rattle.lines.proofs.Choices.{choices}
+use Rattle.lists.proofs.Choices.{choices}
 use Rattle.lines.specs.Line.{setIn}
 use borrow.Author.Needs.{needs}
 use Rattle.lines.proofs.set_in.Statement.{statement}

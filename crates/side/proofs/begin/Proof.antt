@@ -9,7 +9,7 @@ use lib.ListN.{length}
 use Rattle.lists.specs.Lists.{fill}
 use Rattle.lists.proofs.Fill.{length-fill}
 use Rattle.rounding.specs.Sets.{scaleOf}
-use Rattle.side.specs.declared.Side.{Side}
+use Rattle.state.specs.declared.Side.{Side}
 use Rattle.side.specs.Side.{after, beginCall}
 use Rattle.side.specs.Work.{loaded}
 use Rattle.side.proofs.Ready.{begin-ready}

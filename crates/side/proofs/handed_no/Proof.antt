@@ -6,8 +6,8 @@ use Prim.Native.Nat.{ℕ, _*_}
 use lib.ListN.{length}
 use borrow.Author.Tests.{lt-ltb, le-ltb, eq-eqb, ne-eqb, not-true, not-false}
 use Rattle.lists.specs.Answers.{ask}
+use Rattle.state.proofs.States.{one-key}
 use Rattle.side.specs.Side.{handedNo}
-use Rattle.side.proofs.States.{one-key}
 use Rattle.side.proofs.handed_no.Statement.{statement}
 use Rattle.side.proofs.handed_no.Tie as tie
 

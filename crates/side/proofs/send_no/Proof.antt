@@ -3,8 +3,8 @@ use borrow.Author.Needs.{needs}
 use mathlib.Core.Path.{refl, sym, _∙_}
 use borrow.Author.Tests.{eq-eqb, ne-eqb, not-true, not-false, lt-leb, le-leb}
 use Rattle.lists.proofs.Questions.{stop, skip}
+use Rattle.state.proofs.States.{send-whole}
 use Rattle.side.specs.Side.{sendNo}
-use Rattle.side.proofs.Sending.{send-whole}
 use Rattle.side.proofs.send_no.Statement.{statement}
 use Rattle.side.proofs.send_no.Tie as tie
 

@@ -3,7 +3,7 @@ use borrow.Author.Needs.{needs}
 use mathlib.Core.Path.{_≡_, refl, sym, ap, ap₂, _∙_}
 use borrow.Author.Tests.{not-true, not-false}
 use Rattle.column.proofs.Bounds.{openings-most}
-use Rattle.side.specs.declared.Side.{Side}
+use Rattle.state.specs.declared.Side.{Side}
 use Rattle.side.specs.Side.{after, takenSide}
 use Rattle.side.specs.Work.{takeDoor}
 use Rattle.side.proofs.Openings.{settings-in-ready}

@@ -4,8 +4,9 @@ use mathlib.Core.Path.{sym, _∙_}
 use lib.ListN.{length}
 use borrow.Author.Tests.{eq-eqb, ne-eqb, not-true, not-false}
 use Rattle.lists.specs.Answers.{ask}
+use Rattle.state.proofs.States.{due-whole}
 use Rattle.side.specs.Work.{takeDoor}
-use Rattle.side.proofs.Taking.{due-whole, whole-fits}
+use Rattle.side.proofs.Taking.{whole-fits}
 use Rattle.side.proofs.take_no.Statement.{statement}
 use Rattle.side.proofs.take_no.Tie as tie
 

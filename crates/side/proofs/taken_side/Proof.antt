@@ -2,8 +2,8 @@
 use borrow.Author.Needs.{needs}
 use mathlib.Core.Path.{ap, _∙_}
 use Prim.Native.Nat.{_+_}
-use Rattle.side.specs.declared.Phase.the-variants.{Sending, Finished}
-use Rattle.side.specs.Side.{moved}
+use Rattle.state.specs.declared.Phase.the-variants.{Sending, Finished}
+use Rattle.state.specs.State.{moved}
 use Rattle.side.specs.Work.{frontOf}
 use Rattle.side.proofs.Taking.{phone-taken, server-finished, server-goes-on}
 use Rattle.side.proofs.taken_side.Statement.{statement}

@@ -1,0 +1,60 @@
+-- A write between two calls changes nothing but what waits.
+use Prim.Native.Nat.{ℕ, zero, suc, _+_, _≤_}
+use mathlib.Core.Path.{_≡_, refl, sym, ap, _∙_}
+use mathlib.Core.Bool.{Bool, true, false, cond}
+use mathlib.Core.List.{List, [], _++_, append-nil, append-assoc}
+use lib.Dec.{eqb}
+use lib.ListN.{length, drop, drop-of-length-le}
+use lib.Seq.{drop-drop}
+use Rattle.stream.specs.declared.Stream.{Stream}
+use Rattle.stream.specs.Stream.{nextLine}
+use Rattle.stream.specs.Theorems.{State, afterCall, afterCalls}
+use Rattle.line_program.specs.Waiting.{lineBytes, standing, flushed, allCalls}
+use Rattle.line_program.proofs.Waiting.{rest, rest-is}
+
+call-flushed : (a : State) (bytes : List ℕ) → flushed (afterCall lineBytes (flushed a) bytes) ≡ flushed (afterCall lineBytes a bytes)
+unfolding afterCall
+call-flushed a bytes = refl
+
+calls-flushed : (fuel : ℕ) (a : State) (bytes : List ℕ) → flushed (afterCalls lineBytes fuel (flushed a) bytes) ≡ flushed (afterCalls lineBytes fuel a bytes)
+unfolding afterCalls
+calls-flushed zero a bytes = refl
+calls-flushed (suc fuel) a bytes = go (eqb (length bytes) 0) (calls-flushed fuel)
+  where
+    go : (t : Bool) → ((b : State) (bs : List ℕ) → flushed (afterCalls lineBytes fuel (flushed b) bs) ≡ flushed (afterCalls lineBytes fuel b bs))
+        → flushed (cond t (flushed a) (afterCalls lineBytes fuel (afterCall lineBytes (flushed a) bytes) (drop (nextLine (a .stream) (a .kept) bytes .used) bytes)))
+        ≡ flushed (cond t a (afterCalls lineBytes fuel (afterCall lineBytes a bytes) (drop (nextLine (a .stream) (a .kept) bytes .used) bytes)))
+    go true ih = refl
+    go false ih =
+        sym (ih (afterCall lineBytes (flushed a) bytes) _)
+        ∙ ap (λ (b : State). flushed (afterCalls lineBytes fuel b (drop (nextLine (a .stream) (a .kept) bytes .used) bytes))) (call-flushed a bytes)
+        ∙ ih (afterCall lineBytes a bytes) _
+
+-- what is written then goes behind what was written before
+pub calls-behind : (fuel : ℕ) (a : State) (bytes : List ℕ) → afterCalls lineBytes fuel a bytes .written ≡ a .written ++ afterCalls lineBytes fuel (flushed a) bytes .written
+unfolding afterCalls afterCall
+calls-behind zero a bytes = sym (append-nil (a .written))
+calls-behind (suc fuel) a bytes = go (eqb (length bytes) 0) (calls-behind fuel)
+  where
+    go : (t : Bool) → ((b : State) (bs : List ℕ) → afterCalls lineBytes fuel b bs .written ≡ b .written ++ afterCalls lineBytes fuel (flushed b) bs .written)
+        → cond t a (afterCalls lineBytes fuel (afterCall lineBytes a bytes) (drop (nextLine (a .stream) (a .kept) bytes .used) bytes)) .written
+        ≡ a .written ++ cond t (flushed a) (afterCalls lineBytes fuel (afterCall lineBytes (flushed a) bytes) (drop (nextLine (a .stream) (a .kept) bytes .used) bytes)) .written
+    go true ih = sym (append-nil (a .written))
+    go false ih =
+        ih (afterCall lineBytes a bytes) _
+        ∙ append-assoc (a .written) _ _
+        ∙ ap (λ (l : List ℕ). a .written ++ l) (sym (ih (afterCall lineBytes (flushed a) bytes) (drop (nextLine (a .stream) (a .kept) bytes .used) bytes)))
+
+-- ---- the loop that writes
+
+pub part-on : (s s′ : Stream) (kept kept′ bytes out′ : List ℕ) (at used waiting : ℕ) (t : State)
+    → allCalls (standing s′ kept′ out′ waiting) (drop used (rest bytes at)) ≡ allCalls (standing s kept [] 0) (rest bytes at)
+    → flushed (allCalls (standing s kept [] 0) (drop at bytes)) ≡ t → flushed (allCalls (standing s′ kept′ [] 0) (drop (at + used) bytes)) ≡ t
+part-on s s′ kept kept′ bytes out′ at used waiting t e f =
+    let g : allCalls (standing s′ kept′ out′ waiting) (drop (at + used) bytes) ≡ allCalls (standing s kept [] 0) (drop at bytes) =
+    rw (rest-is bytes at, drop-drop used at bytes) at e in
+    calls-flushed _ (standing s′ kept′ out′ waiting) (drop (at + used) bytes) ∙ ap flushed g ∙ f
+
+pub part-done : (s : Stream) (kept bytes : List ℕ) (at : ℕ) (t : State) → length bytes ≤ at → flushed (allCalls (standing s kept [] 0) (drop at bytes)) ≡ t → standing s kept [] 0 ≡ t
+unfolding afterCalls
+part-done s kept bytes at t h e = rw (drop-of-length-le bytes h) at e

@@ -1,0 +1,80 @@
+-- `line_program::answer_part` meets its contract.
+use Prim.Native.Nat.{_≤_, _-_}
+use mathlib.Core.Path.{_≡_, refl, sym, _∙_}
+use mathlib.Core.Bool.{true≢false}
+use mathlib.Core.List.{[]}
+use native.Mathlib.Omega.{arith}
+use borrow.Author.Needs.{needs}
+use lib.ListN.{length, drop}
+use lib.Seq.{length-take-le}
+use Rattle.line_program.specs.Waiting.{standing, flushed, allCalls}
+use Rattle.line_program.proofs.Waiting.{length-rest}
+use Rattle.line_program.proofs.Flushing.{part-on, part-done}
+use Rattle.line_program.proofs.answer_part.Statement.{statement}
+use Rattle.line_program.proofs.answer_part.Tie as tie
+
+abbrev Inv-loop : tie.InvT-loop
+Inv-loop kept₀ bytes out₀ here₀ good₀ at₀ kept out here good at =
+    (at ≤ length bytes) × (length kept ≡ length kept₀) × (length out ≡ length out₀)
+    × (flushed (allCalls (standing here kept [] 0) (drop at bytes)) ≡ flushed (allCalls (standing here₀ kept₀ [] 0) bytes))
+
+abbrev μ-loop : tie.MeasureT-loop
+μ-loop kept₀ bytes out₀ here₀ good₀ at₀ kept out here good at = length bytes - at
+
+loop-holds : tie.Need-loop-holds Inv-loop μ-loop
+loop-holds c = (omega arith, search needs, search needs, refl)
+
+slice-reshare-prefix-write-out : tie.Need-slice-reshare-prefix-write-out Inv-loop μ-loop
+slice-reshare-prefix-write-out c = omega (arith, c .before .before .before .before .answer-some .ensures)
+
+slice-aggregate-write-out : tie.Need-slice-aggregate-write-out Inv-loop μ-loop
+slice-aggregate-write-out c = sym (length-take-le _ _ (omega (arith, c .before .before .before .before .before .answer-some .ensures)))
+
+add-at : tie.Need-add-at Inv-loop μ-loop
+add-at c =
+    let loop = c .before .before .before .before .before .before .before .before .before .before .before .before .before .before .loop in
+    let bytes = c .before .before .before .before .before .before .before .before .before .before .before .before .before .before .before .before .before .before .args .bytes .now in
+    omega (arith, length-rest bytes (loop .at), c .before .before .before .before .before .before .before .before .answer-some .ensures .1 .0)
+
+loop-less : tie.Need-loop-less Inv-loop μ-loop
+loop-less c =
+    let loop = c .before .before .before .before .before .before .before .before .before .before .before .before .before .before .loop in
+    let bytes = c .before .before .before .before .before .before .before .before .before .before .before .before .before .before .before .before .before .before .args .bytes .now in
+    let more = c .before .before .before .before .before .before .before .before .answer-some .ensures .1 .1 .0 (omega (arith, length-rest bytes (loop .at))) in
+    omega (arith, length-rest bytes (loop .at), more)
+
+loop-again : tie.Need-loop-again Inv-loop μ-loop
+loop-again c =
+    let loop = c .before .before .before .before .before .before .before .before .before .before .before .before .before .before .loop in
+    let bytes = c .before .before .before .before .before .before .before .before .before .before .before .before .before .before .before .before .before .before .args .bytes .now in
+    (omega (arith, length-rest bytes (loop .at), c .before .before .before .before .before .before .before .before .answer-some .ensures .1 .0), search needs, search needs, part-on (loop .here) (c .before .before .before .before .before .before .before .before .answer-some .result .stream) (loop .kept) _ bytes _ (loop .at) (c .before .before .before .before .before .before .before .before .answer-some .result .used) (c .before .before .before .before .before .before .before .before .answer-some .result .waiting) _ (c .before .before .before .before .before .before .before .before .answer-some .ensures .0) (loop .inv .3))
+
+returns : tie.Need-returns Inv-loop μ-loop
+returns c = λ e. absurd (true≢false (sym e ∙ c .if1 .left))
+
+returns-2 : tie.Need-returns-2 Inv-loop μ-loop
+returns-2 c = λ _. part-done (c .before .loop .here) (c .before .loop .kept) (c .before .before .before .before .before .args .bytes .now) (c .before .loop .at) _ (omega arith) (c .before .loop .inv .3)
+
+pub answer-part-spec : {M : Type 1} → statement M
+answer-part-spec =
+    tie.close
+    (tie.spec
+    Inv-loop
+    μ-loop
+    loop-holds
+    (λ c. omega arith)
+    (λ c. omega arith)
+    (λ c. omega arith)
+    (λ c κs. omega arith)
+    slice-reshare-prefix-write-out
+    slice-aggregate-write-out
+    (λ c κs. tt)
+    add-at
+    loop-less
+    loop-again
+    (λ c. search needs)
+    (λ c. search needs)
+    returns
+    (λ c. search needs)
+    (λ c. search needs)
+    returns-2)

@@ -1,0 +1,3 @@
+-- What the program writes for a line and for an input.
+pub mod Waiting
+pub mod Theorems

@@ -1,0 +1,107 @@
+// Answers to the lines of a part, put one behind another into a slice that waits to be written.
+ghost use mathlib.Core.Path.{_≡_};
+ghost use mathlib.Core.Bool.{cond};
+ghost use mathlib.Core.List.{[]};
+ghost use Prim.Native.Nat.{_+_, _≤_, _<_, min};
+ghost use lib.ListN.{length, take, drop};
+ghost use Rattle.stream.specs.Stream.{atLine, heldOf, nextLine, isLeft};
+ghost use Rattle.stream.specs.Theorems.{afterCall};
+ghost use Rattle.line_program.specs.Waiting.{lineBytes, standing, allCalls};
+use lines::answer_line;
+use stream::Stream;
+use stream::hold;
+use stream::is_left;
+use stream::next_line;
+
+// No output line is longer.
+const LONGEST: usize = 112;
+
+// How many bytes of a part have been used, where the input stands after them, and how many bytes wait to be written.
+pub struct Call {
+    pub used: usize,
+    pub stream: Stream,
+    pub waiting: usize,
+}
+
+// One call of next_line. A line that has ended is answered behind the bytes that wait.
+fn answer_call(
+    stream: Stream,
+    kept: &mut [u8],
+    bytes: &[u8],
+    out: &mut [u8],
+    waiting: usize,
+) -> Call
+    requires { ⌜ waiting + 112 ≤ length (now out) ⌝ }
+    ensures { λ r. ⌜ standing (r .stream) (now (kept .exit)) (now (out .exit)) (r .waiting) ≡ afterCall lineBytes (standing stream (now (kept .entry)) (now (out .entry)) waiting) (now (bytes .entry)) ⌝ }
+    ensures { λ r. ⌜ r .used ≡ nextLine stream (now (kept .entry)) (now (bytes .entry)) .used ⌝ }
+    ensures { λ r. ⌜ r .waiting ≤ length (now (out .entry)) ⌝ }
+{
+    let step = next_line(stream, kept, bytes);
+    let here = step.stream;
+    if !here.ended {
+        return Call {
+            used: step.used,
+            stream: here,
+            waiting,
+        };
+    }
+    let held = here.held;
+    let text = answer_line(here.number, &kept[..held]);
+    let line = text.bytes;
+    let n = text.length;
+    Call {
+        used: step.used,
+        stream: here,
+        waiting: hold(out, waiting, &line[..n]),
+    }
+}
+
+// Answers the lines that end in a part until it is used up or the slice may lack room for one more.
+pub fn answer_some(stream: Stream, kept: &mut [u8], bytes: &[u8], out: &mut [u8]) -> Call
+    requires { ⌜ 112 ≤ length (now out) ⌝ }
+    ensures { λ r. ⌜ allCalls (standing (r .stream) (now (kept .exit)) (now (out .exit)) (r .waiting)) (drop (r .used) (now (bytes .entry))) ≡ allCalls (standing stream (now (kept .entry)) (now (out .entry)) 0) (now (bytes .entry)) ⌝ }
+    ensures { λ r. ⌜ r .used ≤ length (now (bytes .entry)) ⌝ }
+    ensures { λ r. ⌜ (0 < length (now (bytes .entry)) → 0 < r .used) ⌝ }
+    ensures { λ r. ⌜ r .waiting ≤ length (now (out .entry)) ⌝ }
+{
+    let most = out.len() - LONGEST;
+    let mut used = 0;
+    let mut here = stream;
+    let mut waiting = 0;
+    while used < bytes.len() && waiting <= most {
+        let call = answer_call(here, kept, &bytes[used..], out, waiting);
+        used += call.used;
+        here = call.stream;
+        waiting = call.waiting;
+    }
+    Call {
+        used,
+        stream: here,
+        waiting,
+    }
+}
+
+fn least(a: usize, b: usize) -> usize
+    ensures { λ r. ⌜ r ≡ min a b ⌝ }
+{
+    if a < b {
+        return a;
+    }
+    b
+}
+
+// When the input has ended: the answer to its last line, if that lacks its line end. How many bytes wait to be written.
+pub fn put_last(stream: Stream, kept: &[u8], out: &mut [u8]) -> usize
+    requires { ⌜ 112 ≤ length (now out) ⌝ }
+    ensures { λ r. ⌜ take r (now (out .exit)) ≡ cond (isLeft stream) (lineBytes (atLine stream .number) (heldOf stream (now (kept .entry)))) [] ⌝ }
+    ensures { λ r. ⌜ r ≤ length (now (out .entry)) ⌝ }
+{
+    if !is_left(stream) {
+        return 0;
+    }
+    let n = least(stream.held, kept.len());
+    let text = answer_line(stream.number, &kept[..n]);
+    let line = text.bytes;
+    let length = text.length;
+    hold(out, 0, &line[..length])
+}

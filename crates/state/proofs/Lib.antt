@@ -1,0 +1,2 @@
+-- Laws of a side's states.
+pub mod States

@@ -1,0 +1,2 @@
+-- A side.
+pub mod State

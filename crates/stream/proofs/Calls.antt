@@ -1,0 +1,84 @@
+-- The calls of a part: any number that is enough, and one call and then the others.
+use Prim.Native.Nat.{ℕ, zero, suc, _≤_, _<_}
+use mathlib.Core.Path.{_≡_, refl, sym, _∙_}
+use mathlib.Core.List.{List, [], _∷_, _++_}
+use native.Mathlib.Omega.{arith}
+use native.Mathlib.Decide.{decLt}
+use borrow.Author.Tests.{lt-ltb, le-ltb, ne-eqb}
+use lib.ListN.{length, take, drop, length-take, length-drop}
+use Rattle.stream.specs.Stream.{lineLength, heldAfter, heldOf, atLine, nextLine}
+use Rattle.stream.specs.declared.Stream.{Stream}
+use Rattle.stream.specs.Theorems.{State, afterCall, afterCalls}
+use Rattle.stream.proofs.Onto.{length-line}
+
+module _ (s : Stream) (kept bytes : List ℕ) where
+  -- a call uses one byte at least, and no more than there are
+  pub some-used : 0 < length bytes → 0 < nextLine s kept bytes .used
+  unfolding nextLine
+  some-used h = go (decLt (lineLength bytes) (length bytes))
+    where
+      go : Dec (lineLength bytes < length bytes) → 0 < nextLine s kept bytes .used
+      go (yes l) = rw (lt-ltb (lineLength bytes) (length bytes) l) (omega arith)
+      go (no l) = rw (le-ltb (lineLength bytes) (length bytes) (omega arith)) (omega arith)
+
+  pub used-fits : nextLine s kept bytes .used ≤ length bytes
+  unfolding nextLine
+  used-fits = go (decLt (lineLength bytes) (length bytes))
+    where
+      go : Dec (lineLength bytes < length bytes) → nextLine s kept bytes .used ≤ length bytes
+      go (yes l) = rw (lt-ltb (lineLength bytes) (length bytes) l) (omega arith)
+      go (no l) = rw (le-ltb (lineLength bytes) (length bytes) (omega arith)) (length-line bytes)
+
+  -- no more bytes are held than have room
+  pub held-fits : nextLine s kept bytes .stream .held ≤ length kept
+  unfolding nextLine
+  held-fits = go (decLt (lineLength bytes) (length bytes)) (omega (arith, length-take (length kept) (heldOf (atLine s) kept ++ take (lineLength bytes) bytes)))
+    where
+      go : Dec (lineLength bytes < length bytes) → length (heldAfter s kept bytes) ≤ length kept → nextLine s kept bytes .stream .held ≤ length kept
+      go (yes l) h = rw (lt-ltb (lineLength bytes) (length bytes) l) h
+      go (no l) h = rw (le-ltb (lineLength bytes) (length bytes) (omega arith)) h
+
+module _ (answer : ℕ → List ℕ → List ℕ) where
+  pub no-calls : (fuel : ℕ) (a : State) → afterCalls answer fuel a [] ≡ a
+  unfolding afterCalls
+  no-calls zero a = refl
+  no-calls (suc fuel) a = refl
+
+  -- the first call
+  calls-first : (fuel : ℕ) (a : State) (bytes : List ℕ) → 0 < length bytes
+      → afterCalls answer (suc fuel) a bytes ≡ afterCalls answer fuel (afterCall answer a bytes) (drop (nextLine (a .stream) (a .kept) bytes .used) bytes)
+  unfolding afterCalls
+  calls-first fuel a bytes h = rw (ne-eqb (length bytes) 0 (λ e. omega arith)) refl
+
+  -- so many calls and so many others do the same where both are enough
+  abbrev Same : ℕ → ℕ → Type 0
+  Same f g = (a : State) (bytes : List ℕ) → length bytes ≤ f → length bytes ≤ g → afterCalls answer f a bytes ≡ afterCalls answer g a bytes
+
+  same-more : (f g : ℕ) → Same f g → Same (suc f) (suc g)
+  same-more f g more a [] l m = no-calls (suc f) a ∙ sym (no-calls (suc g) a)
+  same-more f g more a (b ∷ bytes) l m =
+      let u : 0 < nextLine (a .stream) (a .kept) (b ∷ bytes) .used = some-used (a .stream) (a .kept) (b ∷ bytes) (omega arith) in
+      let d = length-drop (nextLine (a .stream) (a .kept) (b ∷ bytes) .used) (b ∷ bytes) in
+      calls-first f a (b ∷ bytes) (omega arith)
+      ∙ more (afterCall answer a (b ∷ bytes)) (drop (nextLine (a .stream) (a .kept) (b ∷ bytes) .used) (b ∷ bytes)) (omega arith) (omega arith)
+      ∙ sym (calls-first g a (b ∷ bytes) (omega arith))
+
+  none-same : (f g : ℕ) (a : State) (bytes : List ℕ) → length bytes ≡ 0 → afterCalls answer f a bytes ≡ afterCalls answer g a bytes
+  none-same f g a [] e = no-calls f a ∙ sym (no-calls g a)
+  none-same f g a (b ∷ bytes) e = absurd (omega arith)
+
+  enough : (f g : ℕ) → Same f g
+  enough zero g a bytes l m = none-same zero g a bytes (omega arith)
+  enough (suc f) zero a bytes l m = none-same (suc f) zero a bytes (omega arith)
+  enough (suc f) (suc g) a bytes l m = same-more f g (enough f g) a bytes l m
+
+  -- all calls of a part are the first, and then all of what it left
+  pub calls-more : (a : State) (bytes : List ℕ) → 0 < length bytes
+      → let left = drop (nextLine (a .stream) (a .kept) bytes .used) bytes in
+      afterCalls answer (length left) (afterCall answer a bytes) left ≡ afterCalls answer (length bytes) a bytes
+  calls-more a [] h = absurd (omega arith)
+  calls-more a (b ∷ bytes) h =
+      let u : 0 < nextLine (a .stream) (a .kept) (b ∷ bytes) .used = some-used (a .stream) (a .kept) (b ∷ bytes) h in
+      let d = length-drop (nextLine (a .stream) (a .kept) (b ∷ bytes) .used) (b ∷ bytes) in
+      enough _ (length bytes) (afterCall answer a (b ∷ bytes)) (drop (nextLine (a .stream) (a .kept) (b ∷ bytes) .used) (b ∷ bytes)) (omega arith) (omega arith)
+      ∙ sym (calls-first (length bytes) a (b ∷ bytes) h)

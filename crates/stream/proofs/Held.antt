@@ -1,0 +1,62 @@
+-- The bytes that are held of a line: as many as have room.
+use Prim.Native.Nat.{ℕ, _+_, _-_, _≤_, _<_, min}
+use mathlib.Core.Path.{_≡_, refl, sym, ap, _∙_}
+use mathlib.Core.Bool.{true, false}
+use mathlib.Core.List.{List, _++_}
+use native.Mathlib.Omega.{arith}
+use native.Mathlib.Decide.{decLt}
+use borrow.Author.Tests.{lt-ltb, le-ltb}
+use native.Mathlib.Numerals.{add-one}
+use lib.ListN.{length, getD, set, take, length-take}
+use lib.Seq.{paste, paste-suc, take-all, take-append-add, length-paste-head}
+use Rattle.lists.specs.Lists.{inFront}
+use Rattle.stream.specs.declared.Stream.{Stream}
+use Rattle.stream.specs.declared.Step.{Step}
+use Rattle.stream.specs.Stream.{atLine, lineLength, withBytes, keptAfter, nextLine}
+
+pub take-min : (m n : ℕ) (l : List ℕ) → n ≡ min m (length l) → take n l ≡ take m l
+take-min m n l e = go (decLt m (length l))
+  where
+    go : Dec (m < length l) → take n l ≡ take m l
+    go (yes h) = let s : n ≡ m = omega arith in rw s refl
+    go (no h) = take-all n l (omega arith) ∙ sym (take-all m l (omega arith))
+
+module _ (kept bytes : List ℕ) (held from n : ℕ) (front : from ≡ min held (length kept)) (room : n ≡ min (length kept - from) (length bytes)) where
+  held-is : withBytes kept held bytes ≡ take from kept ++ take n bytes
+  held-is =
+      let f : length (take from kept) ≡ from = length-take from kept ∙ omega arith in
+      let l : length kept ≡ length (take from kept) + (length kept - from) = omega arith in
+      ap (λ (xs : List ℕ). take (length kept) (xs ++ bytes)) (sym (take-min held from kept front))
+      ∙ ap (λ (k : ℕ). take k (take from kept ++ bytes)) l
+      ∙ take-append-add (take from kept) bytes (length kept - from)
+      ∙ ap (λ (ys : List ℕ). take from kept ++ ys) (sym (take-min (length kept - from) n bytes room))
+
+  pub count-held : from + n ≡ length (withBytes kept held bytes)
+  count-held = rw held-is (sym (length-paste-head kept from bytes n (omega arith) (omega arith)))
+
+  pub kept-held : (k : List ℕ) → k ≡ paste kept from bytes n → k ≡ inFront (withBytes kept held bytes) kept
+  kept-held k e = rw (held-is, length-paste-head kept from bytes n (omega arith) (omega arith)) e
+
+-- ---- the loop that copies
+
+pub copy-more : (d k s : List ℕ) (at i : ℕ) → at + i < length d → i < length s → k ≡ paste d at s i → set k (at + i) (getD s i 0) ≡ paste d at s (i + 1)
+copy-more d k s at i h l e = rw (e, add-one i) (paste-suc d at s i 0 h l)
+
+pub copy-done : (d k s : List ℕ) (at i n : ℕ) → i ≤ n → n ≤ i → k ≡ paste d at s i → k ≡ paste d at s n
+copy-done d k s at i n h l e = let f : i ≡ n = omega arith in rw f at e
+
+-- ---- a call, from its parts
+
+module _ (s line : Stream) (kept bytes : List ℕ) (n held : ℕ) (e : line ≡ atLine s) (f : n ≡ lineLength bytes) (g : held ≡ length (withBytes kept (line .held) (take n bytes))) where
+  pub line-ended : n < length bytes
+      → _≡_ {A = Step} (record { used = n + 1; stream = record { number = line .number; held = held; ended = true } }) (nextLine s kept bytes)
+  unfolding nextLine
+  line-ended h = rw (← e, ← f, ← g, lt-ltb n (length bytes) h) refl
+
+  pub line-open : length bytes ≤ n
+      → _≡_ {A = Step} (record { used = n; stream = record { number = line .number; held = held; ended = false } }) (nextLine s kept bytes)
+  unfolding nextLine
+  line-open h = rw (← e, ← f, ← g, le-ltb n (length bytes) h) refl
+
+  pub line-kept : (k : List ℕ) → k ≡ inFront (withBytes kept (line .held) (take n bytes)) kept → k ≡ keptAfter s kept bytes
+  line-kept k h = rw (← e, ← f) h

@@ -1,0 +1,9 @@
+-- The laws of lines and parts.
+pub mod Lengths
+pub mod Standing
+pub mod Held
+pub mod Splitting
+pub mod Onto
+pub mod Parts
+pub mod Calls
+pub mod Samples

@@ -1,0 +1,24 @@
+-- A whole input: its lines, and what a line program writes for them.
+use Prim.Native.Nat.{ℕ, suc}
+use mathlib.Core.Bool.{cond}
+use mathlib.Core.List.{List, [], _∷_, _++_}
+use lib.Dec.{eqb}
+
+-- the lines with a byte put in front of the first
+unfoldable pub ahead : ℕ → List (List ℕ) → List (List ℕ)
+ahead b [] = (b ∷ []) ∷ []
+ahead b (l ∷ ls) = (b ∷ l) ∷ ls
+
+-- "its line end (byte 10, which the last line may lack)": the lines of an input, without their line ends
+unfoldable pub linesOf : List ℕ → List (List ℕ)
+linesOf [] = []
+linesOf (b ∷ bs) = cond (eqb b 10) ([] ∷ linesOf bs) (ahead b (linesOf bs))
+
+-- what is written for each line, given its number and its bytes; k is the number of the first
+unfoldable pub answersFrom : (ℕ → List ℕ → List ℕ) → ℕ → List (List ℕ) → List ℕ
+answersFrom answer k [] = []
+answersFrom answer k (l ∷ ls) = answer k l ++ answersFrom answer (suc k) ls
+
+-- what is written for a whole input
+unfoldable pub outputOf : (ℕ → List ℕ → List ℕ) → List ℕ → List ℕ
+outputOf answer input = answersFrom answer 1 (linesOf input)

@@ -1,0 +1,42 @@
+//! Arithmetic modulo q. Arguments and results are below q.
+
+/// The modulus of ML-DSA.
+pub const Q: u32 = 8_380_417;
+
+pub fn add(a: u32, b: u32) -> u32 {
+    let sum = a + b;
+    if sum >= Q {
+        sum - Q
+    } else {
+        sum
+    }
+}
+
+pub fn sub(a: u32, b: u32) -> u32 {
+    if a >= b {
+        a - b
+    } else {
+        a + Q - b
+    }
+}
+
+pub fn mul(a: u32, b: u32) -> u32 {
+    reduce(u64::from(a) * u64::from(b))
+}
+
+/// Any number, reduced modulo q.
+pub fn reduce(x: u64) -> u32 {
+    (x % u64::from(Q)) as u32
+}
+
+/// Whether every number is below q. It is asked of a whole working slice in every send and take, so its form tells in the bench: the
+/// feature `fold` looks at all numbers without an early end, which the compiler turns into vector instructions.
+#[cfg(not(feature = "fold"))]
+pub fn all_below_q(numbers: &[u32]) -> bool {
+    numbers.iter().all(|&number| number < Q)
+}
+
+#[cfg(feature = "fold")]
+pub fn all_below_q(numbers: &[u32]) -> bool {
+    numbers.iter().fold(true, |all, &number| all & (number < Q))
+}

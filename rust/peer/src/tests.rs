@@ -1,0 +1,675 @@
+//! Known results, random runs against the plain meaning, and refusals.
+
+use crate::dealer::deal;
+use crate::field::{add, mul, sub, Q};
+use crate::line_program;
+use crate::message::{message_length, write_message, FormTest, Header, Opening, MAX_BYTES};
+use crate::plain::{high_part, low_part, verdict};
+use crate::random::{RandomRun, SplitMix64};
+use crate::refusal::Refusal;
+use crate::settings::{Kind, Settings, Shape, MAX_COUNT, SETS};
+use crate::shared::Shared;
+use crate::side::{Begin, Side, PHONE, SERVER, WORK_LENGTH};
+
+/// Both sides of a run that has been dealt, with their working slices.
+struct Pair {
+    shape: Shape,
+    run: RandomRun,
+    books: [Vec<u32>; 2],
+    sides: [Side; 2],
+    works: [Vec<u32>; 2],
+}
+
+impl Pair {
+    fn new(run: RandomRun) -> Pair {
+        let count = run.secret.len() as u32;
+        let shape = Shape::new(run.set, run.kind, count).unwrap();
+        let mut books = [vec![0; shape.book_length()], vec![0; shape.book_length()]];
+        let [server, phone] = &mut books;
+        deal(run.set, run.kind, count, run.keys, &run.draw, server, phone).unwrap();
+        Pair {
+            shape,
+            run,
+            books,
+            sides: [Side::new(), Side::new()],
+            works: [vec![7; WORK_LENGTH], vec![Q; WORK_LENGTH]],
+        }
+    }
+
+    fn begin_with(&self, side: usize) -> Begin<'_> {
+        Begin {
+            side: side as u32,
+            set: self.run.set,
+            kind: self.run.kind,
+            count: self.shape.count as u32,
+            bound: self.run.bound,
+            serial: self.run.serial,
+            key: self.run.keys[side],
+            inputs: &self.run.inputs[side],
+            book: &self.books[side],
+        }
+    }
+
+    fn begin(&mut self) {
+        for side in [SERVER, PHONE] {
+            let mut new = self.sides[side].clone();
+            let mut work = std::mem::take(&mut self.works[side]);
+            new.begin(&self.begin_with(side), &mut work).unwrap();
+            self.sides[side] = new;
+            self.works[side] = work;
+        }
+    }
+
+    fn send(&mut self, from: usize) -> Vec<u8> {
+        let mut message = [0; MAX_BYTES];
+        let length = self.sides[from]
+            .send(&self.works[from], &mut message)
+            .unwrap();
+        message[..length].to_vec()
+    }
+
+    fn take(&mut self, to: usize, message: &[u8]) -> Result<(), Refusal> {
+        self.sides[to].take(&mut self.works[to], message)
+    }
+
+    fn pass(&mut self, from: usize) {
+        let message = self.send(from);
+        self.take(1 - from, &message).unwrap();
+    }
+
+    fn play(&mut self) -> Vec<u32> {
+        self.begin();
+        for _ in 0..7 {
+            self.pass(SERVER);
+            self.pass(PHONE);
+        }
+        assert_eq!(self.answer(SERVER), self.answer(PHONE));
+        self.answer(SERVER)
+    }
+
+    fn answer(&self, side: usize) -> Vec<u32> {
+        let mut answer = [0; MAX_COUNT];
+        let length = self.sides[side].answer(&mut answer).unwrap();
+        answer[..length].to_vec()
+    }
+}
+
+fn plain_answer(run: &RandomRun) -> Vec<u32> {
+    match run.kind {
+        0 => run
+            .secret
+            .iter()
+            .map(|&w| high_part(run.set, w).unwrap())
+            .collect(),
+        _ => vec![verdict(run.set, run.bound, &run.secret).unwrap()],
+    }
+}
+
+/// A run with these inputs, shares all at the server, keys 1 and this draw.
+fn simple_run(set: u32, kind: u32, bound: u32, secret: &[u32]) -> RandomRun {
+    let shape = Shape::new(set, kind, secret.len() as u32).unwrap();
+    RandomRun {
+        set,
+        kind,
+        bound,
+        serial: 1,
+        keys: [1, 1],
+        secret: secret.to_vec(),
+        inputs: [
+            secret.iter().flat_map(|&w| [w; 3]).collect(),
+            vec![0; 3 * secret.len()],
+        ],
+        draw: vec![0; shape.draw_length()],
+    }
+}
+
+fn lines(input: &str) -> String {
+    let mut output = Vec::new();
+    line_program::run(input.as_bytes(), &mut output).unwrap();
+    String::from_utf8(output).unwrap()
+}
+
+#[test]
+fn constants_multiply_to_the_modulus() {
+    for set in &SETS {
+        assert_eq!(set.bases[..4].iter().product::<u32>(), set.alpha);
+        assert_eq!(set.bases[4], set.parts + 1);
+        assert_eq!(set.alpha * set.parts, Q - 1);
+    }
+}
+
+#[test]
+fn lengths_are_those_of_the_request() {
+    for n in 1..=8 {
+        let shape = |set, kind| Shape::new(set, kind, n as u32).unwrap();
+        assert_eq!(shape(0, 0).shared_numbers(), 165 * n);
+        assert_eq!(shape(1, 0).shared_numbers(), 162 * n);
+        assert_eq!(shape(0, 1).shared_numbers(), 158 * n + 3);
+        assert_eq!(shape(1, 1).shared_numbers(), 155 * n + 3);
+        let openings = |kind| (1..=7).map(|r| shape(0, kind).openings(r)).sum::<usize>();
+        assert_eq!(openings(0), 19 * n);
+        assert_eq!(openings(1), 17 * n + 2);
+    }
+}
+
+#[test]
+fn plain_known_results() {
+    for (set, w, high) in [
+        (0, 95_232, 0),
+        (0, 95_233, 1),
+        (0, 8_285_184, 43),
+        (0, 8_285_185, 0),
+        (0, Q - 1, 0),
+        (1, 261_888, 0),
+        (1, 261_889, 1),
+        (1, 8_118_528, 15),
+        (1, 8_118_529, 0),
+    ] {
+        assert_eq!(high_part(set, w), Ok(high), "set {set}, {w}");
+        assert_eq!(Pair::new(simple_run(set, 0, 0, &[w])).play(), [high]);
+    }
+    assert_eq!(low_part(0, 8_285_185), Ok(-95_232));
+    assert_eq!(low_part(0, Q - 1), Ok(-1));
+    for (v, inside) in [
+        (4_190_207, 1),
+        (4_190_208, 0),
+        (4_190_209, 0),
+        (4_190_210, 1),
+    ] {
+        for set in [0, 1] {
+            assert_eq!(verdict(set, 4_190_208, &[v]), Ok(inside));
+            let mut pair = Pair::new(simple_run(set, 1, 4_190_208, &[v]));
+            assert_eq!(pair.play(), [inside]);
+        }
+    }
+    assert_eq!(high_part(2, Q), Err(Refusal::Selector));
+    assert_eq!(high_part(0, Q), Err(Refusal::Range));
+    assert_eq!(verdict(2, 0, &[]), Err(Refusal::Selector));
+    assert_eq!(verdict(0, 0, &[]), Err(Refusal::Count));
+    assert_eq!(verdict(0, 0, &[Q]), Err(Refusal::Bound));
+    assert_eq!(verdict(0, 1, &[Q]), Err(Refusal::Range));
+}
+
+/// FIPS 204 Decompose, as it is written there.
+#[test]
+fn plain_parts_are_decompose() {
+    let mut generator = SplitMix64::new(1);
+    for set in [0, 1] {
+        let alpha = SETS[set as usize].alpha as i32;
+        for _ in 0..20_000 {
+            let w = generator.coefficient(set, 0);
+            let mut low = w as i32 % alpha;
+            if low > alpha / 2 {
+                low -= alpha;
+            }
+            let high = if w as i32 - low == Q as i32 - 1 {
+                low -= 1;
+                0
+            } else {
+                (w as i32 - low) / alpha
+            };
+            assert_eq!(high_part(set, w), Ok(high as u32));
+            assert_eq!(low_part(set, w), Ok(low));
+        }
+    }
+}
+
+#[test]
+fn books_join_to_what_was_drawn() {
+    let mut generator = SplitMix64::new(2);
+    for (set, kind) in [(0, 0), (0, 1), (1, 0), (1, 1)] {
+        let pair = Pair::new(RandomRun::new(&mut generator, set, kind, 3));
+        let shape = &pair.shape;
+        let joined = |place| {
+            let whole = Shared::load(&pair.books[0], place) + Shared::load(&pair.books[1], place);
+            assert_eq!(whole, Shared::whole(whole.share(), pair.run.keys));
+            whole.share()
+        };
+        let vector_of = |place, length: usize, digit: usize| {
+            for j in 0..length {
+                assert_eq!(joined(place + j), u32::from(j == digit));
+            }
+        };
+        assert_eq!(joined(0), pair.run.draw[0]);
+        for c in 0..shape.count {
+            let digits = shape.set.split(joined(shape.mask_at(c)));
+            for (i, &digit) in digits.iter().enumerate() {
+                vector_of(shape.vector_at(c, i), shape.set.bases[i] as usize, digit);
+            }
+            for t in 0..8 {
+                let [a, b, ab] = [0, 1, 2].map(|k| joined(shape.triple_at(c, t) + k));
+                assert_eq!(ab, mul(a, b));
+            }
+        }
+        for group in 0..shape.groups() {
+            let place = shape.group_at(group);
+            let step = joined(place) / shape.check_step();
+            vector_of(place + 1, shape.check_entries(), step as usize);
+        }
+    }
+}
+
+#[test]
+fn random_runs_give_the_plain_answer() {
+    let mut generator = SplitMix64::new(3);
+    let mut verdicts = [0; 2];
+    for number in 0..1_600 {
+        let (set, kind, count) = (number % 2, number / 2 % 2, number / 4 % 8 + 1);
+        let run = RandomRun::new(&mut generator, set, kind, count);
+        let expected = plain_answer(&run);
+        if kind == 1 {
+            verdicts[expected[0] as usize] += 1;
+        }
+        let mut pair = Pair::new(run);
+        assert_eq!(pair.play(), expected, "run {number}");
+        for side in &pair.sides {
+            let all = if kind == 0 {
+                19 * count
+            } else {
+                17 * count + 2
+            };
+            assert_eq!(side.opening_count(), all as usize);
+        }
+    }
+    assert!(verdicts.iter().all(|&n| n > 50), "{verdicts:?}");
+}
+
+#[test]
+fn wrapped_top_digit_is_corrected() {
+    // w′ = q − 2 with r = q − 1, and w′ = 190,463 with r = 190,464.
+    for (shifted, mask, y, high) in [(Q - 2, Q - 1, Q - 1, 43), (190_463, 190_464, Q - 1, 0)] {
+        let w = sub(shifted, SETS[0].alpha / 2 - 1);
+        let mut run = simple_run(0, 0, 0, &[w]);
+        run.draw[0] = mask;
+        let mut pair = Pair::new(run);
+        pair.begin();
+        // The phone's share is 0, so the server's message shows y.
+        let first = pair.send(SERVER);
+        assert_eq!(field_of(&first, 0), y);
+        pair.take(PHONE, &first).unwrap();
+        pair.pass(PHONE);
+        for _ in 2..=7 {
+            pair.pass(SERVER);
+            pair.pass(PHONE);
+        }
+        assert_eq!(pair.answer(SERVER), [high]);
+    }
+}
+
+#[test]
+fn zero_check_step() {
+    let shape = Shape::new(0, 0, 1).unwrap();
+    let g = shape.check_step();
+    assert_eq!(g, 1_396_736);
+    let opened = add(Q - 1, mul(g, 5));
+    assert_eq!(opened, 6_983_679);
+    assert_ne!(opened / g, (Q - 1) / g);
+}
+
+#[test]
+fn message_sample() {
+    let settings = Settings::new(0, 0, 1, 0).unwrap();
+    let header = Header::new(SERVER, &settings, 1, 1);
+    let mut message = vec![0xFF; message_length(1)];
+    let opening = Opening { share: 1, check: 0 };
+    write_message(&header, [opening].into_iter(), &mut message);
+    let expected = [0, 0x80, 0, 0, 0, 0, 0, 1, 0, 0, 2, 0, 0, 0];
+    assert_eq!(message, expected);
+}
+
+#[test]
+fn form_test_asks_in_order() {
+    let good = FormTest {
+        receiver: 1,
+        set: 0,
+        kind: 0,
+        count: 1,
+        bound: 0,
+        round: 1,
+        serial: 1,
+    };
+    let message = [0, 0x80, 0, 0, 0, 0, 0, 1, 0, 0, 2, 0, 0, 0];
+    assert_eq!(good.test(&message), Ok(()));
+    let bad = Err;
+    assert_eq!(
+        FormTest {
+            receiver: 2,
+            ..good
+        }
+        .test(&message),
+        bad(Refusal::Selector)
+    );
+    assert_eq!(
+        FormTest { kind: 2, ..good }.test(&message),
+        bad(Refusal::Selector)
+    );
+    assert_eq!(
+        FormTest { count: 9, ..good }.test(&message),
+        bad(Refusal::Count)
+    );
+    assert_eq!(
+        FormTest { bound: 1, ..good }.test(&message),
+        bad(Refusal::Bound)
+    );
+    assert_eq!(
+        FormTest { round: 8, ..good }.test(&message),
+        bad(Refusal::NotDue)
+    );
+    assert_eq!(
+        FormTest { serial: 0, ..good }.test(&message),
+        bad(Refusal::NotDue)
+    );
+    assert_eq!(good.test(&message[1..]), bad(Refusal::MessageLength));
+    assert_eq!(
+        FormTest {
+            receiver: 0,
+            ..good
+        }
+        .test(&message),
+        bad(Refusal::Header)
+    );
+    assert_eq!(
+        FormTest { round: 6, ..good }.test(&message),
+        bad(Refusal::Header)
+    );
+    for padding in [1, 2] {
+        let mut changed = message;
+        changed[13] = padding;
+        assert_eq!(good.test(&changed), bad(Refusal::Field));
+    }
+    for field in [0, 1] {
+        let with = |number| with_field(&message, field, |_| number);
+        assert_eq!(good.test(&with(Q - 1)), Ok(()));
+        assert_eq!(good.test(&with(Q)), bad(Refusal::Field));
+        assert_eq!(good.test(&with((1 << 23) - 1)), bad(Refusal::Field));
+    }
+}
+
+#[test]
+fn tampered_openings_are_caught() {
+    let mut generator = SplitMix64::new(4);
+    for number in 0..280 {
+        let (set, kind, count) = (number % 2, number / 2 % 2, number / 4 % 8 + 1);
+        let mut pair = Pair::new(RandomRun::new(&mut generator, set, kind, count));
+        pair.begin();
+        let bad_round = generator.between(1, 7) as u8;
+        let from = generator.below(2) as usize;
+        let to = 1 - from;
+        for _ in 1..bad_round {
+            pair.pass(SERVER);
+            pair.pass(PHONE);
+        }
+        if from == PHONE {
+            pair.pass(SERVER);
+        }
+        let message = pair.send(from);
+
+        // Change one field of one opening by a number that is not 0.
+        let openings = pair.shape.openings(bad_round);
+        let field = generator.below(2 * openings as u32) as usize;
+        let shift = generator.between(1, Q - 1);
+        let changed = with_field(&message, field, |old| add(old, shift));
+        let before = (pair.works[to].clone(), pair.sides[to].opening_count());
+        assert_eq!(pair.take(to, &changed), Err(Refusal::Check));
+        let after = (pair.works[to].clone(), pair.sides[to].opening_count());
+        assert!(before == after);
+
+        // Stopped: nothing is due but a new run with a higher serial.
+        assert_eq!(pair.take(to, &message), Err(Refusal::NotDue));
+        let mut work = pair.works[to].clone();
+        let mut side = pair.sides[to].clone();
+        assert_eq!(
+            side.begin(&pair.begin_with(to), &mut work),
+            Err(Refusal::Serial)
+        );
+        let again = Begin {
+            serial: pair.run.serial + 1,
+            ..pair.begin_with(to)
+        };
+        assert_eq!(side.begin(&again, &mut work), Ok(()));
+        assert_eq!(side.opening_count(), 0);
+    }
+}
+
+/// A 23-bit field of a message, read bit by bit.
+fn field_of(message: &[u8], field: usize) -> u32 {
+    let start = 64 + 23 * field;
+    (start..start + 23).fold(0, |bits, at| {
+        bits << 1 | u32::from(message[at / 8] >> (7 - at % 8) & 1)
+    })
+}
+
+/// A message with one 23-bit field replaced, bit by bit.
+fn with_field(message: &[u8], field: usize, change: impl Fn(u32) -> u32) -> Vec<u8> {
+    let start = 64 + 23 * field;
+    let new = change(field_of(message, field));
+    let mut changed = message.to_vec();
+    for (k, at) in (start..start + 23).enumerate() {
+        let bit = (new >> (22 - k) & 1) as u8;
+        let mask = 1 << (7 - at % 8);
+        changed[at / 8] = (changed[at / 8] & !mask) | (bit * mask);
+    }
+    changed
+}
+
+#[test]
+fn calls_refuse_in_order() {
+    let mut generator = SplitMix64::new(5);
+    let mut pair = Pair::new(RandomRun::new(&mut generator, 0, 0, 2));
+    let fresh = Side::new();
+    let good = pair.begin_with(SERVER);
+    let mut work = vec![Q; WORK_LENGTH];
+    let mut refused = |begin: Begin| {
+        let mut side = fresh.clone();
+        let result = side.begin(&begin, &mut work);
+        assert_eq!(side, fresh);
+        result.unwrap_err().number()
+    };
+    let large = [Q; 6];
+    assert_eq!(
+        refused(Begin {
+            side: 2,
+            count: 0,
+            ..good
+        }),
+        1
+    );
+    assert_eq!(
+        refused(Begin {
+            count: 0,
+            bound: 1,
+            ..good
+        }),
+        2
+    );
+    assert_eq!(
+        refused(Begin {
+            bound: 1,
+            key: 0,
+            ..good
+        }),
+        3
+    );
+    assert_eq!(
+        refused(Begin {
+            key: Q,
+            book: &[],
+            ..good
+        }),
+        4
+    );
+    assert_eq!(
+        refused(Begin {
+            book: &[],
+            inputs: &large,
+            ..good
+        }),
+        5
+    );
+    assert_eq!(
+        refused(Begin {
+            inputs: &large,
+            serial: 0,
+            ..good
+        }),
+        6
+    );
+    assert_eq!(refused(Begin { serial: 0, ..good }), 7);
+
+    let mut message = [0; MAX_BYTES];
+    assert_eq!(Side::new().send(&[], &mut message), Err(Refusal::NotDue));
+    assert_eq!(Side::new().take(&mut [], &message), Err(Refusal::NotDue));
+    assert_eq!(Side::new().answer(&mut []), Err(Refusal::NotDue));
+    assert_eq!(Side::new().opening_count(), 0);
+
+    pair.begin();
+    let mut server = pair.sides[SERVER].clone();
+    let mut work = pair.works[SERVER].clone();
+    assert_eq!(
+        server.begin(&pair.begin_with(SERVER), &mut work),
+        Err(Refusal::NotDue)
+    );
+    assert_eq!(server.take(&mut work, &[]), Err(Refusal::NotDue));
+    assert_eq!(server.send(&work[1..], &mut []), Err(Refusal::Length));
+    work[WORK_LENGTH - 1] = Q;
+    assert_eq!(server.send(&work, &mut []), Err(Refusal::Range));
+    work[WORK_LENGTH - 1] = 0;
+    assert_eq!(server.send(&work, &mut []), Err(Refusal::Output));
+    assert_eq!(server, pair.sides[SERVER]);
+
+    let first = pair.send(SERVER);
+    assert_eq!(pair.take(SERVER, &first), Err(Refusal::Header));
+    pair.take(PHONE, &first).unwrap();
+    assert_eq!(pair.sides[PHONE].opening_count(), 2);
+    let reply = pair.send(PHONE);
+    assert_eq!(pair.take(PHONE, &first), Err(Refusal::MessageLength));
+    pair.take(SERVER, &reply).unwrap();
+    pair.pass(SERVER);
+    pair.pass(PHONE);
+    assert_eq!(pair.sides.each_ref().map(Side::opening_count), [10, 10]);
+    for _ in 3..=6 {
+        pair.pass(SERVER);
+        pair.pass(PHONE);
+    }
+    pair.pass(SERVER);
+    let mut answer = [9; 4];
+    assert_eq!(pair.sides[PHONE].answer(&mut answer), Err(Refusal::NotDue));
+    pair.pass(PHONE);
+    assert_eq!(
+        pair.sides[PHONE].answer(&mut answer[..1]),
+        Err(Refusal::Output)
+    );
+    assert_eq!(pair.sides[PHONE].answer(&mut answer), Ok(2));
+    assert_eq!(answer[2..], [9, 9]);
+    assert_eq!(pair.shape.kind, Kind::High);
+}
+
+#[test]
+fn deal_refuses_in_order() {
+    let shape = Shape::new(0, 0, 1).unwrap();
+    let length = shape.book_length();
+    let mut server = vec![0; length];
+    let mut phone = vec![0; length];
+    let mut draw = vec![0; shape.draw_length()];
+    draw[3] = Q;
+    let mut call = |set, count, key, from: usize| {
+        deal(
+            set,
+            0,
+            count,
+            [1, key],
+            &draw[from..],
+            &mut server,
+            &mut phone,
+        )
+        .unwrap_err()
+        .number()
+    };
+    assert_eq!(call(2, 0, 0, 1), 1);
+    assert_eq!(call(0, 0, 0, 1), 2);
+    assert_eq!(call(0, 1, 0, 1), 4);
+    assert_eq!(call(0, 1, 1, 1), 5);
+    assert_eq!(call(0, 1, 1, 0), 6);
+}
+
+#[test]
+fn line_sample() {
+    assert_eq!(lines("H - 0 95233\nB - 1 0 0\nH 1 0"), "1 1\n2 1\n3 !2\n");
+    assert_eq!(lines("H - 0 95233\nB - 1 0 0\nH 1 0\n"), "1 1\n2 1\n3 !2\n");
+}
+
+#[test]
+fn line_forms() {
+    assert_eq!(lines(""), "");
+    assert_eq!(lines("\n"), "1 !12\n");
+    let eight = format!("H 0 0{}", " 95233".repeat(8));
+    assert_eq!(lines(&eight), "1 1 1 1 1 1 1 1 1\n");
+    for (line, answer) in [
+        ("H 2 0", "!1"),
+        ("H 4294967295 1 8380417", "!1"),
+        ("H 0 1", "!2"),
+        ("H 0 1 8380417", "!3"),
+        ("B 0 0 8380417", "!3"),
+        ("B 0 4190209 1", "!3"),
+        ("H 0 0 8380417", "!6"),
+        ("H 0 0 4294967295", "!6"),
+        ("H 0 0 4294967296", "!12"),
+        ("H 2 1 x", "!12"),
+        ("H 0 0 0000095233", "1"),
+        ("H 0000000001 0 261889", "1"),
+        ("H 0 0 00000095233", "!12"),
+        ("H -0 0 1", "!12"),
+        ("H - - 1", "!12"),
+        ("H - 0 -", "!12"),
+        ("H", "!12"),
+        ("H 0", "!12"),
+        (" H 0 0 1", "!12"),
+        ("H 0 0 1 ", "!12"),
+        ("H 0  0 1", "!12"),
+        ("H 0 0 1\r", "!12"),
+        ("H\t0 0 1", "!12"),
+        ("h 0 0 1", "!12"),
+        ("H 0 0 +1", "!12"),
+        ("B 1 2 8380416 1 0", "1"),
+        ("B 1 2 8380415 1 0", "0"),
+    ] {
+        assert_eq!(lines(line), format!("1 {answer}\n"), "{line:?}");
+    }
+}
+
+#[test]
+fn line_length() {
+    let padded = |length: usize| {
+        let mut line = String::from("H 0 0");
+        while line.len() + 2 <= length {
+            line.push_str(" 1");
+        }
+        if line.len() < length {
+            line.push('1');
+        }
+        line
+    };
+    assert_eq!(padded(1_024).len(), 1_024);
+    let good = "H 0 0 1";
+    for (length, answer) in [
+        (1_023, 2),
+        (1_024, 2),
+        (1_025, 12),
+        (1_026, 12),
+        (200_000, 12),
+    ] {
+        let line = padded(length);
+        assert_eq!(lines(&line), format!("1 !{answer}\n"), "{length}");
+        let text = format!("{line}\n{good}\n");
+        assert_eq!(lines(&text), format!("1 !{answer}\n2 0\n"), "{length}");
+    }
+}
+
+#[test]
+fn line_numbers_without_a_serial() {
+    let mut output = Vec::new();
+    let input = "H 0 0 95233\nH 0 0 95233\nH 0 0 95233\n";
+    line_program::run_after(u64::from(u32::MAX) - 1, input.as_bytes(), &mut output).unwrap();
+    let expected = "4294967295 1\n4294967296 !12\n4294967297 !12\n";
+    assert_eq!(String::from_utf8(output).unwrap(), expected);
+}

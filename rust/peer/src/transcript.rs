@@ -1,0 +1,77 @@
+//! An honest run with every message written down.
+
+use std::fmt::Write;
+
+use crate::dealer::deal;
+use crate::message::MAX_BYTES;
+use crate::refusal::Refusal;
+use crate::settings::{Shape, MAX_COUNT};
+use crate::side::{Begin, Side, PHONE, SERVER, WORK_LENGTH};
+
+/// Plays the run that a list of numbers describes: set, kind, count, bound,
+/// serial, both keys, the server's 3N inputs, the phone's 3N inputs, the draw.
+///
+/// Gives a line `SENDER ROUND HEX` for every message, then each side's answer
+/// and opening count.
+pub fn transcript(numbers: &[u32]) -> Result<String, Refusal> {
+    let (&[set, kind, count, bound, serial, key0, key1], rest) =
+        numbers.split_first_chunk::<7>().ok_or(Refusal::Length)?;
+    let keys = [key0, key1];
+    let shape = Shape::new(set, kind, count)?;
+    let (server_inputs, rest) = rest
+        .split_at_checked(3 * shape.count)
+        .ok_or(Refusal::Length)?;
+    let (phone_inputs, draw) = rest
+        .split_at_checked(3 * shape.count)
+        .ok_or(Refusal::Length)?;
+    let inputs = [server_inputs, phone_inputs];
+
+    let mut books = [vec![0; shape.book_length()], vec![0; shape.book_length()]];
+    let [server_book, phone_book] = &mut books;
+    deal(set, kind, count, keys, draw, server_book, phone_book)?;
+
+    let mut sides = [Side::new(), Side::new()];
+    let mut works = [vec![0; WORK_LENGTH], vec![0; WORK_LENGTH]];
+    for side in [SERVER, PHONE] {
+        let begin = Begin {
+            side: side as u32,
+            set,
+            kind,
+            count,
+            bound,
+            serial,
+            key: keys[side],
+            inputs: inputs[side],
+            book: &books[side],
+        };
+        sides[side].begin(&begin, &mut works[side])?;
+    }
+
+    let mut text = String::new();
+    let mut message = [0; MAX_BYTES];
+    for round in 1..=7 {
+        for (from, to) in [(SERVER, PHONE), (PHONE, SERVER)] {
+            let length = sides[from].send(&works[from], &mut message)?;
+            let message = &message[..length];
+            write!(text, "{from} {round} ").unwrap();
+            for byte in message {
+                write!(text, "{byte:02x}").unwrap();
+            }
+            text.push('\n');
+            sides[to].take(&mut works[to], message)?;
+        }
+    }
+    for (number, side) in sides.iter().enumerate() {
+        let mut answer = [0; MAX_COUNT];
+        let length = side.answer(&mut answer)?;
+        write!(text, "answer {number}").unwrap();
+        for value in &answer[..length] {
+            write!(text, " {value}").unwrap();
+        }
+        text.push('\n');
+    }
+    for (number, side) in sides.iter().enumerate() {
+        writeln!(text, "openings {number} {}", side.opening_count()).unwrap();
+    }
+    Ok(text)
+}
