@@ -8,7 +8,7 @@ use Rattle.lists.specs.Lists.{listTo}
 use Rattle.lists.proofs.Lists.{length-listFrom, getD-listTo, ahead, ahead-fixed, join-at}
 use Rattle.rounding.specs.Sets.{Scale}
 use Rattle.book.specs.Book.{shared}
-use Rattle.column.specs.Layout.{places, begunPlace, begunWork}
+use Rattle.slice.specs.Layout.{places, begunPlace, begunWork}
 
 module _ (p : Scale) (kind n width : ℕ) (inputs book : List ℕ) where
   abbrev begunColumn : ℕ → List ℕ

@@ -21,9 +21,9 @@ use Rattle.rounding.proofs.Radix.{low-digit, top-digit, unit-alpha, digit-below
 use Rattle.message.specs.Lengths.{openings}
 use Rattle.book.specs.Book.{groupK, stride, vectorAt}
 use Rattle.column.specs.Steps.{lookedAt, limitOf, groupOf}
-use Rattle.column.specs.Weights.{ruleOf}
-use Rattle.column.specs.declared.Rule.{Rule}
-use Rattle.column.specs.declared.Rule.the-variants.{Carry, Zero, Top, Over, Below}
+use Rattle.slice.specs.Weights.{ruleOf}
+use Rattle.slice.specs.declared.Rule.{Rule}
+use Rattle.slice.specs.declared.Rule.the-variants.{Carry, Zero, Top, Over, Below}
 
 -- ---- Places
 

@@ -18,8 +18,8 @@ use Rattle.rounding.specs.Rounds.{top, over, unit, carryInto, zeroDigit, topSum
 use Rattle.rounding.specs.Theorems.{Lawful}
 use Rattle.rounding.proofs.Radix.{carry-le, carry-none, carry-next, zero-is, digit-below}
 use Rattle.rounding.proofs.BoundResult.{compare-is}
-use Rattle.column.specs.Weights.{weigh, ruleOf}
-use Rattle.column.specs.declared.Rule.the-variants.{Carry, Zero, Top, Over, Below}
+use Rattle.slice.specs.Weights.{weigh, ruleOf}
+use Rattle.slice.specs.declared.Rule.the-variants.{Carry, Zero, Top, Over, Below}
 use Rattle.column.specs.Steps.{lookedAt, limitOf}
 use Rattle.column.specs.Clear.{clearRunning, clearFactor}
 

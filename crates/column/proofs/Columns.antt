@@ -13,7 +13,7 @@ use Rattle.lists.proofs.Fill.{fill-at, fill-before, fill-behind, length-fill}
 use Rattle.field.specs.Forms.{Registers, put}
 use Rattle.rounding.specs.Sets.{Scale}
 use Rattle.message.specs.Lengths.{openings}
-use Rattle.column.specs.Layout.{places, runningAt, ownAt, column, ownIn}
+use Rattle.slice.specs.Layout.{places, runningAt, ownAt, column, ownIn}
 use Rattle.column.specs.Steps.{Public, publicOf}
 use Rattle.column.specs.Work.{openingOn, runningOn, takenColumn}
 

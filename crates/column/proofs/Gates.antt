@@ -22,8 +22,8 @@ use Rattle.book.specs.Book as Book
 use Rattle.book.specs.Theorems.{groups}
 use Rattle.book.proofs.Places.{places}
 use Rattle.book.proofs.Books.{values}
-use Rattle.column.specs.Layout.{inputAt, runningAt}
-use Rattle.column.specs.Weights.{weigh, ruleOf}
+use Rattle.slice.specs.Layout.{inputAt, runningAt}
+use Rattle.slice.specs.Weights.{weigh, ruleOf}
 use Rattle.column.specs.Steps.{Public, publicOf, lookedAt, limitOf, vectorSum, addend, factorU, factorV, shiftOf, openInput, openFactor, gateResult}
 use Rattle.column.specs.Clear.{clearRunning, clearFactor}
 use Rattle.column.proofs.Clear.{looked-below, weight-below, plainWeight, clearAddend, gate-clear}

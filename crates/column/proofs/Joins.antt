@@ -14,7 +14,7 @@ use Rattle.field.proofs.Forms.{join-value, join-put}
 use Rattle.rounding.specs.Sets.{Scale}
 use Rattle.message.specs.Lengths.{openings}
 use Rattle.book.specs.Deal.{multipliers}
-use Rattle.column.specs.Layout.{places, column, maskedIn, weights}
+use Rattle.slice.specs.Layout.{places, column, maskedIn, weights}
 use Rattle.column.specs.Steps.{Public, publicOf, opening, running}
 use Rattle.column.specs.Work.{openingOn, takenColumn, takenColumns, takenWork}
 use Rattle.column.specs.Theorems.{T1, JoinedWork, T1Work}

@@ -11,4 +11,3 @@ pub mod Checks
 pub mod Start
 pub mod Rounds
 pub mod PlainRun
-pub mod Ranges

@@ -13,7 +13,7 @@ use Rattle.field.specs.Forms.{Registers, value}
 use Rattle.rounding.specs.Sets.{Scale}
 use Rattle.message.specs.Lengths.{openings}
 use Rattle.book.specs.Book.{widthOf, maskAt, tripleAt, drawn}
-use Rattle.column.specs.Layout.{runningAt}
+use Rattle.slice.specs.Layout.{runningAt}
 use Rattle.column.specs.Steps.{Public, publicOf, shiftOf, opening, openFactor, running}
 use Rattle.column.specs.Work.{openingOn}
 use Rattle.column.specs.Clear.{clearRunning, clearFactor, maskOf, maskedOf}

@@ -14,7 +14,7 @@ use Rattle.lists.proofs.Fill.{fill-at, fill-before, fill-behind, length-fill}
 use Rattle.field.specs.Forms.{Registers, value}
 use Rattle.rounding.specs.Sets.{Scale}
 use Rattle.message.specs.Lengths.{openings}
-use Rattle.column.specs.Layout.{places, ownAt, column, ownIn, maskedIn}
+use Rattle.slice.specs.Layout.{places, ownAt, column, ownIn, maskedIn}
 use Rattle.column.specs.Steps.{Public, publicOf, openInput, opening}
 use Rattle.column.specs.Work.{openingOn, takenColumn, takenColumns, takenWork}
 use Rattle.column.proofs.Columns.{stepped, taking, maskedAfter, openings-most, column-same, length-taken, taken-before, taken-behind, column-taken, own-taken}

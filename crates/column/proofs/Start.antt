@@ -13,7 +13,7 @@ use Rattle.rounding.specs.Sets.{Scale}
 use Rattle.message.specs.Lengths.{openings}
 use Rattle.book.specs.Book.{shared, widthOf, drawn}
 use Rattle.book.specs.Book as Book
-use Rattle.column.specs.Layout.{places, inputAt, runningAt, column, maskedIn, begunPlace, begunWork}
+use Rattle.slice.specs.Layout.{places, inputAt, runningAt, column, maskedIn, begunPlace, begunWork}
 use Rattle.column.specs.Steps.{publicOf}
 use Rattle.column.specs.Work.{openingOn, runningOn}
 use Rattle.column.specs.Run.{plainBook, plainStart, openedFrom, plainAfter}

@@ -16,7 +16,7 @@ use Rattle.lists.proofs.Fill.{length-fill, front-at, fill-same, fill-behind, co
 use Rattle.field.specs.Forms.{value}
 use Rattle.rounding.specs.Sets.{Scale}
 use Rattle.message.specs.Lengths.{openings}
-use Rattle.column.specs.Layout.{places, runningAt, ownAt, column, maskedIn}
+use Rattle.slice.specs.Layout.{places, runningAt, ownAt, column, maskedIn}
 use Rattle.column.specs.Steps.{Public, publicOf, openInput, opening, vectorSum, running}
 use Rattle.column.specs.Work.{openingOn, runningOn, takenColumn, takenColumns, takenWork}
 use Rattle.column.specs.Calls.{Held, HeldAll}

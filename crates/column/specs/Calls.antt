@@ -7,7 +7,7 @@ use lib.ListN.{length, getD}
 use Rattle.rounding.specs.Sets.{scaleOf}
 use Rattle.field.specs.Forms.{Registers}
 use Rattle.message.specs.Lengths.{openings}
-use Rattle.column.specs.Layout.{column}
+use Rattle.slice.specs.Layout.{column}
 use Rattle.column.specs.Steps.{Public, publicOf}
 use Rattle.column.specs.Work.{openingOn}
 use Rattle.column.specs.declared.Settings.{Settings}

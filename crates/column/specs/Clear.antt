@@ -12,7 +12,7 @@ use Rattle.rounding.specs.Sets.{Scale}
 use Rattle.rounding.specs.Digits.{digit}
 use Rattle.rounding.specs.Rounds.{carryInto, zeroDigit, topSum, top, over, missing, threshold, belowUpTo, insideResult}
 use Rattle.book.specs.Book.{groupGap, maskAt, tripleAt, groupAt, drawn}
-use Rattle.column.specs.Weights.{weigh, ruleOf}
+use Rattle.slice.specs.Weights.{weigh, ruleOf}
 use Rattle.column.specs.Steps.{lookedAt, limitOf, shiftOf}
 
 module _ (p : Scale) (kind n bound : ℕ) where

@@ -1,6 +1,4 @@
 -- The seven rounds on one column, and on a working slice of columns.
-pub mod Layout
-pub mod Weights
 pub mod Steps
 pub mod Work
 pub mod Calls

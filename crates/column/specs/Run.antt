@@ -6,7 +6,7 @@ use Rattle.lists.specs.Lists.{listTo}
 use Rattle.rounding.specs.Sets.{Scale}
 use Rattle.message.specs.Lengths.{openings}
 use Rattle.book.specs.Book.{shared, value}
-use Rattle.column.specs.Layout.{column, maskedIn, begunWork}
+use Rattle.slice.specs.Layout.{column, maskedIn, begunWork}
 use Rattle.column.specs.Steps.{publicOf}
 use Rattle.column.specs.Work.{openingOn, takenWork}
 

@@ -9,8 +9,8 @@ use Rattle.rounding.specs.Sets.{Scale, base}
 use Rattle.rounding.specs.Digits.{digit}
 use Rattle.rounding.specs.Rounds.{threshold}
 use Rattle.book.specs.Book.{groupK, groupGap, maskAt, vectorAt, tripleAt, groupAt}
-use Rattle.column.specs.Layout.{inputAt, runningAt}
-use Rattle.column.specs.Weights.{weigh, ruleOf}
+use Rattle.slice.specs.Layout.{inputAt, runningAt}
+use Rattle.slice.specs.Weights.{weigh, ruleOf}
 
 -- what both sides know of a run: scale, kind, N, B, and the y that round 1 opened
 pub record Public : Type 0 where

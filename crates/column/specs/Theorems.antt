@@ -15,7 +15,7 @@ use Rattle.rounding.specs.Theorems.{Lawful}
 use Rattle.message.specs.Lengths.{openings}
 use Rattle.book.specs.Book.{shared, widthOf, drawLength}
 use Rattle.book.specs.Deal.{multipliers}
-use Rattle.column.specs.Layout.{places, inputAt, runningAt, column, ownIn, maskedIn, weights}
+use Rattle.slice.specs.Layout.{places, inputAt, runningAt, column, ownIn, maskedIn, weights}
 use Rattle.column.specs.Steps.{Public, publicOf}
 use Rattle.column.specs.Work.{openingOn, runningOn, takenWork}
 use Rattle.column.specs.Run.{plainAfter, plainOpened}

@@ -8,7 +8,7 @@ use Rattle.lists.specs.Lists.{fill}
 use Rattle.field.specs.Forms.{Registers, value}
 use Rattle.rounding.specs.Sets.{Scale}
 use Rattle.message.specs.Lengths.{openings}
-use Rattle.column.specs.Layout.{places, runningAt, ownAt, maskedAt, column, maskedIn}
+use Rattle.slice.specs.Layout.{places, runningAt, ownAt, maskedAt, column, maskedIn}
 use Rattle.column.specs.Steps.{Public, publicOf, opening, running}
 
 -- on a column of weight κ

@@ -1,25 +1,22 @@
 // The seven rounds on a side's working slice: what each column gives to a round's openings, and what the opened
 // numbers make of it. Every step is a linear form with public coefficients, the same in every column.
 ghost use mathlib.Core.Path.{_≡_};
-ghost use mathlib.Core.Logic.{_≢_, _⊎_};
-ghost use mathlib.Core.Bool.{cond};
+ghost use mathlib.Core.Logic.{_≢_};
 ghost use mathlib.Core.List.{List};
-ghost use Prim.Native.Nat.{ℕ, _+_, _*_, _-_, _/_, _%_, _≤_, _<_, min};
-ghost use lib.Dec.{ltb, leb, eqb};
+ghost use Prim.Native.Nat.{ℕ, _+_, _*_, _/_, _≤_, _<_};
+ghost use lib.Dec.{ltb};
 ghost use lib.ListN.{length, getD};
 ghost use Rattle.lists.specs.Answers.{bit};
 ghost use Rattle.lists.specs.Lists.{fill};
 ghost use Rattle.field.specs.Field.{q, add, sub, mul};
-ghost use Rattle.field.specs.Forms.{value, sum, _⊟_};
-ghost use Rattle.field.specs.Sums.{sumTo};
+ghost use Rattle.field.specs.Forms.{value, _⊟_};
 ghost use Rattle.rounding.specs.Sets.{scaleOf};
 ghost use Rattle.rounding.specs.Digits.{digit};
-ghost use Rattle.rounding.specs.Rounds.{top, threshold, gap};
+ghost use Rattle.rounding.specs.Rounds.{threshold, gap};
 ghost use Rattle.message.specs.Lengths.{openings};
 ghost use Rattle.book.specs.Book.{groupK};
-ghost use Rattle.column.specs.Layout.{places, ownAt, runningAt, column, maskedIn};
-ghost use Rattle.column.specs.Weights.{weigh, ruleOf};
-ghost use Rattle.column.specs.declared.Rule.the-variants.{Zero};
+ghost use Rattle.slice.specs.Layout.{places, ownAt, runningAt, column, maskedIn};
+ghost use Rattle.slice.specs.Weights.{ruleOf};
 ghost use Rattle.column.specs.Steps.{publicOf, lookedAt, limitOf, vectorSum, addend, factorU, factorV, tripleOf, shiftOf, openInput, openFactor, insideForm, insides, checked, openCheck, gateResult, groupOf, checkEntry, afterCheck, running};
 ghost use Rattle.column.specs.Work.{openingOn, runningOn, takenColumn, takenColumns, takenWork};
 ghost use Rattle.column.specs.Calls.{publicBy, Ready, Held, HeldAll};
@@ -29,8 +26,6 @@ use book::group_k;
 use book::mask_at;
 use book::triple_at;
 use book::vector_at;
-use field::Q;
-use field::Q64;
 use field::add_mod;
 use field::mul_mod;
 use field::sub_mod;
@@ -40,20 +35,16 @@ use rounding::alpha_of;
 use rounding::base_of;
 use rounding::parts_of;
 use rounding::split_number;
-
-// The places of a column, and where in it stand the inputs, the two running registers of each coefficient, this side's
-// own numbers for the openings, and (in column 0 alone) the masked numbers.
-pub const PLACES: usize = 1536;
-
-pub const INPUT: usize = 1320;
-
-const FIRST: usize = 1328;
-
-const SECOND: usize = 1336;
-
-pub const OWN: usize = 1344;
-
-const MASKED: usize = 1376;
+use slice::FIRST;
+use slice::INPUT;
+use slice::MASKED;
+use slice::OWN;
+use slice::PLACES;
+use slice::Rule;
+use slice::SECOND;
+use slice::raised_by;
+use slice::register;
+use slice::weighted_sum;
 
 // The room for a column's own numbers in the slice that take_work is handed: no round has more openings.
 const OWN_ROOM: usize = 32;
@@ -67,162 +58,13 @@ pub struct Settings {
     pub bound: u32,
 }
 
-// How the entries of a digit's vector are summed.
-pub enum Rule {
-    Carry,
-    Zero,
-    Top,
-    Over,
-    Below,
-}
-
-// ---- Sums over a digit's vector
-
-// a - b, or 0 if b is larger.
-fn less_by(a: u32, b: u32) -> u32
-    ensures { λ r. ⌜ r ≡ a - b ⌝ }
-{
-    if a < b {
-        return 0;
-    }
-    a - b
-}
-
-// The smaller of the two.
-fn least(a: u32, b: u32) -> u32
-    ensures { λ r. ⌜ (r ≡ min a b) × (r ≤ b) ⌝ }
-{
-    if a < b {
-        return a;
-    }
-    b
-}
+// ---- Numbers
 
 // 1 where the test passes, else 0.
 fn less(a: u32, b: u32) -> u32
     ensures { λ r. ⌜ (r ≡ bit (ltb a b)) × (r ≤ 1) ⌝ }
 {
     if a < b { 1 } else { 0 }
-}
-
-// t(d).
-fn top_of(s: u32, d: u32) -> u32
-    ensures { λ r. ⌜ (r ≡ top s d) × (r ≤ d) ⌝ }
-{
-    if d < s { d } else { d - s }
-}
-
-fn times(a: u32, b: u32) -> u64
-    requires { ⌜ a < 131072 ⌝ }
-    ensures { λ r. ⌜ (r ≡ a * b) × (r < 562949953421312) ⌝ }
-{
-    a as u64 * b as u64
-}
-
-// Register i of column `col`.
-fn register(work: &[u32], col: usize, i: usize) -> u32
-    requires { ⌜ ((col + 1) * places ≤ length (now work)) × (i < ownAt 0) ⌝ }
-    ensures { λ r. ⌜ r ≡ column (now (work .entry)) col i ⌝ }
-{
-    work[col * PLACES + i]
-}
-
-// Entries `from` to `to` of the vector at a place, each once. Sums are reduced once.
-fn part_sum(work: &[u32], col: usize, place: usize, from: usize, to: usize) -> u32
-    requires { ⌜ ((col + 1) * places ≤ length (now work)) × (place + to ≤ ownAt 0) × (to ≤ 64) × (from ≤ 64) ⌝ }
-    ensures { λ r. ⌜ r ≡ sumTo (to - from) (λ (j : ℕ). column (now (work .entry)) col (place + (from + j))) % q ⌝ }
-{
-    let mut total: u64 = 0;
-    let mut j = from;
-    while j < to {
-        total = total + register(work, col, place + j) as u64;
-        j += 1;
-    }
-    (total % Q64) as u32
-}
-
-// The n entries of the vector at a place, entry j times t(j + d).
-fn top_sum(work: &[u32], col: usize, place: usize, n: usize, s: u32, d: u32) -> u32
-    requires { ⌜ ((col + 1) * places ≤ length (now work)) × (place + n ≤ ownAt 0) × (n ≤ 64) × (d ≤ 65536) ⌝ }
-    ensures { λ r. ⌜ r ≡ sumTo n (λ (j : ℕ). top s (j + d) * column (now (work .entry)) col (place + j)) % q ⌝ }
-{
-    let mut total: u64 = 0;
-    let mut j = 0;
-    while j < n {
-        total = total + times(top_of(s, j as u32 + d), register(work, col, place + j));
-        j += 1;
-    }
-    (total % Q64) as u32
-}
-
-// The entry j below b with (j + d) mod b = 0.
-fn zero_entry(b: u32, d: u32) -> usize
-    requires { ⌜ (1 ≤ b) × (d ≤ b) ⌝ }
-    ensures { λ r. ⌜ (r < b) × ((r + d ≡ 0) ⊎ (r + d ≡ b)) ⌝ }
-{
-    if d == 0 {
-        return 0;
-    }
-    (b - d) as usize
-}
-
-// The n entries of the vector at a place, each times its weight by the rule. But for Top's, weights are 0 or 1: the sum goes through
-// the entries of weight 1 alone.
-fn weighted_sum(work: &[u32], col: usize, place: usize, n: usize, rule: Rule, b: u32, d: u32) -> u32
-    requires { ⌜ ((col + 1) * places ≤ length (now work)) × (place + n ≤ ownAt 0) × (n ≤ 64) × (1 ≤ b) × (b ≤ 45) × (d ≤ 65536) ⌝ }
-    requires { ⌜ (rule ≡ Zero → (n ≡ b) × (d ≤ b)) ⌝ }
-    ensures { λ r. ⌜ ((κ : ℕ) → r ≡ value q κ (column (now (work .entry)) col) (sum n place (weigh rule b d))) ⌝ }
-{
-    match rule {
-        Rule::Carry => part_sum(work, col, place, less_by(b, d) as usize, n),
-        Rule::Zero => register(work, col, place + zero_entry(b, d)) % Q,
-        Rule::Top => top_sum(work, col, place, n, b, d),
-        Rule::Over => part_sum(work, col, place, less_by(b + 1, d) as usize, n),
-        Rule::Below => part_sum(work, col, place, 0, least(d, n as u32) as usize),
-    }
-}
-
-// An entry of the vector of n at a place, or 0 behind its end.
-fn entry_at(work: &[u32], col: usize, place: usize, n: usize, j: usize) -> u32
-    requires { ⌜ ((col + 1) * places ≤ length (now work)) × (place + n ≤ ownAt 0) ⌝ }
-    ensures { λ r. ⌜ r ≡ cond (ltb j n) (column (now (work .entry)) col (place + j)) 0 % q ⌝ }
-{
-    if j < n {
-        return register(work, col, place + j) % Q;
-    }
-    0
-}
-
-// The entry j with j + d = b, or n if there is none.
-fn back_from(b: u32, d: u32, n: usize) -> usize
-    ensures { λ r. ⌜ r ≡ cond (leb d b) (b - d) n ⌝ }
-{
-    if d <= b {
-        return (b - d) as usize;
-    }
-    n
-}
-
-// What the weighted sum grows by where the digit is one higher: one weight becomes 1, for Zero one becomes 0 too. For Top all grow by
-// 1, but for the one that falls from s - 1 to 0.
-fn raised_by(work: &[u32], col: usize, place: usize, n: usize, rule: Rule, b: u32, d: u32) -> u32
-    requires { ⌜ ((col + 1) * places ≤ length (now work)) × (place + n ≤ ownAt 0) × (n ≤ 64) × (1 ≤ b) × (b ≤ 45) × (d < 65536) ⌝ }
-    requires { ⌜ (rule ≡ Zero → (n ≡ b) × (d + 1 ≤ b)) ⌝ }
-    ensures { λ r. ⌜ ((κ : ℕ) → r ≡ value q κ (column (now (work .entry)) col) (sum n place (weigh rule b (d + 1)) ⊟ sum n place (weigh rule b d))) ⌝ }
-{
-    match rule {
-        Rule::Carry => entry_at(work, col, place, n, back_from(b, d + 1, n)),
-        Rule::Zero => sub_mod(
-            register(work, col, place + zero_entry(b, d + 1)),
-            register(work, col, place + zero_entry(b, d)),
-        ),
-        Rule::Top => {
-            let turned = entry_at(work, col, place, n, back_from(b, d + 1, n));
-            sub_mod(part_sum(work, col, place, 0, n), mul_mod(b, turned))
-        }
-        Rule::Over => entry_at(work, col, place, n, back_from(b, d, n)),
-        Rule::Below => entry_at(work, col, place, n, d as usize),
-    }
 }
 
 // ---- Digits. (k is the first (0) or second (1) gate and running register of a coefficient.)

@@ -4,7 +4,7 @@ use mathlib.Core.Path.{_≡_, ap}
 use mathlib.Core.List.{List}
 use native.Mathlib.Omega.{arith}
 use lib.ListN.{length, take}
-use Rattle.lines.specs.declared.Text.{Text}
+use Rattle.syntax.specs.declared.Text.{Text}
 use Rattle.lines.proofs.Cut.{cut-line}
 use Rattle.stream.proofs.Parts.{writes-the-output}
 use Rattle.line_program.specs.Waiting.{lineBytes, keptLength}

@@ -14,7 +14,7 @@ use Rattle.stream.specs.Theorems.{State, afterCall}
 use Rattle.stream.proofs.Standing.{left-line}
 use Rattle.stream.proofs.Held.{take-min}
 use Rattle.stream.proofs.Calls.{some-used, used-fits, held-fits, calls-more}
-use Rattle.lines.specs.declared.Text.{Text}
+use Rattle.syntax.specs.declared.Text.{Text}
 use Rattle.lines.specs.Plain.{lineAnswer}
 use Rattle.lines.proofs.Lines.{answer-long}
 use Rattle.line_program.specs.Waiting.{lineBytes, standing, allCalls}

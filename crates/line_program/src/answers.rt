@@ -2,7 +2,7 @@
 ghost use mathlib.Core.Path.{_≡_};
 ghost use mathlib.Core.Bool.{cond};
 ghost use mathlib.Core.List.{[]};
-ghost use Prim.Native.Nat.{_+_, _≤_, _<_, min};
+ghost use Prim.Native.Nat.{_+_, _≤_, _<_};
 ghost use lib.ListN.{length, take, drop};
 ghost use Rattle.stream.specs.Stream.{atLine, heldOf, nextLine, isLeft};
 ghost use Rattle.stream.specs.Theorems.{afterCall};
@@ -11,6 +11,7 @@ use lines::answer_line;
 use stream::Stream;
 use stream::hold;
 use stream::is_left;
+use stream::least;
 use stream::next_line;
 
 // No output line is longer.
@@ -79,15 +80,6 @@ pub fn answer_some(stream: Stream, kept: &mut [u8], bytes: &[u8], out: &mut [u8]
         stream: here,
         waiting,
     }
-}
-
-fn least(a: usize, b: usize) -> usize
-    ensures { λ r. ⌜ r ≡ min a b ⌝ }
-{
-    if a < b {
-        return a;
-    }
-    b
 }
 
 // When the input has ended: the answer to its last line, if that lacks its line end. How many bytes wait to be written.

@@ -20,7 +20,7 @@ use Rattle.book.specs.Book.{shared}
 use Rattle.book.specs.Deal.{dealNo}
 use Rattle.state.specs.State.{freshSide, whole, sendDue, takeDue, underWay}
 use Rattle.side.specs.Side.{handedNo, beginNo}
-use Rattle.lines.specs.declared.Order.{Order}
+use Rattle.syntax.specs.declared.Order.{Order}
 use Rattle.lines.specs.Plain.{secretOf, orderNo}
 use Rattle.lines.specs.Play.{ones, thrice, Lent}
 use Rattle.lines.proofs.Laws.{length-front}

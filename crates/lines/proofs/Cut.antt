@@ -7,7 +7,7 @@ use native.Mathlib.Decide.{decLt}
 use borrow.Author.Tests.{lt-ltb}
 use lib.ListN.{length, take, length-take}
 use lib.Seq.{take-all}
-use Rattle.lines.specs.Line.{lineOf}
+use Rattle.syntax.specs.Line.{lineOf}
 use Rattle.lines.specs.Plain.{lineAnswer}
 
 cut-order : (line : List ℕ) → lineOf (take 1025 line) ≡ lineOf line

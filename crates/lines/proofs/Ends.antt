@@ -23,7 +23,7 @@ use Rattle.state.specs.State.{freshSide, whole, sendDue, takeDue, underWay, fin
 use Rattle.runs.specs.Records.{Settings, answerOf, missing, Hand, Seat, World, outcome, step, worldAfter}
 use Rattle.runs.specs.Demands.{Fixed, Idle, ownHand, otherHand, Ended}
 use Rattle.runs.proofs.Theorem.{every-run-ends}
-use Rattle.lines.specs.declared.Order.{Order}
+use Rattle.syntax.specs.declared.Order.{Order}
 use Rattle.lines.specs.declared.Outcome.{Outcome}
 use Rattle.lines.specs.Plain.{settingsOf, secretOf, orderNo, outcomeOf}
 use Rattle.lines.specs.Play.{roundsAfter, ones, thrice, begunAt, zeroWork, toldBy, playedWith, Lent}

@@ -6,12 +6,12 @@ use mathlib.Core.List.{List, []}
 use borrow.Author.Tests.{le-leb, lt-leb}
 use lib.Dec.{leb}
 use lib.ListN.{length, take}
-use Rattle.lines.specs.declared.Order.{Order}
+use Rattle.syntax.specs.declared.Order.{Order}
 use Rattle.lines.specs.declared.Outcome.{Outcome}
-use Rattle.lines.specs.Line.{tooLarge, lineOf}
-use Rattle.lines.specs.Answer.{answerText, textOf}
+use Rattle.syntax.specs.Line.{tooLarge, lineOf}
+use Rattle.syntax.specs.Answer.{answerText, textOf}
 use Rattle.lines.specs.Plain.{outcomeOf, lineAnswer}
-use Rattle.lines.proofs.Rows.{length-row}
+use Rattle.syntax.proofs.Rows.{length-row}
 
 yes : (b : Bool) → not b ≡ false → b ≡ true
 yes true e = refl

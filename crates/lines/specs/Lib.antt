@@ -1,7 +1,3 @@
--- The form of an input line, what it gives by the plain meaning, and the text of an output line; words for the code's loops and the play.
-pub mod Rows
-pub mod Line
-pub mod Reading
-pub mod Answer
+-- What a line gives by the plain meaning; words for the play.
 pub mod Plain
 pub mod Play

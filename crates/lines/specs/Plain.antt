@@ -10,11 +10,11 @@ use Rattle.field.specs.Field.{q}
 use Rattle.rounding.specs.Questions.{askSettings}
 use Rattle.state.specs.State.{answerPlaces}
 use Rattle.runs.specs.Records.{Settings, answerOf}
-use Rattle.lines.specs.declared.Order.{Order}
+use Rattle.syntax.specs.declared.Order.{Order}
 use Rattle.lines.specs.declared.Outcome.{Outcome}
-use Rattle.lines.specs.declared.Text.{Text}
-use Rattle.lines.specs.Line.{tooLarge, lineOf}
-use Rattle.lines.specs.Answer.{answerText, textOf}
+use Rattle.syntax.specs.declared.Text.{Text}
+use Rattle.syntax.specs.Line.{tooLarge, lineOf}
+use Rattle.syntax.specs.Answer.{answerText, textOf}
 
 -- the settings of a line
 abbrev pub settingsOf : Order → Settings

@@ -13,7 +13,7 @@ use Rattle.state.specs.declared.Side.{Side}
 use Rattle.state.specs.State.{freshSide, answerCall}
 use Rattle.side.specs.Side.{After, beginCall, sendCall, takeCall}
 use Rattle.runs.specs.Records.{Seat, World}
-use Rattle.lines.specs.declared.Order.{Order}
+use Rattle.syntax.specs.declared.Order.{Order}
 use Rattle.lines.specs.declared.Outcome.{Outcome}
 use Rattle.lines.specs.declared.Player.{Player}
 use Rattle.lines.specs.declared.Table.{Table}

@@ -44,3 +44,8 @@ fill s i (suc n) f = set (fill s i n f) (i + n) (f n)
 -- "Longer outputs change only in front"
 abbrev pub inFront : List ℕ → List ℕ → List ℕ
 inFront xs out = xs ++ drop (length xs) out
+
+-- lists with a member put in front of the first; a first one is begun where there is none
+unfoldable pub toFirst : ℕ → List (List ℕ) → List (List ℕ)
+toFirst x [] = (x ∷ []) ∷ []
+toFirst x (l ∷ ls) = (x ∷ l) ∷ ls

@@ -15,7 +15,7 @@ use Rattle.rounding.specs.Questions.{askSettings}
 use Rattle.message.specs.Lengths.{openings, messageLength}
 use Rattle.message.specs.Message.{askForm}
 use Rattle.book.specs.Book.{widthOf}
-use Rattle.column.specs.Layout.{weights, workLength, begunWork}
+use Rattle.slice.specs.Layout.{weights, workLength, begunWork}
 use Rattle.column.specs.Work.{takenWork}
 use Rattle.state.specs.State.{sendDue, takeDue}
 use Rattle.side.specs.Side.{handedNo, beginNo, beginCall, begunSide, sendNo, sendCall, sentSide, message, takeNo, takeCall, takenSide, openedList, passes}

@@ -15,7 +15,7 @@ use Rattle.message.specs.Theorems.{RoundTrip}
 use Rattle.book.specs.Book.{widthOf, shared}
 use Rattle.book.specs.Deal.{multipliers}
 use Rattle.book.specs.Theorems.{Laws}
-use Rattle.column.specs.Layout.{column, maskedIn}
+use Rattle.slice.specs.Layout.{column, maskedIn}
 use Rattle.column.specs.Steps.{publicOf}
 use Rattle.column.specs.Work.{openingOn}
 use Rattle.column.specs.Run.{openedFrom, plainAfter, plainOpened}

@@ -20,7 +20,7 @@ use Rattle.message.specs.Message.{headerNumber, messageOf, headerIn, fieldIn, f
 use Rattle.message.specs.Fields.{HeaderFits}
 use Rattle.message.specs.Theorems.{Sized, RoundTrip}
 use Rattle.message.proofs.RoundTrip.{sized-q}
-use Rattle.column.specs.Layout.{places, column, maskedIn, weights}
+use Rattle.slice.specs.Layout.{places, column, maskedIn, weights}
 use Rattle.column.specs.Steps.{publicOf}
 use Rattle.column.specs.Work.{openingOn}
 use Rattle.column.specs.Theorems.{T1Work}

@@ -17,7 +17,7 @@ use Rattle.message.specs.Lengths.{openings}
 use Rattle.book.specs.Book.{widthOf, shared}
 use Rattle.book.specs.Deal.{multipliers}
 use Rattle.book.specs.Theorems.{Laws}
-use Rattle.column.specs.Layout.{places, column, ownIn, maskedIn, weights}
+use Rattle.slice.specs.Layout.{places, column, ownIn, maskedIn, weights}
 use Rattle.column.specs.Steps.{publicOf}
 use Rattle.column.specs.Work.{openingOn}
 use Rattle.column.specs.Run.{plainBook, plainStart, openedFrom, plainAfter, plainOpened}

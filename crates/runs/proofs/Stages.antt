@@ -12,7 +12,7 @@ use Rattle.lists.specs.Lists.{allTo, allBelow}
 use Rattle.field.specs.Field.{q}
 use Rattle.message.specs.Lengths.{openings, fieldCount, messageLength}
 use Rattle.message.specs.Message.{headerIn, headerNumber, fieldsOk, askForm}
-use Rattle.column.specs.Layout.{workLength}
+use Rattle.slice.specs.Layout.{workLength}
 use Rattle.state.specs.declared.Phase.the-variants.{Sending, Taking, Finished}
 use Rattle.state.specs.State.{sendDue, takeDue}
 use Rattle.side.specs.Side.{begunSide, sendNo, takeNo, passes}

@@ -21,7 +21,7 @@ use Rattle.rounding.specs.Sets.{Scale}
 use Rattle.book.specs.Book.{shared, value}
 use Rattle.book.specs.Deal.{multipliers, serverBook, phoneBook}
 use Rattle.book.specs.Theorems.{Books}
-use Rattle.column.specs.Layout.{places, column, maskedIn, begunPlace, begunWork}
+use Rattle.slice.specs.Layout.{places, column, maskedIn, begunPlace, begunWork}
 use Rattle.column.specs.Run.{plainBook, plainStart}
 use Rattle.column.specs.Theorems.{JoinedWork}
 use Rattle.runs.specs.Records.{missing}

@@ -13,7 +13,7 @@ use Rattle.field.specs.Field.{q}
 use Rattle.rounding.specs.Sets.{scaleOf}
 use Rattle.rounding.specs.Questions.{askSettings}
 use Rattle.book.specs.Book.{shared, widthOf}
-use Rattle.column.specs.Layout.{workLength}
+use Rattle.slice.specs.Layout.{workLength}
 use Rattle.state.specs.State.{underWay, sendDue, takeDue}
 use Rattle.side.specs.Side.{handedNo, beginNo}
 use Rattle.runs.specs.Records.{Settings, Hand, Seat, Call, outcome}

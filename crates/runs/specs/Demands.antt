@@ -15,7 +15,7 @@ use Rattle.rounding.specs.Plain.{decompose}
 use Rattle.message.specs.Lengths.{openingsUpTo, messageLength}
 use Rattle.book.specs.Book.{widthOf, drawLength}
 use Rattle.book.specs.Deal.{multipliers}
-use Rattle.column.specs.Layout.{workLength}
+use Rattle.slice.specs.Layout.{workLength}
 use Rattle.state.specs.State.{underWay, finished, heldAnswer, countCall}
 use Rattle.runs.specs.Records.{Settings, settingsOk, answerOf, missing, Hand, handOf, Seat, World, Who, Call, Move, Event, worldAfter, events}
 use Rattle.runs.specs.Records.Who.{mine, theirs}

@@ -11,7 +11,7 @@ use Rattle.rounding.specs.Sets.{scaleOf}
 use Rattle.message.specs.Lengths.{openings, fieldCount}
 use Rattle.message.specs.Message.{headerIn, headerNumber, fieldsOk}
 use Rattle.book.specs.Book.{widthOf, shared}
-use Rattle.column.specs.Layout.{workLength}
+use Rattle.slice.specs.Layout.{workLength}
 use Rattle.column.specs.Run.{plainOpened}
 use Rattle.side.specs.Side.{passes, openedList}
 use Rattle.runs.specs.Records.{Settings, Hand}

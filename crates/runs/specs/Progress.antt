@@ -8,7 +8,7 @@ use Rattle.lists.specs.Lists.{inFront}
 use Rattle.rounding.specs.Sets.{scaleOf}
 use Rattle.message.specs.Lengths.{messageLength}
 use Rattle.book.specs.Book.{widthOf}
-use Rattle.column.specs.Layout.{begunWork, weights}
+use Rattle.slice.specs.Layout.{begunWork, weights}
 use Rattle.column.specs.Work.{takenWork}
 use Rattle.state.specs.declared.Side.{Side}
 use Rattle.state.specs.declared.Phase.{Phase}

@@ -13,7 +13,7 @@ use Rattle.lists.specs.Lists.{fill}
 use Rattle.lists.proofs.Fill.{length-fill, fill-at, fill-before, fill-behind, front-at}
 use Rattle.rounding.specs.Sets.{Scale}
 use Rattle.book.specs.Book.{shared}
-use Rattle.column.specs.Layout.{places, inputAt, begunPlace, begunWork}
+use Rattle.slice.specs.Layout.{places, inputAt, begunPlace, begunWork}
 use Rattle.column.proofs.Begun.{begun-length, begun-at}
 use Rattle.side.specs.Work.{loaded}
 

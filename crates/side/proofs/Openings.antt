@@ -10,7 +10,7 @@ use Rattle.lists.proofs.Fill.{fill-same}
 use Rattle.rounding.specs.Sets.{scaleOf}
 use Rattle.message.specs.Lengths.{openings}
 use Rattle.column.specs.declared.Settings.{Settings}
-use Rattle.column.specs.Layout.{column, maskedIn, weights}
+use Rattle.slice.specs.Layout.{column, maskedIn, weights}
 use Rattle.column.specs.Steps.{Public}
 use Rattle.column.specs.Work.{openingOn}
 use Rattle.column.specs.Calls.{publicBy, Ready}

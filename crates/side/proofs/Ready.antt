@@ -14,7 +14,7 @@ use Rattle.rounding.specs.Sets.{scaleOf}
 use Rattle.rounding.specs.Questions.{askSettings, keysOk, SettingsReady}
 use Rattle.rounding.proofs.Ready.{settings-ready, settings-rest}
 use Rattle.book.specs.Book.{shared, widthOf}
-use Rattle.column.specs.Layout.{workLength}
+use Rattle.slice.specs.Layout.{workLength}
 use Rattle.state.specs.declared.Side.{Side}
 use Rattle.state.specs.State.{underWay}
 use Rattle.side.specs.Side.{handedNo, beginNo}

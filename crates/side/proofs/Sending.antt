@@ -23,7 +23,7 @@ use Rattle.message.specs.Message.{headerNumber, messageOf}
 use Rattle.message.specs.Fields.{headerWith, HeaderFits}
 use Rattle.message.specs.declared.Header.{Header}
 use Rattle.message.proofs.Form.{settings-fit}
-use Rattle.column.specs.Layout.{workLength, column, ownIn, maskedIn, weights}
+use Rattle.slice.specs.Layout.{workLength, column, ownIn, maskedIn, weights}
 use Rattle.column.specs.Steps.{publicOf, opening}
 use Rattle.state.specs.declared.Side.{Side}
 use Rattle.state.specs.State.{sendDue, Whole}

@@ -21,7 +21,7 @@ use Rattle.message.specs.Message.{headerNumber, headerIn, fieldsOk, askForm}
 use Rattle.message.specs.Fields.{HeaderFits}
 use Rattle.message.proofs.Form.{settings-fit}
 use Rattle.column.specs.declared.Settings.{Settings}
-use Rattle.column.specs.Layout.{column, maskedIn, weights, workLength}
+use Rattle.slice.specs.Layout.{column, maskedIn, weights, workLength}
 use Rattle.column.specs.Steps.{publicOf}
 use Rattle.column.specs.Work.{takenWork}
 use Rattle.column.specs.Calls.{HeldAll}

@@ -13,7 +13,7 @@ use Rattle.rounding.specs.Questions.{askSettings, keysOk}
 use Rattle.message.specs.Lengths.{openings, fieldCount, messageLength}
 use Rattle.message.specs.Message.{headerNumber, messageOf, fieldIn, askForm}
 use Rattle.book.specs.Book.{shared, widthOf}
-use Rattle.column.specs.Layout.{workLength, column, ownIn, maskedIn, begunWork, weights}
+use Rattle.slice.specs.Layout.{workLength, column, ownIn, maskedIn, begunWork, weights}
 use Rattle.column.specs.Steps.{publicOf}
 use Rattle.column.specs.Work.{openingOn, takenWork}
 use Rattle.state.specs.declared.Side.{Side}

@@ -9,7 +9,7 @@ use Rattle.lists.specs.Lists.{fill, listTo, allBelow}
 use Rattle.field.specs.Field.{q, add, mul}
 use Rattle.message.specs.Lengths.{openings}
 use Rattle.message.specs.Message.{askForm}
-use Rattle.column.specs.Layout.{places, inputAt, workLength}
+use Rattle.slice.specs.Layout.{places, inputAt, workLength}
 use Rattle.column.specs.declared.Settings.{Settings}
 use Rattle.state.specs.declared.Side.{Side}
 use Rattle.state.specs.State.{takeDue}

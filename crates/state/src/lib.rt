@@ -5,7 +5,7 @@ ghost use lib.ListN.{length, getD};
 ghost use Rattle.lists.specs.Lists.{fill};
 ghost use Rattle.rounding.specs.Questions.{keysOk};
 ghost use Rattle.message.specs.Lengths.{openingsUpTo};
-ghost use Rattle.state.specs.State.{answerPlaces, isSending, isTaking, isFinished, whole, sendDue, takeDue, underWay, finished, freshSide, moved, inPhase, answerNo, afterAnswer, answerCall, roundsTaken, countCall};
+ghost use Rattle.state.specs.State.{answerPlaces, isSending, isTaking, isFinished, whole, sendDue, takeDue, underWay, finished, freshSide, moved, inPhase, answerNo, answerCall, roundsTaken, countCall};
 use message::openings_in;
 use rounding::key_ok;
 use rounding::settings_no;

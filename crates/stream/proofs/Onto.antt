@@ -6,30 +6,31 @@ use mathlib.Core.List.{List, [], _∷_, _++_}
 use native.Mathlib.Omega.{arith}
 use lib.Dec.{eqb}
 use lib.ListN.{length, take, drop}
-use Rattle.stream.specs.Input.{ahead, linesOf}
+use Rattle.lists.specs.Lists.{toFirst}
+use Rattle.stream.specs.Input.{linesOf}
 use Rattle.stream.specs.Stream.{lineLength}
 
 -- the lines with these bytes put in front of the first
 unfoldable pub onto : List ℕ → List (List ℕ) → List (List ℕ)
 onto [] ls = ls
-onto (b ∷ bs) ls = ahead b (onto bs ls)
+onto (b ∷ bs) ls = toFirst b (onto bs ls)
 
 pub onto-append : (xs ys : List ℕ) (ls : List (List ℕ)) → onto (xs ++ ys) ls ≡ onto xs (onto ys ls)
 unfolding onto
 onto-append [] ys ls = refl
-onto-append (x ∷ xs) ys ls = ap (ahead x) (onto-append xs ys ls)
+onto-append (x ∷ xs) ys ls = ap (toFirst x) (onto-append xs ys ls)
 
 -- in front of a line
 pub onto-line : (xs l : List ℕ) (ls : List (List ℕ)) → onto xs (l ∷ ls) ≡ (xs ++ l) ∷ ls
-unfolding onto ahead
+unfolding onto toFirst
 onto-line [] l ls = refl
-onto-line (x ∷ xs) l ls = ap (ahead x) (onto-line xs l ls)
+onto-line (x ∷ xs) l ls = ap (toFirst x) (onto-line xs l ls)
 
 -- in front of none: a line of their own, if there are any
 pub onto-none : (x : ℕ) (xs : List ℕ) → onto (x ∷ xs) [] ≡ (x ∷ xs) ∷ []
-unfolding onto ahead
+unfolding onto toFirst
 onto-none x [] = refl
-onto-none x (y ∷ xs) = ap (ahead x) (onto-none y xs)
+onto-none x (y ∷ xs) = ap (toFirst x) (onto-none y xs)
 
 pub length-line : (bs : List ℕ) → lineLength bs ≤ length bs
 unfolding lineLength
@@ -50,7 +51,7 @@ lines-ended (b ∷ bs) rest h = go (eqb b 10) refl h (lines-ended bs rest)
         → (lineLength bs < length bs → linesOf (bs ++ rest) ≡ onto (take (lineLength bs) bs) ([] ∷ linesOf (drop (suc (lineLength bs)) bs ++ rest)))
         → linesOf (b ∷ (bs ++ rest)) ≡ onto (take (lineLength (b ∷ bs)) (b ∷ bs)) ([] ∷ linesOf (drop (suc (lineLength (b ∷ bs))) (b ∷ bs) ++ rest))
     go true e l ih = rw e refl
-    go false e l ih = rw e (ap (ahead b) (ih (omega arith)))
+    go false e l ih = rw e (ap (toFirst b) (ih (omega arith)))
 
 -- bytes without one are the start of a line
 pub lines-open : (bs rest : List ℕ) → length bs ≤ lineLength bs → linesOf (bs ++ rest) ≡ onto bs (linesOf rest)
@@ -61,4 +62,4 @@ lines-open (b ∷ bs) rest h = go (eqb b 10) refl h (lines-open bs rest)
     go : (t : Bool) → eqb b 10 ≡ t → suc (length bs) ≤ cond t 0 (suc (lineLength bs))
         → (length bs ≤ lineLength bs → linesOf (bs ++ rest) ≡ onto bs (linesOf rest)) → linesOf (b ∷ (bs ++ rest)) ≡ onto (b ∷ bs) (linesOf rest)
     go true e l ih = absurd (omega arith)
-    go false e l ih = rw e (ap (ahead b) (ih (omega arith)))
+    go false e l ih = rw e (ap (toFirst b) (ih (omega arith)))

@@ -3,16 +3,12 @@ use Prim.Native.Nat.{ℕ, suc}
 use mathlib.Core.Bool.{cond}
 use mathlib.Core.List.{List, [], _∷_, _++_}
 use lib.Dec.{eqb}
-
--- the lines with a byte put in front of the first
-unfoldable pub ahead : ℕ → List (List ℕ) → List (List ℕ)
-ahead b [] = (b ∷ []) ∷ []
-ahead b (l ∷ ls) = (b ∷ l) ∷ ls
+use Rattle.lists.specs.Lists.{toFirst}
 
 -- "its line end (byte 10, which the last line may lack)": the lines of an input, without their line ends
 unfoldable pub linesOf : List ℕ → List (List ℕ)
 linesOf [] = []
-linesOf (b ∷ bs) = cond (eqb b 10) ([] ∷ linesOf bs) (ahead b (linesOf bs))
+linesOf (b ∷ bs) = cond (eqb b 10) ([] ∷ linesOf bs) (toFirst b (linesOf bs))
 
 -- what is written for each line, given its number and its bytes; k is the number of the first
 unfoldable pub answersFrom : (ℕ → List ℕ → List ℕ) → ℕ → List (List ℕ) → List ℕ

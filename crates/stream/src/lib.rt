@@ -71,7 +71,8 @@ fn at_line(stream: Stream) -> Stream
     stream
 }
 
-fn least(a: usize, b: usize) -> usize
+// The smaller of the two.
+pub fn least(a: usize, b: usize) -> usize
     ensures { λ r. ⌜ r ≡ min a b ⌝ }
 {
     if a < b {

@@ -4,6 +4,7 @@ use mathlib.Core.List.{List, [], _∷_}
 use mathlib.Core.Bool.{Bool, true, false, cond}
 use lib.Dec.{eqb, leb, ltb}
 use lib.ListN.{length, set}
+use Rattle.syntax.specs.Line.{digitByte}
 use Rattle.text.specs.declared.Reading.{Reading}
 
 -- the numbers an input may have, the digits a number may have, and the first value that is too large
@@ -23,10 +24,6 @@ startReading = record { good = true; digits = 0; value = 0; count = 0 }
 -- after a byte that makes the input malformed
 abbrev pub spoiled : Reading
 spoiled = record { good = false; digits = 0; value = 0; count = 0 }
-
--- `0` to `9`
-unfoldable pub digitByte : ℕ → Bool
-digitByte b = cond (ltb b 48) false (leb b 57)
 
 -- blank or line end
 unfoldable pub blankByte : ℕ → Bool

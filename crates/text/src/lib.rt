@@ -2,11 +2,12 @@
 // hexadecimal put into it. A function that puts takes the place of the next byte and gives back the place behind what it put; what
 // finds no room is left out.
 ghost use mathlib.Core.Path.{_≡_};
-ghost use Rattle.text.specs.Numbers.{startReading, spoiled, digitByte, blankByte, withDigit, ended, step, steps, stored, kept, keptOver};
+ghost use Rattle.text.specs.Numbers.{startReading, spoiled, blankByte, withDigit, ended, step, steps, stored, kept, keptOver};
 ghost use Prim.Native.Nat.{_≤_, _<_, min};
 ghost use Rattle.text.specs.Text.{Text, put, puts, hexDigit, putHex, putsHex, Decimal};
 
 // ---- Reading
+use syntax::is_digit;
 
 // The most numbers of an input.
 pub const MOST: usize = 8192;
@@ -45,15 +46,6 @@ fn spoil() -> Reading
         value: 0,
         count: 0,
     }
-}
-
-pub fn is_digit(byte: u8) -> bool
-    ensures { λ r. ⌜ r ≡ digitByte byte ⌝ }
-{
-    if byte < b'0' {
-        return false;
-    }
-    byte <= b'9'
 }
 
 fn is_blank(byte: u8) -> bool

@@ -1,7 +1,7 @@
 -- `column::insides_value` meets its contract.
 use native.Mathlib.Numerals.{add-one}
 use Rattle.column.specs.Calls.{publicBy}
-use Rattle.column.specs.Layout.{column}
+use Rattle.slice.specs.Layout.{column}
 use Rattle.field.specs.Field.{q, add, mul}
 use Rattle.field.specs.Forms.{value}
 use Rattle.column.specs.Steps.{insides}

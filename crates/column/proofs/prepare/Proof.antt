@@ -1,7 +1,7 @@
 -- `column::prepare` meets its contract.
 use Rattle.column.proofs.Written.{fill-count}
 use Rattle.column.specs.Calls.{publicBy}
-use Rattle.column.specs.Layout.{column}
+use Rattle.slice.specs.Layout.{column}
 use Rattle.column.specs.Work.{openingOn}
 use Rattle.lists.specs.Lists.{fill}
 use Rattle.lists.proofs.Fill.{fill-none, front-more}

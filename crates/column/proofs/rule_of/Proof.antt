@@ -1,6 +1,6 @@
 -- `column::rule_of` meets its contract.
 use Rattle.lists.proofs.Questions.{tests}
-use Rattle.column.specs.Weights.{ruleOf}
+use Rattle.slice.specs.Weights.{ruleOf}
 use Rattle.column.proofs.rule_of.Statement.{statement}
 use Rattle.column.proofs.rule_of.Tie as tie
 

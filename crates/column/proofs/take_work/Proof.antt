@@ -4,7 +4,7 @@ use Prim.Native.Nat.{ℕ}
 use Rattle.rounding.specs.Sets.{scaleOf}
 use native.Mathlib.Omega.{arith}
 use Rattle.column.proofs.Bounds.{open-first}
-use Rattle.column.specs.Layout.{column, maskedIn}
+use Rattle.slice.specs.Layout.{column, maskedIn}
 use Rattle.column.proofs.Written.{held-first, held-same, work-first, work-later}
 use borrow.Author.Needs.{needs}
 use Rattle.column.proofs.take_work.Statement.{statement}

@@ -6,7 +6,7 @@ use native.Mathlib.Omega.{arith}
 use lib.ListN.{length, length-set}
 use Rattle.lists.specs.Lists.{fill}
 use Rattle.lists.proofs.Fill.{fill-none, front-more}
-use Rattle.column.specs.Layout.{ownIn}
+use Rattle.slice.specs.Layout.{ownIn}
 use Rattle.side.proofs.Sending.{own-is}
 use Rattle.side.proofs.own_column.Statement.{statement}
 use Rattle.side.proofs.own_column.Tie as tie

@@ -1,0 +1,52 @@
+-- `slice::top_sum` meets its contract.
+use Prim.Native.Nat.{ℕ, _≤_, _-_, _+_, _*_, _%_}
+use mathlib.Core.Path.{_≡_, refl, ap}
+use native.Mathlib.Numerals.{add-one}
+use native.Mathlib.Omega.{arith}
+use Rattle.field.specs.Field.{q}
+use Rattle.field.specs.Sums.{sumTo}
+use Rattle.rounding.specs.Rounds.{top}
+use Rattle.slice.specs.Layout.{column}
+use Rattle.slice.proofs.top_sum.Statement.{statement}
+use Rattle.slice.proofs.top_sum.Tie as tie
+
+abbrev Inv-loop : tie.InvT-loop
+Inv-loop work col place n s d total₀ j₀ total j =
+    (j ≤ n) × (total ≡ sumTo j (λ (i : ℕ). top s (i + d) * column work col (place + i))) × (total ≤ j * 562949953421312)
+
+abbrev μ-loop : tie.MeasureT-loop
+μ-loop work col place n s d total₀ j₀ total j = n - j
+
+loop-holds : tie.Need-loop-holds Inv-loop μ-loop
+unfolding sumTo
+loop-holds c = (omega arith, refl, omega arith)
+
+loop-again : tie.Need-loop-again Inv-loop μ-loop
+unfolding sumTo
+loop-again c =
+    (omega arith, rw (add-one, ← c .before .before .top-of .ensures .0, ← c .before .register .ensures, ← c .times .ensures .0, ← c .before .before .before .before .loop .inv .1), omega arith)
+
+returns : tie.Need-returns Inv-loop μ-loop
+returns c =
+    let e : c .before .loop .j ≡ c .before .before .before .args .n = omega arith in
+    rw (← e) (ap (λ (x : ℕ). x % q) (c .before .loop .inv .1))
+
+pub top-sum-spec : {M : Type 1} → statement M
+top-sum-spec =
+    tie.close
+    (tie.spec
+    Inv-loop
+    μ-loop
+    loop-holds
+    (λ c. omega arith)
+    (λ c. omega arith)
+    (λ c κs. tt)
+    (λ c. omega arith)
+    (λ c κs. omega arith)
+    (λ c κs. omega arith)
+    (λ c. omega arith)
+    (λ c. omega arith)
+    (λ c. omega arith)
+    loop-again
+    (λ c. omega arith)
+    returns)

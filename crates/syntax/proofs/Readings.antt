@@ -1,0 +1,103 @@
+-- Words taken one by one give the order of all of them.
+use Prim.Native.Nat.{ℕ, suc, _+_, _-_, _≤_, _<_}
+use mathlib.Core.Path.{_≡_, refl, sym, ap, _∙_}
+use mathlib.Core.Bool.{Bool, true, false, _&&_}
+use mathlib.Core.List.{List, [], _∷_, _++_, append-nil, append-assoc}
+use native.Mathlib.Numerals.{add-one}
+use native.Mathlib.Omega.{arith}
+use lib.ListN.{length, getD, take, drop, length-append, length-drop}
+use lib.Seq.{getD-drop, take-all}
+use Rattle.lists.specs.Lists.{every, listFrom}
+use Rattle.syntax.specs.Rows.{row}
+use Rattle.syntax.specs.Line.{fieldAt, fieldsFrom, allGood, valuesOf, orderOf, ordered}
+use Rattle.syntax.specs.Reading.{startReading, withWord, withWords, finish}
+use Rattle.syntax.specs.declared.Order.{Order}
+use Rattle.syntax.specs.declared.Reading.{Reading}
+use Rattle.syntax.specs.declared.Field.{Field}
+use Rattle.lists.proofs.Questions.{and-true}
+use Rattle.syntax.specs.Reading.{wordLength}
+use Rattle.syntax.proofs.Rows.{set-row, getD-row, row-cong}
+use Rattle.syntax.proofs.Words.{rest, rest-more, rest-end}
+
+abbrev reading : Bool → ℕ → List ℕ → Reading
+reading g n vs = record { good = g; count = n; values = vs }
+
+same-reading : {g h : Bool} {n m : ℕ} {vs us : List ℕ} → g ≡ h → n ≡ m → vs ≡ us → reading g n vs ≡ reading h m us
+same-reading p q r = rw (p, q, r) refl
+
+and-assoc : (a b c : Bool) → ((a && b) && c) ≡ (a && (b && c))
+and-assoc true b c = refl
+and-assoc false b c = refl
+
+-- words behind values that are known: the values of all, as far as they are kept
+words-on : (g : Bool) (vs : List ℕ) (ws : List (List ℕ))
+    → withWords (reading g (length vs) (row 11 vs)) ws
+    ≡ reading (g && allGood (fieldsFrom (length vs) ws)) (length vs + length ws) (row 11 (vs ++ valuesOf (fieldsFrom (length vs) ws)))
+unfolding withWords withWord fieldsFrom allGood valuesOf every
+words-on g vs [] = same-reading (sym (and-true g)) (omega arith) (ap (row 11) (sym (append-nil vs)))
+words-on g vs (w ∷ ws) =
+    let f : Field = fieldAt (length vs) w in
+    let us : List ℕ = vs ++ f .value ∷ [] in
+    let e : length us ≡ suc (length vs) = length-append vs (f .value ∷ []) ∙ add-one _ in
+    let s : withWord (reading g (length vs) (row 11 vs)) w ≡ reading (g && f .good) (length us) (row 11 us) =
+    same-reading refl (sym (length-append vs (f .value ∷ []))) (set-row 11 vs (f .value)) in
+    ap (λ r. withWords r ws) s
+    ∙ words-on (g && f .good) us ws
+    ∙ same-reading
+    (and-assoc g (f .good) _ ∙ ap (λ (k : ℕ). g && (f .good && allGood (fieldsFrom k ws))) e)
+    (omega (arith, e))
+    (ap (row 11) (append-assoc vs (f .value ∷ []) _ ∙ ap (λ (k : ℕ). vs ++ f .value ∷ valuesOf (fieldsFrom k ws)) e))
+
+-- an order from the eleven values
+pub order-is : (n : ℕ) (v : List ℕ)
+    → _≡_ {A = Order}
+    (record {
+      good = true;
+      kind = getD v 0 0;
+      set = getD v 1 0;
+      bound = getD v 2 0;
+      count = n - 3;
+      numbers = getD v 3 0 ∷ getD v 4 0 ∷ getD v 5 0 ∷ getD v 6 0 ∷ getD v 7 0 ∷ getD v 8 0 ∷ getD v 9 0 ∷ getD v 10 0 ∷ [];
+    })
+    (ordered n v)
+unfolding ordered row listFrom
+order-is n v = rw (getD-drop 3 v 0 0, getD-drop 3 v 1 0, getD-drop 3 v 2 0, getD-drop 3 v 3 0, getD-drop 3 v 4 0, getD-drop 3 v 5 0, getD-drop 3 v 6 0, getD-drop 3 v 7 0) refl
+
+-- an order keeps no more than eleven values
+kept : (vs : List ℕ) → row 8 (drop 3 (row 11 vs)) ≡ row 8 (drop 3 vs)
+kept vs = row-cong 8 (drop 3 (row 11 vs)) (drop 3 vs) (λ x h. getD-drop 3 (row 11 vs) x 0 ∙ getD-row 11 vs (3 + x) (omega (arith, h)) ∙ sym (getD-drop 3 vs x 0))
+
+ordered-row : (n : ℕ) (vs : List ℕ) → ordered n (row 11 vs) ≡ ordered n vs
+unfolding ordered
+ordered-row n vs =
+    rw (getD-row 11 vs 0 (omega arith), getD-row 11 vs 1 (omega arith), getD-row 11 vs 2 (omega arith), kept vs) refl
+
+start-row : startReading ≡ reading true 0 (row 11 [])
+unfolding row listFrom
+start-row = refl
+
+pub read-all : (ws : List (List ℕ)) → finish (withWords startReading ws) ≡ orderOf ws
+unfolding finish orderOf
+read-all ws =
+    let s : withWords startReading ws ≡ reading (allGood (fieldsFrom 0 ws)) (length ws) (row 11 (valuesOf (fieldsFrom 0 ws))) =
+    ap (λ r. withWords r ws) start-row ∙ words-on true [] ws ∙ same-reading refl (omega arith) refl in
+    rw (s, ordered-row) refl
+
+-- ---- the loop over words
+
+pub words-more : (s r t : Reading) (line : List ℕ) (i n : ℕ) → i ≤ length line → n ≡ wordLength (take (length line - i) (drop i line)) → withWords s (rest line i) ≡ t
+    → r ≡ withWord s (take (i + n - i) (drop i line)) → withWords r (rest line (i + n + 1)) ≡ t
+unfolding withWords
+words-more s r t line i n h l e p =
+    let k : i + n + 1 ≡ i + suc n = omega arith in
+    let m : i + n - i ≡ n = omega arith in
+    let f : n ≡ wordLength (drop i line) = l ∙ ap wordLength (take-all (length line - i) (drop i line) (omega (arith, length-drop i line))) in
+    rw (p, k, m) (rw (rest-more line i n h f) at e)
+
+pub words-done : (s t : Reading) (line : List ℕ) (i : ℕ) → length line < i → withWords s (rest line i) ≡ t → s ≡ t
+unfolding withWords
+words-done s t line i h e = rw (rest-end line i h) at e
+
+pub counted : (s r : Reading) (w : List ℕ) → r ≡ withWord s w → r .count ≡ s .count + 1
+unfolding withWord
+counted s r w e = ap (λ (k : Reading). k .count) e

@@ -1,0 +1,27 @@
+-- `syntax::order_of` meets its contract. Assumes nothing.
+use Rattle.syntax.proofs.Readings.{order-is}
+use borrow.Author.Needs.{needs}
+use Rattle.syntax.proofs.order_of.Statement.{statement}
+use Rattle.syntax.proofs.order_of.Tie as tie
+
+returns : tie.Need-returns
+returns c = order-is (c .args .count) (c .args .t2)
+
+pub order-of-spec : {M : Type 1} → statement M
+order-of-spec =
+    tie.close
+    (tie.spec
+    (λ c. search needs)
+    (λ c. search needs)
+    (λ c. search needs)
+    (λ c. search needs)
+    (λ c. search needs)
+    (λ c. search needs)
+    (λ c. search needs)
+    (λ c. search needs)
+    (λ c. search needs)
+    (λ c. search needs)
+    (λ c. search needs)
+    (λ c. search needs)
+    (λ c. search needs)
+    returns)

@@ -1,0 +1,17 @@
+-- `syntax::put_byte` meets its contract. Assumes nothing.
+use Rattle.lists.proofs.Choices.{choices}
+use Rattle.syntax.specs.Answer.{put}
+use borrow.Author.Needs.{needs}
+use Rattle.syntax.proofs.put_byte.Statement.{statement}
+use Rattle.syntax.proofs.put_byte.Tie as tie
+
+returns : tie.Need-returns
+unfolding put
+returns c = search choices
+
+returns-2 : tie.Need-returns-2
+unfolding put
+returns-2 c = search choices
+
+pub put-byte-spec : {M : Type 1} → statement M
+put-byte-spec = tie.close (tie.spec (λ c. search needs) (λ c. search needs) returns returns-2)

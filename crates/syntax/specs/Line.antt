@@ -1,0 +1,95 @@
+-- What an input line asks for: its words, and what each must be.
+use Prim.Native.Nat.{ℕ, suc, _+_, _*_, _-_}
+use mathlib.Core.Bool.{Bool, true, false, cond}
+use mathlib.Core.List.{List, [], _∷_, map}
+use lib.Dec.{eqb, leb, ltb}
+use lib.ListN.{length, getD, drop, replicate}
+use Rattle.lists.specs.Lists.{every, toFirst}
+use Rattle.syntax.specs.Rows.{row}
+use Rattle.syntax.specs.declared.Field.{Field}
+use Rattle.syntax.specs.declared.Order.{Order}
+
+-- "one blank between": a line's words, split at each blank (byte 32). A blank at an end, or next to another, leaves an empty word
+unfoldable pub words : List ℕ → List (List ℕ)
+words [] = [] ∷ []
+words (b ∷ bs) = cond (eqb b 32) ([] ∷ words bs) (toFirst b (words bs))
+
+-- a word that has its form, with the number that it stands for, and one that has not
+abbrev pub fit : ℕ → Field
+fit v = record { good = true; value = v }
+
+abbrev pub unfit : Field
+unfit = record { good = false; value = 0 }
+
+-- `0` to `9`
+unfoldable pub digitByte : ℕ → Bool
+digitByte b = cond (ltb b 48) false (leb b 57)
+
+-- the number whose digits are those of v and then these
+unfoldable pub valueFrom : ℕ → List ℕ → ℕ
+valueFrom v [] = v
+valueFrom v (b ∷ bs) = valueFrom (v * 10 + (b - 48)) bs
+
+abbrev pub valueOf : List ℕ → ℕ
+valueOf w = valueFrom 0 w
+
+-- the first number that is too large: 2^32
+abbrev pub tooLarge : ℕ
+tooLarge = 4294967296
+
+-- "Numbers are unsigned decimals of 1 to 10 digits, at most 2^32 − 1"
+unfoldable pub numberIn : List ℕ → Field
+numberIn w =
+    cond (eqb (length w) 0) unfit
+    (cond (ltb 10 (length w)) unfit
+    (cond (every digitByte w)
+    (cond (leb tooLarge (valueOf w)) unfit (fit (valueOf w)))
+    unfit))
+
+-- is the word this one byte?
+unfoldable pub isByte : ℕ → List ℕ → Bool
+isByte b w = cond (eqb (length w) 1) (eqb (getD w 0 0) b) false
+
+-- "H or B": 0 for HIGH, 1 for BOUND
+unfoldable pub kindIn : List ℕ → Field
+kindIn w = cond (isByte 72 w) (fit 0) (cond (isByte 66 w) (fit 1) unfit)
+
+-- "set or `-` (meaning 0)"
+unfoldable pub setIn : List ℕ → Field
+setIn w = cond (isByte 45 w) (fit 0) (numberIn w)
+
+-- "H or B, set or `-` (meaning 0), B, then coefficients": the word at place k
+unfoldable pub fieldAt : ℕ → List ℕ → Field
+fieldAt k w = cond (eqb k 0) (kindIn w) (cond (eqb k 1) (setIn w) (numberIn w))
+
+-- the words from place k on
+unfoldable pub fieldsFrom : ℕ → List (List ℕ) → List Field
+fieldsFrom k [] = []
+fieldsFrom k (w ∷ ws) = fieldAt k w ∷ fieldsFrom (suc k) ws
+
+-- have all words their form?
+unfoldable pub allGood : List Field → Bool
+allGood fs = every (λ (f : Field). f .good) fs
+
+-- their numbers
+unfoldable pub valuesOf : List Field → List ℕ
+valuesOf fs = map (λ (f : Field). f .value) fs
+
+-- the order of a malformed line
+abbrev pub malformed : Order
+malformed = record { good = false; kind = 0; set = 0; bound = 0; count = 0; numbers = replicate 8 0 }
+
+-- n words with these values: kind, set, B, and the coefficients, of which the first 8 are kept
+unfoldable pub ordered : ℕ → List ℕ → Order
+ordered n vs =
+    record { good = true; kind = getD vs 0 0; set = getD vs 1 0; bound = getD vs 2 0; count = n - 3; numbers = row 8 (drop 3 vs) }
+
+-- three words at least, and all of their form
+unfoldable pub orderOf : List (List ℕ) → Order
+orderOf ws =
+    cond (ltb (length ws) 3) malformed
+    (cond (allGood (fieldsFrom 0 ws)) (ordered (length ws) (valuesOf (fieldsFrom 0 ws))) malformed)
+
+-- "any other form, or a line above 1,024 bytes without its line end .., is malformed"
+unfoldable pub lineOf : List ℕ → Order
+lineOf line = cond (ltb 1024 (length line)) malformed (orderOf (words line))
