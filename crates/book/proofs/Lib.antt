@@ -4,7 +4,5 @@ pub mod Draws
 pub mod Sizes
 pub mod Books
 pub mod Starts
-pub mod Work
 pub mod Door
-pub mod Steps
 pub mod Laws

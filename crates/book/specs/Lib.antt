@@ -1,5 +1,4 @@
 -- Books, draws and the deal.
 pub mod Book
 pub mod Deal
-pub mod Work
 pub mod Theorems

@@ -21,7 +21,7 @@ use Rattle.rounding.proofs.ZeroCheck.{index-below}
 use Rattle.book.specs.Book.{groupK, groupGap, groupAt}
 use Rattle.book.specs.Theorems.{groups}
 use Rattle.slice.specs.Layout.{runningAt}
-use Rattle.column.specs.Steps.{Public, publicOf, insideForm, insides, checked, openCheck, checkEntry}
+use Rattle.steps.specs.Steps.{Public, publicOf, insideForm, insides, checked, openCheck, checkEntry}
 use Rattle.column.specs.Clear.{clearRunning, clearChecked}
 use Rattle.column.proofs.Clear.{five-below, high-second}
 use Rattle.column.proofs.Gates.{Held}

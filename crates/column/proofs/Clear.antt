@@ -20,7 +20,7 @@ use Rattle.rounding.proofs.Radix.{carry-le, carry-none, carry-next, zero-is, di
 use Rattle.rounding.proofs.BoundResult.{compare-is}
 use Rattle.slice.specs.Weights.{weigh, ruleOf}
 use Rattle.slice.specs.declared.Rule.the-variants.{Carry, Zero, Top, Over, Below}
-use Rattle.column.specs.Steps.{lookedAt, limitOf}
+use Rattle.steps.specs.Steps.{lookedAt, limitOf}
 use Rattle.column.specs.Clear.{clearRunning, clearFactor}
 
 -- ---- sizes

@@ -14,8 +14,8 @@ use Rattle.field.specs.Forms.{Registers, put}
 use Rattle.rounding.specs.Sets.{Scale}
 use Rattle.message.specs.Lengths.{openings}
 use Rattle.slice.specs.Layout.{places, runningAt, ownAt, column, ownIn}
-use Rattle.column.specs.Steps.{Public, publicOf}
-use Rattle.column.specs.Work.{openingOn, runningOn, takenColumn}
+use Rattle.steps.specs.Steps.{Public, publicOf}
+use Rattle.steps.specs.Work.{openingOn, runningOn, takenColumn}
 
 -- what a round makes of a column's registers
 abbrev pub stepped : Public → ℕ → (ℕ → ℕ) → ℕ → Registers → Registers

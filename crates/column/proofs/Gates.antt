@@ -24,7 +24,7 @@ use Rattle.book.proofs.Places.{places}
 use Rattle.book.proofs.Books.{values}
 use Rattle.slice.specs.Layout.{inputAt, runningAt}
 use Rattle.slice.specs.Weights.{weigh, ruleOf}
-use Rattle.column.specs.Steps.{Public, publicOf, lookedAt, limitOf, vectorSum, addend, factorU, factorV, shiftOf, openInput, openFactor, gateResult}
+use Rattle.steps.specs.Steps.{Public, publicOf, lookedAt, limitOf, vectorSum, addend, factorU, factorV, shiftOf, openInput, openFactor, gateResult}
 use Rattle.column.specs.Clear.{clearRunning, clearFactor}
 use Rattle.column.proofs.Clear.{looked-below, weight-below, plainWeight, clearAddend, gate-clear}
 

@@ -15,8 +15,8 @@ use Rattle.rounding.specs.Sets.{Scale}
 use Rattle.message.specs.Lengths.{openings}
 use Rattle.book.specs.Deal.{multipliers}
 use Rattle.slice.specs.Layout.{places, column, maskedIn, weights}
-use Rattle.column.specs.Steps.{Public, publicOf, opening, running}
-use Rattle.column.specs.Work.{openingOn, takenColumn, takenColumns, takenWork}
+use Rattle.steps.specs.Steps.{Public, publicOf, opening, running}
+use Rattle.steps.specs.Work.{openingOn, takenColumn, takenColumns, takenWork}
 use Rattle.column.specs.Theorems.{T1, JoinedWork, T1Work}
 use Rattle.column.proofs.Columns.{stepped, taking, maskedAfter}
 use Rattle.column.proofs.Slices.{length-work, column-work, own-work, masked-work}

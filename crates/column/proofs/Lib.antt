@@ -1,5 +1,4 @@
--- Laws of the rounds: the code's bounds and writes, the slice at the start, joined columns (T1), the plain run (T2).
-pub mod Bounds
+-- Laws of the rounds: the code's writes, the slice at the start, joined columns (T1), the plain run (T2).
 pub mod Written
 pub mod Begun
 pub mod Columns

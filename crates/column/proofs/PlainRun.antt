@@ -28,7 +28,7 @@ use Rattle.message.specs.Lengths.{openings}
 use Rattle.book.specs.Book.{groupK, widthOf, groupAt}
 use Rattle.book.specs.Theorems.{groups}
 use Rattle.slice.specs.Layout.{runningAt}
-use Rattle.column.specs.Steps.{Public, publicOf, shiftOf, opening, checked, openCheck, checkEntry, groupOf, afterCheck, running}
+use Rattle.steps.specs.Steps.{Public, publicOf, shiftOf, opening, checked, openCheck, checkEntry, groupOf, afterCheck, running}
 use Rattle.column.specs.Run.{openedFrom, plainOpened}
 use Rattle.column.specs.Clear.{clearRunning, clearChecked, clearOpened, maskOf}
 use Rattle.column.specs.Theorems.{Sound, T2}

@@ -14,8 +14,8 @@ use Rattle.rounding.specs.Sets.{Scale}
 use Rattle.message.specs.Lengths.{openings}
 use Rattle.book.specs.Book.{widthOf, maskAt, tripleAt, drawn}
 use Rattle.slice.specs.Layout.{runningAt}
-use Rattle.column.specs.Steps.{Public, publicOf, shiftOf, opening, openFactor, running}
-use Rattle.column.specs.Work.{openingOn}
+use Rattle.steps.specs.Steps.{Public, publicOf, shiftOf, opening, openFactor, running}
+use Rattle.steps.specs.Work.{openingOn}
 use Rattle.column.specs.Clear.{clearRunning, clearFactor, maskOf, maskedOf}
 use Rattle.column.specs.Theorems.{Sound}
 use Rattle.column.proofs.Clear.{first-clear}

@@ -15,8 +15,8 @@ use Rattle.field.specs.Forms.{Registers, value}
 use Rattle.rounding.specs.Sets.{Scale}
 use Rattle.message.specs.Lengths.{openings}
 use Rattle.slice.specs.Layout.{places, ownAt, column, ownIn, maskedIn}
-use Rattle.column.specs.Steps.{Public, publicOf, openInput, opening}
-use Rattle.column.specs.Work.{openingOn, takenColumn, takenColumns, takenWork}
+use Rattle.steps.specs.Steps.{Public, publicOf, openInput, opening}
+use Rattle.steps.specs.Work.{openingOn, takenColumn, takenColumns, takenWork}
 use Rattle.column.proofs.Columns.{stepped, taking, maskedAfter, openings-most, column-same, length-taken, taken-before, taken-behind, column-taken, own-taken}
 
 -- ---- the first columns

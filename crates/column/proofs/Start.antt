@@ -14,8 +14,8 @@ use Rattle.message.specs.Lengths.{openings}
 use Rattle.book.specs.Book.{shared, widthOf, drawn}
 use Rattle.book.specs.Book as Book
 use Rattle.slice.specs.Layout.{places, inputAt, runningAt, column, maskedIn, begunPlace, begunWork}
-use Rattle.column.specs.Steps.{publicOf}
-use Rattle.column.specs.Work.{openingOn, runningOn}
+use Rattle.steps.specs.Steps.{publicOf}
+use Rattle.steps.specs.Work.{openingOn, runningOn}
 use Rattle.column.specs.Run.{plainBook, plainStart, openedFrom, plainAfter}
 use Rattle.column.specs.Theorems.{Sound}
 use Rattle.column.proofs.Begun.{begun-length, begun-at}

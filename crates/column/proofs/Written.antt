@@ -17,10 +17,10 @@ use Rattle.field.specs.Forms.{value}
 use Rattle.rounding.specs.Sets.{Scale}
 use Rattle.message.specs.Lengths.{openings}
 use Rattle.slice.specs.Layout.{places, runningAt, ownAt, column, maskedIn}
-use Rattle.column.specs.Steps.{Public, publicOf, openInput, opening, vectorSum, running}
-use Rattle.column.specs.Work.{openingOn, runningOn, takenColumn, takenColumns, takenWork}
-use Rattle.column.specs.Calls.{Held, HeldAll}
-use Rattle.column.proofs.Bounds.{openings-most}
+use Rattle.steps.specs.Steps.{Public, publicOf, openInput, opening, vectorSum, running}
+use Rattle.steps.specs.Work.{openingOn, runningOn, takenColumn, takenColumns, takenWork}
+use Rattle.steps.specs.Calls.{Held, HeldAll}
+use Rattle.steps.proofs.Bounds.{openings-most}
 
 -- ---- The masked numbers
 

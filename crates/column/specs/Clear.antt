@@ -13,7 +13,7 @@ use Rattle.rounding.specs.Digits.{digit}
 use Rattle.rounding.specs.Rounds.{carryInto, zeroDigit, topSum, top, over, missing, threshold, belowUpTo, insideResult}
 use Rattle.book.specs.Book.{groupGap, maskAt, tripleAt, groupAt, drawn}
 use Rattle.slice.specs.Weights.{weigh, ruleOf}
-use Rattle.column.specs.Steps.{lookedAt, limitOf, shiftOf}
+use Rattle.steps.specs.Steps.{lookedAt, limitOf, shiftOf}
 
 module _ (p : Scale) (kind n bound : ℕ) where
   -- the running register k after so many rounds, 1 to 5.

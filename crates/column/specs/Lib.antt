@@ -1,7 +1,4 @@
--- The seven rounds on one column, and on a working slice of columns.
-pub mod Steps
-pub mod Work
-pub mod Calls
+-- A plain run, and the theorems of columns.
 pub mod Run
 pub mod Clear
 pub mod Theorems

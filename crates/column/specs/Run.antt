@@ -7,8 +7,8 @@ use Rattle.rounding.specs.Sets.{Scale}
 use Rattle.message.specs.Lengths.{openings}
 use Rattle.book.specs.Book.{shared, value}
 use Rattle.slice.specs.Layout.{column, maskedIn, begunWork}
-use Rattle.column.specs.Steps.{publicOf}
-use Rattle.column.specs.Work.{openingOn, takenWork}
+use Rattle.steps.specs.Steps.{publicOf}
+use Rattle.steps.specs.Work.{openingOn, takenWork}
 
 -- width: of the draw that the book's values are taken from
 module _ (p : Scale) (kind n bound width : ℕ) (draw secret : List ℕ) where

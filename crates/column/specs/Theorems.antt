@@ -16,8 +16,8 @@ use Rattle.message.specs.Lengths.{openings}
 use Rattle.book.specs.Book.{shared, widthOf, drawLength}
 use Rattle.book.specs.Deal.{multipliers}
 use Rattle.slice.specs.Layout.{places, inputAt, runningAt, column, ownIn, maskedIn, weights}
-use Rattle.column.specs.Steps.{Public, publicOf}
-use Rattle.column.specs.Work.{openingOn, runningOn, takenWork}
+use Rattle.steps.specs.Steps.{Public, publicOf}
+use Rattle.steps.specs.Work.{openingOn, runningOn, takenWork}
 use Rattle.column.specs.Run.{plainAfter, plainOpened}
 use Rattle.column.specs.Clear.{clearRunning, clearOpened, maskOf, maskedOf}
 

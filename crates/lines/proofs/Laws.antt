@@ -10,7 +10,8 @@ use lib.ListN.{length, take}
 use borrow.Author.Tests.{eqb-true}
 use Rattle.message.specs.Lengths.{messageLength}
 use Rattle.state.specs.declared.Side.{Side}
-use Rattle.side.specs.Side.{sendNo, message, sentSide, afterSend, sendCall}
+use Rattle.opening.specs.Opening.{message}
+use Rattle.side.specs.Side.{sendNo, sentSide, afterSend, sendCall}
 use Rattle.side.proofs.Sending.{send-ready}
 use Rattle.lists.specs.Lists.{inFront}
 use Rattle.runs.specs.Records.{Seat, World}

@@ -16,9 +16,10 @@ use Rattle.message.specs.Lengths.{openings, messageLength}
 use Rattle.message.specs.Message.{askForm}
 use Rattle.book.specs.Book.{widthOf}
 use Rattle.slice.specs.Layout.{weights, workLength, begunWork}
-use Rattle.column.specs.Work.{takenWork}
+use Rattle.steps.specs.Work.{takenWork}
 use Rattle.state.specs.State.{sendDue, takeDue}
-use Rattle.side.specs.Side.{handedNo, beginNo, beginCall, begunSide, sendNo, sendCall, sentSide, message, takeNo, takeCall, takenSide, openedList, passes}
+use Rattle.opening.specs.Opening.{message, passes}
+use Rattle.side.specs.Side.{handedNo, beginNo, beginCall, begunSide, sendNo, sendCall, sentSide, takeNo, takeCall, takenSide, openedList}
 use Rattle.runs.specs.Records.{Settings, Hand, Seat, Event, Outcome, outcome}
 use Rattle.runs.specs.Records.Call.{begin, send, takeLatest}
 use Rattle.runs.specs.Records.Event.{began, sent, took, answered, counted}

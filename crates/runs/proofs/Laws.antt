@@ -12,7 +12,7 @@ use Rattle.lists.proofs.Lists.{length-listFrom}
 use Rattle.message.specs.Bits.{bytesFor, packed}
 use Rattle.message.specs.Lengths.{openings, messageBits, fieldCount, messageLength}
 use Rattle.message.specs.Message.{messageOf, headerIn, headerNumber}
-use Rattle.side.specs.Side.{message}
+use Rattle.opening.specs.Opening.{message}
 use Rattle.state.specs.declared.Side.{Side}
 
 pub length-join : (i n w : ℕ) (f : ℕ → List ℕ) → ((j : ℕ) → length (f j) ≡ w) → length (joinFrom i n f) ≡ w * n

@@ -16,7 +16,8 @@ use Rattle.message.specs.Lengths.{openings}
 use Rattle.message.specs.Theorems.{RoundTrip}
 use Rattle.column.specs.Theorems.{T1Work}
 use Rattle.state.specs.declared.Side.{Side}
-use Rattle.side.specs.Side.{partColumn, begunSide, prepared, incoming, opened, openedList, passes}
+use Rattle.opening.specs.Opening.{partColumn, prepared, incoming, opened, passes}
+use Rattle.side.specs.Side.{begunSide, openedList}
 use Rattle.runs.specs.Records.{Settings, settingsOk, Hand}
 use Rattle.runs.specs.Progress.{workAt, sideAt, seatAt, messageAt}
 use Rattle.runs.specs.Honest.{takeStep, Meets}

@@ -16,11 +16,11 @@ use Rattle.book.specs.Book.{widthOf, shared}
 use Rattle.book.specs.Deal.{multipliers}
 use Rattle.book.specs.Theorems.{Laws}
 use Rattle.slice.specs.Layout.{column, maskedIn}
-use Rattle.column.specs.Steps.{publicOf}
-use Rattle.column.specs.Work.{openingOn}
+use Rattle.steps.specs.Steps.{publicOf}
+use Rattle.steps.specs.Work.{openingOn}
 use Rattle.column.specs.Run.{openedFrom, plainAfter, plainOpened}
 use Rattle.column.specs.Theorems.{T1Work}
-use Rattle.side.specs.Side.{partColumn}
+use Rattle.opening.specs.Opening.{partColumn}
 use Rattle.runs.specs.Records.{Settings, Hand, handOf, missing}
 use Rattle.runs.specs.Demands.{Fixed, Numbers, Secret, Shares, Possible, ownHand, otherHand}
 use Rattle.runs.specs.Progress.{workAt, messageAt}

@@ -21,11 +21,12 @@ use Rattle.message.specs.Fields.{HeaderFits}
 use Rattle.message.specs.Theorems.{Sized, RoundTrip}
 use Rattle.message.proofs.RoundTrip.{sized-q}
 use Rattle.slice.specs.Layout.{places, column, maskedIn, weights}
-use Rattle.column.specs.Steps.{publicOf}
-use Rattle.column.specs.Work.{openingOn}
+use Rattle.steps.specs.Steps.{publicOf}
+use Rattle.steps.specs.Work.{openingOn}
 use Rattle.column.specs.Theorems.{T1Work}
 use Rattle.state.specs.declared.Side.{Side}
-use Rattle.side.specs.Side.{partColumn, begunSide, prepared, outgoing, message}
+use Rattle.opening.specs.Opening.{partColumn, prepared, outgoing, message}
+use Rattle.side.specs.Side.{begunSide}
 use Rattle.runs.specs.Records.{Settings, settingsOk, Hand}
 use Rattle.runs.specs.Progress.{workAt, sideAt, seatAt, messageAt}
 use Rattle.runs.specs.Honest.{takeStep}

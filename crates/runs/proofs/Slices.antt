@@ -18,8 +18,8 @@ use Rattle.book.specs.Book.{widthOf, shared}
 use Rattle.book.specs.Deal.{multipliers}
 use Rattle.book.specs.Theorems.{Laws}
 use Rattle.slice.specs.Layout.{places, column, ownIn, maskedIn, weights}
-use Rattle.column.specs.Steps.{publicOf}
-use Rattle.column.specs.Work.{openingOn}
+use Rattle.steps.specs.Steps.{publicOf}
+use Rattle.steps.specs.Work.{openingOn}
 use Rattle.column.specs.Run.{plainBook, plainStart, openedFrom, plainAfter, plainOpened}
 use Rattle.column.specs.Theorems.{JoinedWork, T1Work}
 use Rattle.runs.specs.Records.{Settings, Hand, handOf}

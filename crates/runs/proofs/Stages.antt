@@ -15,7 +15,8 @@ use Rattle.message.specs.Message.{headerIn, headerNumber, fieldsOk, askForm}
 use Rattle.slice.specs.Layout.{workLength}
 use Rattle.state.specs.declared.Phase.the-variants.{Sending, Taking, Finished}
 use Rattle.state.specs.State.{sendDue, takeDue}
-use Rattle.side.specs.Side.{begunSide, sendNo, takeNo, passes}
+use Rattle.opening.specs.Opening.{passes}
+use Rattle.side.specs.Side.{begunSide, sendNo, takeNo}
 use Rattle.runs.specs.Records.{Settings, Hand, Seat, Call, outcome}
 use Rattle.runs.specs.Records.Call.{begin, send, takeLatest}
 use Rattle.runs.specs.Progress.{sideAt, seatAt}

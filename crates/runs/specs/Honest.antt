@@ -13,7 +13,8 @@ use Rattle.message.specs.Message.{headerIn, headerNumber, fieldsOk}
 use Rattle.book.specs.Book.{widthOf, shared}
 use Rattle.slice.specs.Layout.{workLength}
 use Rattle.column.specs.Run.{plainOpened}
-use Rattle.side.specs.Side.{passes, openedList}
+use Rattle.opening.specs.Opening.{passes}
+use Rattle.side.specs.Side.{openedList}
 use Rattle.runs.specs.Records.{Settings, Hand}
 use Rattle.runs.specs.Demands.{Fixed, Numbers, Secret, Shares, Possible, ownHand, otherHand}
 use Rattle.runs.specs.Progress.{workAt, sideAt, messageAt}

@@ -9,12 +9,13 @@ use Rattle.rounding.specs.Sets.{scaleOf}
 use Rattle.message.specs.Lengths.{messageLength}
 use Rattle.book.specs.Book.{widthOf}
 use Rattle.slice.specs.Layout.{begunWork, weights}
-use Rattle.column.specs.Work.{takenWork}
+use Rattle.steps.specs.Work.{takenWork}
 use Rattle.state.specs.declared.Side.{Side}
 use Rattle.state.specs.declared.Phase.{Phase}
 use Rattle.state.specs.declared.Phase.the-variants.{Sending, Taking, Finished}
 use Rattle.state.specs.State.{moved}
-use Rattle.side.specs.Side.{begunSide, message}
+use Rattle.opening.specs.Opening.{message}
+use Rattle.side.specs.Side.{begunSide}
 use Rattle.runs.specs.Records.{Settings, Hand, Seat, World, Who, Call, Move}
 use Rattle.runs.specs.Records.Who.{mine, theirs}
 use Rattle.runs.specs.Records.Call.{begin, send, takeLatest, answer, count}

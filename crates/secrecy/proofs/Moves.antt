@@ -21,7 +21,7 @@ use Rattle.book.specs.Book.Entry.{mask, place, left, right, product, groupMask,
 use Rattle.book.specs.Deal.{inOrder}
 use Rattle.book.specs.Theorems.{groups, At, at-place, at-product, at-groupPlace, Holds}
 use Rattle.book.proofs.Places.{at-entry, holds-mask, holds-left, holds-right, holds-ρ}
-use Rattle.column.specs.Steps.{shiftOf}
+use Rattle.steps.specs.Steps.{shiftOf}
 use Rattle.column.specs.Clear.{clearFactor, clearChecked, maskOf, maskedOf}
 use Rattle.secrecy.specs.Paired.{openedOf, tripleOpening}
 

@@ -13,7 +13,7 @@ use Rattle.book.specs.Book.{Entry, shared, entryOf, maskAt, tripleAt, groupAt, 
 use Rattle.book.specs.Book.Entry.{mask, place, left, right, product, groupMask, groupPlace}
 use Rattle.book.specs.Theorems.{groups, At, at-mask, at-left, at-right, at-group, Holds}
 use Rattle.book.proofs.Places.{at-entry, holds-mask, holds-left, holds-right, holds-ρ}
-use Rattle.column.specs.Steps.{shiftOf}
+use Rattle.steps.specs.Steps.{shiftOf}
 use Rattle.secrecy.specs.Paired.{drawFrom, openedOf, tripleOpening, movedMask, masksMoved, movedDrawn, drawnMoved}
 use Rattle.secrecy.proofs.Parts.{length-drawFrom, drawn-drawFrom, phone-drawFrom, below-drawFrom}
 use Rattle.secrecy.proofs.Moves.{moved-a, moved-ρ, r-back, r-opens, a-back, a-opens, ρ-back, ρ-opens, Good, Same, same-at, SameMasks, masks-same, factorOf, checkOf, factor-same, check-same, Shapes}

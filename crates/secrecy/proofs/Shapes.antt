@@ -19,7 +19,7 @@ use Rattle.message.specs.Lengths.{openings}
 use Rattle.book.specs.Book.{widthOf, maskAt, tripleAt, groupAt, drawn}
 use Rattle.book.specs.Theorems.{groups}
 use Rattle.book.proofs.Sizes.{shared-most}
-use Rattle.column.specs.Steps.{shiftOf}
+use Rattle.steps.specs.Steps.{shiftOf}
 use Rattle.column.specs.Clear.{clearFactor, clearOpened, maskOf, maskedOf}
 use Rattle.column.specs.Theorems.{Sound, T2}
 use Rattle.runs.specs.Records.{Settings, settingsOk}

@@ -16,7 +16,7 @@ use Rattle.message.specs.Lengths.{openings}
 use Rattle.message.specs.Message.{messageOf, headerNumber}
 use Rattle.book.specs.Book.{widthOf}
 use Rattle.column.specs.Theorems.{T1Work}
-use Rattle.side.specs.Side.{partColumn}
+use Rattle.opening.specs.Opening.{partColumn}
 use Rattle.runs.specs.Records.{Settings, Hand, Seat, World, Move, worldAfter, events}
 use Rattle.runs.specs.Progress.{sentBy, messageAt, seatAt, seatFrom, none, countsAfter, worldAt}
 use Rattle.runs.proofs.Seats.{which-below, round-of}

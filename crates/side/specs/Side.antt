@@ -1,32 +1,26 @@
 -- Begin, send and take, as functions from what is handed in to all that comes out.
 -- k is the number of keys a side, 1 in this request.
-use Prim.Native.Nat.{ℕ, _+_, _*_, _-_, _%_}
-use mathlib.Core.Bool.{Bool, cond, not, _&&_}
-use mathlib.Core.List.{List, _∷_}
+use Prim.Native.Nat.{ℕ, _+_, _*_}
+use mathlib.Core.Bool.{cond, not, _&&_}
+use mathlib.Core.List.{List}
 use lib.Dec.{eqb, leb, ltb}
 use lib.ListN.{length, getD, replicate}
 use Rattle.lists.specs.Answers.{ask}
-use Rattle.lists.specs.Lists.{allBelow, allTo, listTo, joinTo, inFront}
-use Rattle.field.specs.Field.{q, add, mul}
+use Rattle.lists.specs.Lists.{allBelow, allTo, listTo, inFront}
+use Rattle.field.specs.Field.{q}
 use Rattle.rounding.specs.Sets.{scaleOf}
 use Rattle.rounding.specs.Questions.{askSettings, keysOk}
-use Rattle.message.specs.Lengths.{openings, fieldCount, messageLength}
-use Rattle.message.specs.Message.{headerNumber, messageOf, fieldIn, askForm}
+use Rattle.message.specs.Lengths.{openings, messageLength}
+use Rattle.message.specs.Message.{askForm}
 use Rattle.book.specs.Book.{shared, widthOf}
-use Rattle.slice.specs.Layout.{workLength, column, ownIn, maskedIn, begunWork, weights}
-use Rattle.column.specs.Steps.{publicOf}
-use Rattle.column.specs.Work.{openingOn, takenWork}
+use Rattle.slice.specs.Layout.{workLength, begunWork, weights}
+use Rattle.steps.specs.Work.{takenWork}
 use Rattle.state.specs.declared.Side.{Side}
 use Rattle.state.specs.declared.Phase.the-variants.{Sending, Taking, Stopped, Finished}
 use Rattle.state.specs.State.{sendDue, takeDue, underWay, moved, inPhase}
+use Rattle.opening.specs.Opening.{message, opened, passes}
 use Rattle.side.specs.declared.Done.{Done}
 use Rattle.side.specs.declared.Sent.{Sent}
-
--- ---- Sizes
-
--- the column of the part under key i of side `number`
-abbrev pub partColumn : ℕ → ℕ → ℕ → ℕ
-partColumn k number i = 1 + number * k + i
 
 -- ---- Begin
 
@@ -71,18 +65,6 @@ beginCall k s number set kind n bound keys serial inputs book work =
     (after 0 (begunSide number set kind n bound keys serial) (begunWork (scaleOf set) kind n (widthOf k) inputs book))
     (after refusal s work)
 
--- ---- What a side has for the openings of its round
-
--- opening o in column c, worked out from the working slice
-unfoldable pub prepared : ℕ → Side → List ℕ → ℕ → ℕ → ℕ
-prepared k s work c o =
-    openingOn (publicOf (scaleOf (s .set)) (s .kind) (s .n) (s .bound) (maskedIn work)) (s .round)
-    (getD (weights k (s .number) (s .keys)) c 0) (column work c) o
-
--- to be sent: the server works its openings out, the phone kept its own when it took the round
-unfoldable pub outgoing : ℕ → Side → List ℕ → ℕ → ℕ → ℕ
-outgoing k s work c o = cond (eqb (s .number) 0) (prepared k s work c o) (ownIn work c o)
-
 -- ---- Send
 
 -- "Send: 8, 5, 6, 9"
@@ -93,13 +75,6 @@ sendNo k s work out =
     (ask (allBelow q work) 6
     (ask (leb (messageLength k (s .kind) (s .n) (s .round)) (length out)) 9
     0)))
-
--- "sends its share and its part under the receiver's key", "coefficient by coefficient"
-unfoldable pub message : ℕ → Side → List ℕ → List ℕ
-message k s work =
-    messageOf (headerNumber (s .number) (s .set) (s .kind) (s .n) (s .bound) (s .round) (s .serial))
-    (joinTo (openings (s .kind) (s .n) (s .round)) (λ (o : ℕ).
-    outgoing k s work 0 o ∷ listTo k (λ (i : ℕ). outgoing k s work (partColumn k (1 - s .number) i) o)))
 
 -- the server then takes; the phone goes to the next round, or "finishes on sending round 7"
 unfoldable pub sentSide : Side → Side
@@ -123,22 +98,6 @@ sendCall k s work out =
     (afterSend refusal 0 s out)
 
 -- ---- Take
-
--- field f of opening o of a message
-unfoldable pub incoming : ℕ → Side → List ℕ → ℕ → ℕ → ℕ
-incoming k s msg o f = fieldIn (fieldCount k (s .kind) (s .n) (s .round)) msg (o * (1 + k) + f)
-
--- "the joined number" of opening o
-unfoldable pub opened : ℕ → Side → List ℕ → List ℕ → ℕ → ℕ
-opened k s work msg o = add q (prepared k s work 0 o) (incoming k s msg o 0)
-
--- "The check: the two parts under my key add to my key × the joined number", for each of my keys
-unfoldable pub passes : ℕ → Side → List ℕ → List ℕ → ℕ → Bool
-passes k s work msg o =
-    allTo k (λ (i : ℕ).
-    eqb
-    (add q (prepared k s work (partColumn k (s .number) i) o) (incoming k s msg o (1 + i)))
-    (mul q (getD (s .keys) i 0) (opened k s work msg o)))
 
 -- "Take: 8, 5, 6, 10 to 13"
 unfoldable pub takeNo : ℕ → Side → List ℕ → List ℕ → ℕ

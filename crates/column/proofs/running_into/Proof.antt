@@ -1,8 +1,8 @@
 -- `column::running_into` meets its contract.
 use Rattle.column.proofs.Written.{fill-count}
-use Rattle.column.specs.Calls.{publicBy}
+use Rattle.steps.specs.Calls.{publicBy}
 use Rattle.slice.specs.Layout.{column}
-use Rattle.column.specs.Work.{runningOn}
+use Rattle.steps.specs.Work.{runningOn}
 use Rattle.lists.specs.Lists.{fill}
 use Rattle.lists.proofs.Fill.{fill-none, front-more}
 use Prim.Native.Nat.{ℕ, _≤_, _-_}

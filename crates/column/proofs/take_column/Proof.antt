@@ -3,7 +3,7 @@ use lib.ListN.{getD}
 use Prim.Native.Nat.{ℕ}
 use native.Mathlib.Omega.{arith}
 use Rattle.column.proofs.Written.{taken-is}
-use Rattle.column.specs.Calls.{publicBy}
+use Rattle.steps.specs.Calls.{publicBy}
 use borrow.Author.Needs.{needs}
 use Rattle.column.proofs.take_column.Statement.{statement}
 use Rattle.column.proofs.take_column.Tie as tie

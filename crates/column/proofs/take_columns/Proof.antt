@@ -1,8 +1,8 @@
 -- `column::take_columns` meets its contract.
 use native.Mathlib.Numerals.{add-one}
 use Rattle.column.proofs.Written.{held-kept}
-use Rattle.column.specs.Calls.{publicBy}
-use Rattle.column.specs.Work.{takenColumn, takenColumns}
+use Rattle.steps.specs.Calls.{publicBy}
+use Rattle.steps.specs.Work.{takenColumn, takenColumns}
 use Prim.Native.Nat.{ℕ, _≤_, _-_}
 use mathlib.Core.Path.{_≡_, refl}
 use native.Mathlib.Omega.{arith}

@@ -3,7 +3,7 @@ use lib.ListN.{getD}
 use Prim.Native.Nat.{ℕ}
 use Rattle.rounding.specs.Sets.{scaleOf}
 use native.Mathlib.Omega.{arith}
-use Rattle.column.proofs.Bounds.{open-first}
+use Rattle.steps.proofs.Bounds.{open-first}
 use Rattle.slice.specs.Layout.{column, maskedIn}
 use Rattle.column.proofs.Written.{held-first, held-same, work-first, work-later}
 use borrow.Author.Needs.{needs}

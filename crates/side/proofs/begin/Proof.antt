@@ -10,10 +10,10 @@ use Rattle.lists.specs.Lists.{fill}
 use Rattle.lists.proofs.Fill.{length-fill}
 use Rattle.rounding.specs.Sets.{scaleOf}
 use Rattle.state.specs.declared.Side.{Side}
+use Rattle.opening.specs.Work.{loaded}
+use Rattle.opening.proofs.Loading.{loaded-begun, cleared-at}
 use Rattle.side.specs.Side.{after, beginCall}
-use Rattle.side.specs.Work.{loaded}
 use Rattle.side.proofs.Ready.{begin-ready}
-use Rattle.side.proofs.Loading.{loaded-begun, cleared-at}
 use Rattle.side.proofs.begin.Statement.{statement}
 use Rattle.side.proofs.begin.Tie as tie
 

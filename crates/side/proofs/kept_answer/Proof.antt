@@ -8,7 +8,7 @@ use borrow.Author.Tests.{eq-eqb, ne-eqb}
 use Rattle.lists.specs.Lists.{fill}
 use Rattle.lists.proofs.Fill.{front-is}
 use Rattle.message.specs.Lengths.{openings}
-use Rattle.column.proofs.Bounds.{open-late}
+use Rattle.steps.proofs.Bounds.{open-late}
 use Rattle.side.proofs.kept_answer.Statement.{statement}
 use Rattle.side.proofs.kept_answer.Tie as tie
 

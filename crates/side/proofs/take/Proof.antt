@@ -2,12 +2,13 @@
 use borrow.Author.Needs.{needs}
 use mathlib.Core.Path.{_≡_, refl, sym, ap, ap₂, _∙_}
 use borrow.Author.Tests.{not-true, not-false}
-use Rattle.column.proofs.Bounds.{openings-most}
+use Rattle.steps.proofs.Bounds.{openings-most}
 use Rattle.state.specs.declared.Side.{Side}
+use Rattle.opening.proofs.Openings.{settings-in-ready}
+use Rattle.opening.proofs.Taking.{prepared-holds, holds-all, none-at, opened-below, checks-same}
 use Rattle.side.specs.Side.{after, takenSide}
 use Rattle.side.specs.Work.{takeDoor}
-use Rattle.side.proofs.Openings.{settings-in-ready}
-use Rattle.side.proofs.Taking.{take-ready, take-refused, take-stopped, take-done, prepared-holds, holds-all, none-at, opened-below, front-same, checks-same, work-same}
+use Rattle.side.proofs.Taking.{take-ready, take-refused, take-stopped, take-done, front-same, work-same}
 use Rattle.side.proofs.take.Statement.{statement}
 use Rattle.side.proofs.take.Tie as tie
 

@@ -1,0 +1,4 @@
+-- Laws of the dealer's work.
+pub mod Work
+pub mod Door
+pub mod Steps

@@ -1,0 +1,50 @@
+-- `dealer::deal_mask` meets its contract. Assumes nothing.
+use mathlib.Core.Path.{refl, sym}
+use native.Mathlib.Omega.{arith}
+use Rattle.book.specs.Book.{drawn}
+use Rattle.dealer.proofs.Steps.{mask-draws, vector-first}
+use Rattle.dealer.proofs.Work.{drawn-room, wrote-join, wrote-as, still-lent, cursor-as}
+use borrow.Author.Needs.{needs}
+use Rattle.dealer.proofs.deal_mask.Statement.{statement}
+use Rattle.dealer.proofs.deal_mask.Tie as tie
+
+mul-split-number : tie.Need-mul-split-number
+mul-split-number c =
+    let entry = c .before .before .before .before in
+    omega (arith, drawn-room (mask-draws (entry .args .o) (entry .args .c) (c .mask-at .result) (entry .pre .1 .0) (c .mask-at .ensures .0)) (cursor-as (entry .args .o) (entry .pre .1 .1) (sym (c .mask-at .ensures .0))) (entry .pre .0))
+
+shared-slice-read-split-number : tie.Need-shared-slice-read-split-number
+shared-slice-read-split-number c =
+    let entry = c .before .before .before .before .before in
+    omega (arith, drawn-room (mask-draws (entry .args .o) (entry .args .c) (c .before .mask-at .result) (entry .pre .1 .0) (c .before .mask-at .ensures .0)) (cursor-as (entry .args .o) (entry .pre .1 .1) (sym (c .before .mask-at .ensures .0))) (entry .pre .0))
+
+deal-drawn-requires : tie.Need-deal-drawn-requires
+deal-drawn-requires c κs =
+    let entry = c .before .before .before .before .before .before .before .before in
+    (entry .pre .0, (mask-draws (entry .args .o) (entry .args .c) (c .before .before .before .before .mask-at .result) (entry .pre .1 .0) (c .before .before .before .before .mask-at .ensures .0), cursor-as (entry .args .o) (entry .pre .1 .1) (sym (c .before .before .before .before .mask-at .ensures .0))))
+
+deal-vectors-requires : tie.Need-deal-vectors-requires
+unfolding drawn
+deal-vectors-requires c κs =
+    let entry = c .before .before .before .before .before .before .before .before .before .before .before .before .before .before .before in
+    let a = entry .args in
+    (still-lent (entry .pre .0) (c .before .before .before .before .before .before .deal-drawn .ensures), (entry .pre .1 .0, cursor-as (a .o) (c .before .before .before .before .before .before .deal-drawn .ensures .next) (rw (c .before .before .before .before .before .before .before .before .before .before .before .mask-at .ensures .0) (sym (vector-first (a .o) (a .c)))), rw (← entry .pre .1 .1) (c .before .before .before .before .before .before .before .before .before .split-number .ensures)))
+
+returns : tie.Need-returns
+returns c =
+    let a = c .before .before .before .before .before .before .before .before .before .before .before .before .before .before .before .before .before .before .before .before .args in
+    wrote-as (wrote-join (c .before .before .before .before .before .before .before .before .before .before .before .deal-drawn .ensures) (c .before .before .before .before .deal-vectors .ensures) (rw (c .before .before .before .before .before .before .before .before .before .before .before .before .before .before .before .before .mask-at .ensures .0) (vector-first (a .o) (a .c)))) (c .before .before .before .before .before .before .before .before .before .before .before .before .before .before .before .before .mask-at .ensures .0) refl
+
+pub deal-mask-spec : {M : Type 1} → statement M
+deal-mask-spec =
+    tie.close
+    (tie.spec
+    (λ c κs. search needs)
+    mul-split-number
+    shared-slice-read-split-number
+    (λ c κs. search needs)
+    deal-drawn-requires
+    deal-vectors-requires
+    (λ c. search needs)
+    (λ c. search needs)
+    returns)

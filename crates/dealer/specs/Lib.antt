@@ -1,0 +1,2 @@
+-- What the dealer's working functions are told and promise.
+pub mod Work

@@ -1,0 +1,5 @@
+-- Laws of a round's openings.
+pub mod Loading
+pub mod Openings
+pub mod Sending
+pub mod Taking

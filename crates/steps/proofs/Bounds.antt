@@ -1,0 +1,171 @@
+-- Bounds that the functions need: places in a column, digits, thresholds, indices, and how many openings a round has.
+use mathlib.Core.Path.{_≡_, refl, ap}
+use mathlib.Core.Logic.{_≢_}
+use mathlib.Core.Bool.{Bool, true, false, cond, false≢true}
+use Prim.Native.Nat.{ℕ, zero, suc, _+_, _-_, _*_, _/_, _%_, _≤_, _<_}
+use native.Mathlib.Nat.{mod-lt, mul-le-mul-left, mul-le-mul-right, le-div-iff-mul-le}
+use native.Mathlib.Decide.{decLt}
+use native.Mathlib.Omega.{arith}
+use lib.Dec.{eqb, leb, ltb}
+use borrow.Author.Tests.{leb-true, ne-eqb, eq-eqb, le-leb, lt-leb, lt-ltb, le-ltb}
+use Rattle.lists.specs.Lists.{allTo}
+use Rattle.lists.proofs.Every.{allTo-at}
+use Rattle.field.specs.Field.{q}
+use Rattle.field.specs.Sums.{sumTo}
+use Rattle.field.proofs.Division.{Split, split}
+use Rattle.rounding.specs.Sets.{scaleOf, base}
+use Rattle.rounding.specs.Digits.{digit}
+use Rattle.rounding.specs.Rounds.{gap, threshold, unit}
+use Rattle.rounding.proofs.Sets.{lawful, base-range}
+use Rattle.rounding.proofs.Radix.{low-digit, top-digit, unit-alpha, digit-below}
+use Rattle.message.specs.Lengths.{openings}
+use Rattle.book.specs.Book.{groupK, stride, vectorAt}
+use Rattle.steps.specs.Steps.{lookedAt, limitOf, groupOf}
+use Rattle.slice.specs.Weights.{ruleOf}
+use Rattle.slice.specs.declared.Rule.{Rule}
+use Rattle.slice.specs.declared.Rule.the-variants.{Carry, Zero, Top, Over, Below}
+
+-- ---- Places
+
+-- a digit's vector ends within the book
+fits : ℕ → ℕ → ℕ → ℕ → Bool
+fits set kind c i = leb (vectorAt (scaleOf set) kind c i + base (scaleOf set) i) 1320
+
+-- one test over all sets, kinds, coefficients and digits
+pub vector-room : (set kind c i : ℕ) → set < 2 → kind < 2 → c < 8 → i < 5 → vectorAt (scaleOf set) kind c i + base (scaleOf set) i ≤ 1320
+unfolding fits allTo vectorAt stride sumTo
+vector-room set kind c i hs hk hc hi =
+    leb-true _ _
+    (allTo-at 5 (fits set kind c) i
+    (allTo-at 8 (λ (d : ℕ). allTo 5 (fits set kind d)) c
+    (allTo-at 2 (λ (k : ℕ). allTo 8 (λ (d : ℕ). allTo 5 (fits set k d))) kind
+    (allTo-at 2 (λ (s : ℕ). allTo 2 (λ (k : ℕ). allTo 8 (λ (d : ℕ). allTo 5 (fits s k d)))) set refl hs) hk) hc) hi)
+
+-- ---- Digits
+
+top-small : (set x : ℕ) → set < 2 → x < 4294967296 → x / scaleOf set .alpha < 65536
+top-small zero x h l = omega arith
+top-small (suc zero) x h l = omega arith
+top-small (suc (suc set)) x h l = absurd (omega arith)
+
+-- a digit of any number of 32 bits
+pub digit-small : (set x i : ℕ) → set < 2 → i < 5 → x < 4294967296 → digit (scaleOf set) x i < 65536
+digit-small set x i hs hi l = go (decLt i 4)
+  where
+    go : Dec (i < 4) → digit (scaleOf set) x i < 65536
+    go (yes p) =
+        let b = base-range set i hs hi in
+        rw (low-digit (scaleOf set) x i p) (omega (arith, mod-lt (x / unit (scaleOf set) i) {m = base (scaleOf set) i} (omega arith)))
+    go (no p) =
+        let e : i ≡ 4 = omega arith in
+        rw (e, top-digit (scaleOf set) x, unit-alpha (scaleOf set) (lawful set hs)) (top-small set x hs l)
+
+-- ---- The rule Zero: digits 0 to 3 of HIGH alone have it
+
+isZero : Rule → Bool
+isZero Carry = false
+isZero Zero = true
+isZero Top = false
+isZero Over = false
+isZero Below = false
+
+zero-low : (kind i k : ℕ) → ruleOf kind i k ≡ Zero → i < 4
+unfolding ruleOf isZero
+zero-low kind i k e = go (eqb kind 0) (eqb k 0) (decLt i 4) (ap isZero e)
+  where
+    go : (a b : Bool) → Dec (i < 4) → isZero (cond a (cond (ltb i 4) (cond b Carry Zero) (cond b Top Over)) Below) ≡ true → i < 4
+    go a b (yes h) t = h
+    go true true (no h) t = absurd (false≢true (rw (le-ltb i 4 (omega arith)) at t))
+    go true false (no h) t = absurd (false≢true (rw (le-ltb i 4 (omega arith)) at t))
+    go false b (no h) t = absurd (false≢true t)
+
+-- its limit is the digit's base, and the public digit + 1 is at most that
+pub zero-fits : (set kind i k x d up : ℕ) → set < 2 → up ≤ 1 → d ≡ digit (scaleOf set) x i → ruleOf kind i k ≡ Zero → (base (scaleOf set) i ≡ limitOf (scaleOf set) i) × (d + up ≤ limitOf (scaleOf set) i)
+unfolding limitOf
+zero-fits set kind i k x d up hs hu e rule =
+    let low = zero-low kind i k rule in
+    let b = base-range set i hs (omega arith) in
+    rw (lt-ltb i 4 low)
+    (refl, rw (e, low-digit (scaleOf set) x i low) (omega (arith, mod-lt (x / unit (scaleOf set) i) {m = base (scaleOf set) i} (omega arith))))
+
+-- a threshold is below q, and so its digits are below their bases
+threshold-below : (bound k y : ℕ) → threshold q bound k y < q
+unfolding threshold
+threshold-below bound k y = go (eqb k 0)
+  where
+    go : (b : Bool) → cond b ((2 * bound - 1 + (q - y % q)) % q) ((0 + (q - y % q)) % q) < q
+    go true = omega arith
+    go false = omega arith
+
+pub threshold-digit : (set kind bound k y i d : ℕ) → set < 2 → i < 5 → kind ≢ 0 → d ≡ digit (scaleOf set) (lookedAt q kind bound k y) i → d < base (scaleOf set) i
+unfolding lookedAt
+threshold-digit set kind bound k y i d hs hi h e =
+    rw (e, ne-eqb kind 0 h) (digit-below (scaleOf set) (lawful set hs) (threshold q bound k y) i (threshold-below bound k y) hi)
+
+-- ---- The zero check's index
+
+pub group-k-most : (kind n : ℕ) → n ≤ 8 → groupK kind n ≤ 8
+group-k-most kind n h = go (eqb kind 0)
+  where
+    go : (b : Bool) → cond b 5 n ≤ 8
+    go true = omega arith
+    go false = h
+
+gap-least : (k : ℕ) → k ≤ 8 → 931157 ≤ gap q k
+gap-least k h =
+    let l : k + 1 ≤ 9 = omega arith in
+    let m : 931157 * (k + 1) ≤ 931157 * 9 = mul-le-mul-left 931157 l in
+    le-div-iff-mul-le {k = k + 1} (omega arith) .1 (omega arith)
+
+-- a number below q, divided by the gap
+pub index-small : (x k : ℕ) → x < q → k ≤ 8 → x / gap q k ≤ 9
+index-small x k h l =
+    let g : 931157 ≤ gap q k = gap-least k l in
+    let c = split x {b = gap q k} (omega arith) in
+    let m : 10 * 931157 ≤ 10 * gap q k = mul-le-mul-left 10 g in
+    go c (decLt 9 (x / gap q k))
+  where
+    go : Split x (gap q k) (x / gap q k) (x % gap q k) → Dec (9 < x / gap q k) → x / gap q k ≤ 9
+    go c (yes p) =
+        let m : 10 * 931157 ≤ 10 * gap q k = mul-le-mul-left 10 (gap-least k l) in
+        let n : 10 * gap q k ≤ x / gap q k * gap q k = mul-le-mul-right (gap q k) p in
+        omega arith
+    go c (no p) = omega arith
+
+-- ---- How many openings a round has
+
+module _ (kind n round : ℕ) where
+  pub open-first : round ≡ 1 → openings kind n round ≡ n
+  unfolding openings
+  open-first h = rw (eq-eqb round 1 h)
+
+  pub open-middle : round ≢ 1 → round ≤ 5 → openings kind n round ≡ 4 * n
+  unfolding openings
+  open-middle h k = rw (ne-eqb round 1 h, le-leb round 5 k)
+
+  pub open-late : round ≢ 1 → 5 < round → 1 ≤ n → openings kind n round ≤ n
+  unfolding openings
+  open-late h k l = rw (ne-eqb round 1 h, lt-leb round 5 k) (go (eqb kind 0))
+    where
+      go : (b : Bool) → cond b n 1 ≤ n
+      go true = omega arith
+      go false = l
+
+  -- a coefficient's zero check is one of the openings
+  pub check-in : (c : ℕ) → round ≢ 1 → 5 < round → c < n → groupOf kind c < openings kind n round
+  unfolding openings groupOf
+  check-in c h k l = rw (ne-eqb round 1 h, lt-leb round 5 k) (go (eqb kind 0))
+    where
+      go : (b : Bool) → cond b c 0 < cond b n 1
+      go true = l
+      go false = omega arith
+
+pub openings-most : (kind n round : ℕ) → n ≤ 8 → openings kind n round ≤ 32
+unfolding openings
+openings-most kind n round h = go (eqb round 1) (leb round 5) (eqb kind 0)
+  where
+    go : (a b c : Bool) → cond a n (cond b (4 * n) (cond c n 1)) ≤ 32
+    go true b c = omega arith
+    go false true c = omega arith
+    go false false true = omega arith
+    go false false false = omega arith

@@ -1,0 +1,2 @@
+-- Bounds that the functions need.
+pub mod Bounds

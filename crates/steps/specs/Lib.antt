@@ -1,0 +1,4 @@
+-- The seven rounds as linear forms over a column, and on a working slice of columns.
+pub mod Steps
+pub mod Work
+pub mod Calls
