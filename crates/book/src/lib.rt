@@ -8,7 +8,7 @@ ghost use Rattle.rounding.specs.Rounds.{gap};
 ghost use Rattle.book.specs.Book.{groupK, shared, stride, maskAt, vectorAt, tripleAt, groupAt, drawLength};
 use field::Q;
 
-// ---- Places, counted in shared numbers, for crates dealer, stock, column and side, which ask questions 1 and 2 first.
+// ---- Places, counted in shared numbers, for crates dealer, stock, steps and side and those above, which ask questions 1 and 2 first.
 
 // Set 0, behind the mask of a coefficient: where digit i's vector begins, or for 5 the triples. (The compiler makes one table of a
 // match; it would write out a constant array at each call.)

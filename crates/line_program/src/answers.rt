@@ -57,7 +57,7 @@ fn answer_call(
     }
 }
 
-// Answers the lines that end in a part until it is used up or the slice may lack room for one more.
+// Answers the lines that end in a part until it is used up or the slice may lack room for one more. The slice is main's large buffer.
 pub fn answer_some(stream: Stream, kept: &mut [u8], bytes: &[u8], out: &mut [u8]) -> Call
     requires { ⌜ 112 ≤ length (now out) ⌝ }
     ensures { λ r. ⌜ allCalls (standing (r .stream) (now (kept .exit)) (now (out .exit)) (r .waiting)) (drop (r .used) (now (bytes .entry))) ≡ allCalls (standing stream (now (kept .entry)) (now (out .entry)) 0) (now (bytes .entry)) ⌝ }
@@ -82,7 +82,8 @@ pub fn answer_some(stream: Stream, kept: &mut [u8], bytes: &[u8], out: &mut [u8]
     }
 }
 
-// When the input has ended: the answer to its last line, if that lacks its line end. How many bytes wait to be written.
+// When the input has ended: the answer to its last line, if that lacks its line end. How many bytes wait to be written. The slice is
+// main's large buffer.
 pub fn put_last(stream: Stream, kept: &[u8], out: &mut [u8]) -> usize
     requires { ⌜ 112 ≤ length (now out) ⌝ }
     ensures { λ r. ⌜ take r (now (out .exit)) ≡ cond (isLeft stream) (lineBytes (atLine stream .number) (heldOf stream (now (kept .entry)))) [] ⌝ }

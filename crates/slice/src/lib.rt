@@ -1,5 +1,5 @@
-// A side's working slice: where its numbers stand, and weighted sums over a digit's vector in one of its columns. Crates column and
-// side have asked the questions first.
+// A side's working slice: where its numbers stand, and weighted sums over a digit's vector in one of its columns, for crate steps, which
+// knows each place and digit to be in its range. Crate side has asked the questions first.
 ghost use mathlib.Core.Path.{_≡_};
 ghost use mathlib.Core.Bool.{cond};
 ghost use mathlib.Core.Logic.{_⊎_};
