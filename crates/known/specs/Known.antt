@@ -7,7 +7,7 @@ use Rattle.lists.specs.Answers.{bit}
 use Rattle.lists.specs.Lists.{every}
 use Rattle.field.specs.Field.{q, sub}
 use Rattle.field.specs.Sums.{sumTo}
-use Rattle.rounding.specs.Sets.{scaleOf}
+use Rattle.settings.specs.Sets.{scaleOf}
 use Rattle.rounding.specs.Plain.{highOfShifted, highPart, lowPart, inside, verdict}
 use Rattle.rounding.specs.Digits.{digitsOf, digit}
 use Rattle.rounding.specs.Rounds.{unit, carryInto, zeroDigit, topSum, top, missing, gap, checkOpens, checkResult, wrapOf, highResult}

@@ -8,10 +8,9 @@ use native.Mathlib.Omega.{arith}
 use borrow.Author.Tests.{eq-eqb, ne-eqb}
 use lib.ListN.{length}
 use Rattle.lists.proofs.Questions.{stop, skip}
-use Rattle.rounding.specs.Questions.{askSettings, SettingsReady}
-use Rattle.rounding.proofs.Ready.{settings-pass, settings-refuse}
-use Rattle.message.specs.Bits.{bytesFor}
-use Rattle.message.specs.Lengths.{fieldCount, messageBits, messageLength}
+use Rattle.settings.specs.Questions.{askSettings, SettingsReady}
+use Rattle.settings.proofs.Ready.{settings-pass, settings-refuse}
+use Rattle.settings.specs.Sizes.{bytesFor, fieldCount, messageBits, messageLength}
 use Rattle.message.specs.Message.{headerNumber, headerIn, fieldsOk, askForm}
 use Rattle.message.specs.Fields.{HeaderFits, headerWith}
 use Rattle.message.specs.declared.Header.{Header}

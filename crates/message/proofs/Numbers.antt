@@ -9,7 +9,8 @@ use lib.Arith.{digits-lt}
 use lib.Pow.{pow-add, pow-pos, pow-mono, shl-exact, shr-lt, shr-shr, high, low, field, mod-mod-pow, mod-pow-add}
 use lib.ListN.{length, getD, take, drop, length-append, take-append-drop}
 use lib.Seq.{take-suc, length-take-le, getD-drop}
-use Rattle.message.specs.Bits.{bytesFor, padding, numberOn, numberOf}
+use Rattle.settings.specs.Sizes.{bytesFor}
+use Rattle.message.specs.Bits.{padding, numberOn, numberOf}
 use Rattle.message.specs.Fields.{firstBits, bitsAt}
 
 -- what a slice of u8 holds

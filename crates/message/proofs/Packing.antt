@@ -13,7 +13,8 @@ use lib.Seq.{ext-getD, drop-append-add, drop-drop}
 use Rattle.lists.specs.Lists.{listFrom, listTo, fill, inFront}
 use Rattle.lists.proofs.Lists.{length-listFrom, getD-listTo}
 use Rattle.lists.proofs.Fill.{length-fill, fill-before, fill-behind, fill-at, front-at, front-behind, front-is}
-use Rattle.message.specs.Bits.{bytesFor, padding, packed, numberOn, numberOf}
+use Rattle.settings.specs.Sizes.{bytesFor}
+use Rattle.message.specs.Bits.{padding, packed, numberOn, numberOf}
 use Rattle.message.specs.Fields.{firstBits, putBits, byteOf}
 use Rattle.message.proofs.Numbers.{Bytes, getD-behind, bytes-drop, first-less, first-append, byte-is, filled}
 

@@ -12,8 +12,8 @@ use lib.ListN.{length}
 use Rattle.lists.specs.Lists.{allTo}
 use Rattle.lists.proofs.Every.{allTo-no}
 use Rattle.field.specs.Field.{q}
-use Rattle.message.specs.Bits.{bytesFor, padding, numberOf}
-use Rattle.message.specs.Lengths.{messageBits}
+use Rattle.settings.specs.Sizes.{bytesFor, messageBits}
+use Rattle.message.specs.Bits.{padding, numberOf}
 use Rattle.message.specs.Message.{headerIn, fieldIn, fieldsOk}
 use Rattle.message.specs.Fields.{firstBits, bitsAt}
 use Rattle.message.proofs.Numbers.{Bytes, first-all, first-lt}

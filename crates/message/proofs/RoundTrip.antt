@@ -15,8 +15,8 @@ use Rattle.lists.specs.Lists.{allBelow, listFrom}
 use Rattle.lists.proofs.Questions.{and-yes, skip}
 use Rattle.lists.proofs.Every.{below-at, below-more, allTo-yes}
 use Rattle.field.specs.Field.{q}
-use Rattle.message.specs.Bits.{bytesFor, padding, packed, numberOf}
-use Rattle.message.specs.Lengths.{headerBits, fieldBits, fieldCount, messageBits, messageLength}
+use Rattle.settings.specs.Sizes.{bytesFor, headerBits, fieldBits, fieldCount, messageBits, messageLength}
+use Rattle.message.specs.Bits.{padding, packed, numberOf}
 use Rattle.message.specs.Message.{headerNumber, fieldsBehind, messageOf, headerIn, fieldIn, fieldsOk, askForm}
 use Rattle.message.specs.Fields.{HeaderFits}
 use Rattle.message.specs.Theorems.{Sized, RoundTrip}

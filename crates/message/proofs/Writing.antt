@@ -14,8 +14,8 @@ use lib.Seq.{take-suc, take-length}
 use Rattle.lists.specs.Lists.{allBelow, fill, inFront}
 use Rattle.lists.proofs.Every.{below-at}
 use Rattle.lists.proofs.Lists.{prefix-is, getD-listTo}
-use Rattle.message.specs.Bits.{bytesFor, padding, packed}
-use Rattle.message.specs.Lengths.{fieldBits, headerBits, messageBits}
+use Rattle.settings.specs.Sizes.{bytesFor, fieldBits, headerBits, messageBits}
+use Rattle.message.specs.Bits.{padding, packed}
 use Rattle.message.specs.Message.{fieldsBehind, messageOf}
 use Rattle.message.specs.Fields.{firstBits, putBits, putFields, byteOf}
 use Rattle.message.proofs.Numbers.{Bytes, first-less, first-lt, byte-is}

@@ -4,7 +4,7 @@ use mathlib.Core.List.{List}
 use lib.ListN.{length}
 use Rattle.lists.specs.Lists.{inFront}
 use Rattle.message.specs.Bits.{packed, numberOf}
-use Rattle.message.specs.Lengths.{headerBits, messageBits}
+use Rattle.settings.specs.Sizes.{headerBits, messageBits}
 use Rattle.message.specs.Message.{fieldsBehind}
 use Rattle.message.specs.declared.Header.{Header}
 

@@ -7,9 +7,9 @@ use lib.ListN.{length}
 use Rattle.lists.specs.Answers.{ask}
 use Rattle.lists.specs.Lists.{allTo}
 use Rattle.field.specs.Field.{q}
-use Rattle.rounding.specs.Questions.{askSettings}
+use Rattle.settings.specs.Questions.{askSettings}
 use Rattle.message.specs.Bits.{padding, packed, numberOf}
-use Rattle.message.specs.Lengths.{roundOk, fieldBits, fieldCount, messageBits, messageLength}
+use Rattle.settings.specs.Sizes.{roundOk, fieldBits, fieldCount, messageBits, messageLength}
 
 -- "sender 1 bit, set 1, kind 1, N − 1 in 3, round 3, B 23, serial 32"
 unfoldable pub headerNumber : ℕ → ℕ → ℕ → ℕ → ℕ → ℕ → ℕ → ℕ

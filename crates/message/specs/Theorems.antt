@@ -6,8 +6,8 @@ use mathlib.Core.List.{List, [], _∷_}
 use lib.ListN.{length, getD}
 use Rattle.lists.specs.Lists.{allBelow}
 use Rattle.field.specs.Field.{q}
-use Rattle.message.specs.Bits.{bytesFor, padding, numberOf}
-use Rattle.message.specs.Lengths.{headerBits, fieldBits, fieldCount, messageBits}
+use Rattle.settings.specs.Sizes.{bytesFor, headerBits, fieldBits, fieldCount, messageBits}
+use Rattle.message.specs.Bits.{padding, numberOf}
 use Rattle.message.specs.Message.{headerNumber, messageOf, headerIn, fieldIn, fieldsOk, askForm}
 use Rattle.message.specs.Fields.{HeaderFits}
 

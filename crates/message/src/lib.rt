@@ -4,12 +4,12 @@ ghost use mathlib.Core.Bool.{true};
 ghost use Prim.Native.Nat.{_+_, _*_, _%_, _^_, _≤_, _<_};
 ghost use lib.ListN.{length};
 ghost use Rattle.lists.specs.Lists.{fill, inFront, allBelow};
-ghost use Rattle.message.specs.Bits.{bytesFor, padding, numberOf};
-ghost use Rattle.message.specs.Lengths.{openings, fieldBits, fieldCount, messageBits, messageLength};
+ghost use Rattle.settings.specs.Sizes.{bytesFor, openings, fieldBits, fieldCount, messageBits, messageLength};
+ghost use Rattle.message.specs.Bits.{padding, numberOf};
 ghost use Rattle.message.specs.Message.{headerNumber, messageOf, fieldIn, fieldsOk, askForm, formNo};
 ghost use Rattle.message.specs.Fields.{bitsAt, putBits, putFields, byteOf, headerWith, HeaderFits};
 use field::Q;
-use rounding::settings_no;
+use settings::settings_no;
 
 // An opening's fields: a share, and a check part under each of the receiver's keys, of which there is one.
 pub const FIELDS_PER_OPENING: usize = 2;

@@ -11,8 +11,8 @@ use Rattle.rounding.specs.declared.High.{High}
 use Rattle.rounding.specs.declared.High.the-variants as High
 use Rattle.rounding.specs.declared.Low.{Low}
 use Rattle.rounding.specs.declared.Low.the-variants as Low
-use Rattle.rounding.specs.Sets.{scaleOf}
-use Rattle.rounding.specs.Questions.{isBit}
+use Rattle.settings.specs.Sets.{scaleOf}
+use Rattle.settings.specs.Questions.{isBit}
 use Rattle.rounding.specs.Plain.{highPart, lowPart}
 use Rattle.rounding.specs.Calls.{partNo, highCall, lowCall}
 

@@ -13,11 +13,11 @@ use Rattle.field.specs.Field.{sub}
 use Rattle.field.proofs.Division.{Split, Mod, mod-same, mod-less, mod-view}
 use Rattle.field.proofs.Congruence.{≈-lt}
 use Rattle.field.proofs.Solve.{at, _⊕_, _⊖_, red, solve}
-use Rattle.rounding.specs.Sets.{Scale, base}
+use Rattle.settings.specs.Sets.{Scale, base}
 use Rattle.rounding.specs.Plain.{centred, inside}
 use Rattle.rounding.specs.Digits.{digit}
 use Rattle.rounding.specs.Rounds.{unit, threshold, belowUpTo, insideResult}
-use Rattle.rounding.specs.Theorems.{Lawful}
+use Rattle.settings.specs.Theorems.{Lawful}
 use Rattle.rounding.proofs.Differences.{sub-neg}
 use Rattle.rounding.proofs.Radix.{mod-unit, any-digit, base-pos, unit-pos, unit-alpha}
 

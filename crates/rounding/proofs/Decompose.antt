@@ -9,9 +9,10 @@ use lib.Arith.{digits-div, digits-mod}
 use lib.Dec.{eqb}
 use lib.IntN.{ℤ, pos, negsuc, subℕ, _+ℤ_, _-ℤ_, _*ℤ_}
 use borrow.Author.Tests.{le-leb, lt-leb, eq-eqb, ne-eqb}
-use Rattle.rounding.specs.Sets.{Scale}
+use Rattle.settings.specs.Sets.{Scale}
 use Rattle.rounding.specs.Plain.{shifted, highOfShifted, highPart, lowPart, centredBy, Decomposed, decomposeBy, decompose}
-use Rattle.rounding.specs.Theorems.{Lawful, residue}
+use Rattle.settings.specs.Theorems.{Lawful}
+use Rattle.rounding.specs.Theorems.{residue}
 use Rattle.rounding.proofs.Differences.{sub-pos, sub-neg, take, give, less-one}
 
 -- the low part worked out from w′, as the code does

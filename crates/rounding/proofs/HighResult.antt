@@ -10,10 +10,10 @@ use Rattle.lists.proofs.Indicators.{Lt, lt-is, lt-no, lt-view, lt-one, lt-zero,
 use Rattle.field.specs.Field.{sub}
 use Rattle.field.specs.Sums.{sumTo}
 use Rattle.field.proofs.Division.{Split, split, split-div, Mod, mod-same, mod-less, mod-view, unmask, mod-sub}
-use Rattle.rounding.specs.Sets.{Scale}
+use Rattle.settings.specs.Sets.{Scale}
 use Rattle.rounding.specs.Plain.{shifted, highOfShifted, highPart}
 use Rattle.rounding.specs.Rounds.{unit, zeroDigit, topSum, top, over, missing, gap, checkOpens, checkResult, wrapOf, highResult}
-use Rattle.rounding.specs.Theorems.{Lawful}
+use Rattle.settings.specs.Theorems.{Lawful}
 use Rattle.rounding.proofs.Radix.{unit-alpha, top-is, Zeros, all-zero, some-not, zeros-view}
 use Rattle.rounding.proofs.ZeroCheck.{check-is}
 

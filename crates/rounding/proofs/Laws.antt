@@ -1,6 +1,5 @@
 -- The laws of the plain arithmetic, all together.
 use Rattle.rounding.specs.Theorems.{T0}
-use Rattle.rounding.proofs.Sets.{lawful}
 use Rattle.rounding.proofs.Decompose.{high-is, join-is}
 use Rattle.rounding.proofs.Radix.{digits-join, digit-below, carry-next, zero-is, top-is}
 use Rattle.rounding.proofs.ZeroCheck.{check-is}
@@ -10,7 +9,6 @@ use Rattle.rounding.proofs.BoundResult.{compare-is, inside-is}
 pub rounding-laws : T0
 rounding-laws =
     record {
-      sets = lawful;
       high = high-is;
       join = join-is;
       digits = digits-join;

@@ -1,5 +1,4 @@
--- Laws of the constants, of the plain meaning and of what the rounds compute.
-pub mod Sets
+-- Laws of the plain meaning and of what the rounds compute.
 pub mod Signed
 pub mod Differences
 pub mod Decompose

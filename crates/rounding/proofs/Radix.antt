@@ -12,10 +12,10 @@ use Rattle.field.specs.Congruence.{_⊩_≈_}
 use Rattle.field.specs.Sums.{sumTo}
 use Rattle.field.proofs.Division.{Split, split, split-div, split-mod}
 use Rattle.field.proofs.Congruence.{≈-refl, ≈-eq, ≈-trans, ≈-add, ≈-unmod}
-use Rattle.rounding.specs.Sets.{Scale, base}
+use Rattle.settings.specs.Sets.{Scale, base}
 use Rattle.rounding.specs.Digits.{digitsOf, digit}
 use Rattle.rounding.specs.Rounds.{unit, carryInto, zeroDigit, topSum}
-use Rattle.rounding.specs.Theorems.{Lawful}
+use Rattle.settings.specs.Theorems.{Lawful}
 
 -- ---- one digit, of b values, above a unit u
 

@@ -13,8 +13,8 @@ use Rattle.rounding.specs.declared.Low.{Low}
 use Rattle.rounding.specs.declared.Low.the-variants as Low
 use Rattle.rounding.specs.declared.Verdict.{Verdict}
 use Rattle.rounding.specs.declared.Verdict.the-variants as Verdict
-use Rattle.rounding.specs.Sets.{scaleOf}
-use Rattle.rounding.specs.Questions.{isBit, countOk, boundOk}
+use Rattle.settings.specs.Sets.{scaleOf}
+use Rattle.settings.specs.Questions.{isBit, countOk, boundOk}
 use Rattle.rounding.specs.Plain.{highPart, lowPart, verdict}
 
 -- "Plain: 1, 3 (verdict), 6"

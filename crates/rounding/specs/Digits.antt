@@ -3,7 +3,7 @@ use Prim.Native.Nat.{ℕ, _/_, _%_}
 use mathlib.Core.List.{List, [], _∷_}
 use lib.ListN.{getD}
 use Rattle.rounding.specs.declared.Split.{Split}
-use Rattle.rounding.specs.Sets.{Scale, base}
+use Rattle.settings.specs.Sets.{Scale, base}
 
 -- "five digit bases, lowest first", "digit 4: 0 to s": the four lowest digits by their bases, then what is left
 unfoldable pub digitsOf : Scale → ℕ → List ℕ

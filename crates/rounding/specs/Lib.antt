@@ -1,6 +1,4 @@
--- Constants, questions, plain meaning, digits, and what the rounds compute in plain numbers.
-pub mod Sets
-pub mod Questions
+-- Plain meaning, digits, and what the rounds compute in plain numbers.
 pub mod Plain
 pub mod Digits
 pub mod Rounds

@@ -7,7 +7,7 @@ use lib.IntN.{ℤ, pos, negsuc, natAbs, subℕ, _-ℤ_}
 use lib.Signed.{quotZ}
 use Rattle.lists.specs.Answers.{bit}
 use Rattle.lists.specs.Lists.{every}
-use Rattle.rounding.specs.Sets.{Scale}
+use Rattle.settings.specs.Sets.{Scale}
 
 -- "w′ = (w + α/2 − 1) mod q"
 abbrev pub shifted : Scale → ℕ → ℕ

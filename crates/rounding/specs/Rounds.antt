@@ -5,7 +5,7 @@ use lib.Dec.{eqb, ltb}
 use Rattle.lists.specs.Answers.{bit}
 use Rattle.field.specs.Field.{add, sub}
 use Rattle.field.specs.Sums.{sumTo}
-use Rattle.rounding.specs.Sets.{Scale, base}
+use Rattle.settings.specs.Sets.{Scale, base}
 use Rattle.rounding.specs.Digits.{digit}
 
 -- ---- HIGH: the digits of y + r, from those of y and r

@@ -1,4 +1,4 @@
--- What is proved of the plain arithmetic, as types: for every lawful scale, and that both sets are lawful.
+-- What is proved of the plain arithmetic, as types: for every lawful scale (both sets are: settings/specs/Theorems).
 use Prim.Native.Nat.{ℕ, suc, _+_, _*_, _-_, _/_, _%_, _<_, _≤_}
 use mathlib.Core.Path.{_≡_}
 use mathlib.Core.List.{List, [], _∷_}
@@ -6,22 +6,11 @@ use lib.Dec.{eqb, leb, ltb}
 use lib.IntN.{ℤ, pos, negsuc, _*ℤ_, _+ℤ_}
 use Rattle.lists.specs.Answers.{bit}
 use Rattle.field.specs.Field.{sub}
-use Rattle.rounding.specs.Sets.{Scale, scaleOf, base}
+use Rattle.settings.specs.Sets.{Scale, base}
+use Rattle.settings.specs.Theorems.{Lawful}
 use Rattle.rounding.specs.Plain.{shifted, highPart, lowPart, decompose, inside}
 use Rattle.rounding.specs.Digits.{digit}
 use Rattle.rounding.specs.Rounds.{unit, carryInto, zeroDigit, topSum, gap, checkOpens, checkResult, highResult, threshold, belowUpTo, insideResult}
-
--- all that the arguments may use of the modulus, α, s and the bases
-pub record Lawful (p : Scale) : Type 0 where
-  -- "the first four bases multiply to α"; "digit 4: 0 to s"; "s × α = q − 1"
-  pub steps : base p 0 * base p 1 * base p 2 * base p 3 ≡ p .alpha
-  pub last : base p 4 ≡ p .parts + 1
-  pub whole : p .modulus ≡ p .parts * p .alpha + 1
-  pub even : p .alpha ≡ 2 * (p .alpha / 2)
-  pub some-parts : 1 ≤ p .parts
-  pub some-alpha : 1 ≤ p .alpha
-  -- the zero check with K = 5
-  pub checks : p .modulus % 6 ≤ gap (p .modulus) 5
 
 -- the remainder of a signed number by m
 abbrev pub residue : ℕ → ℤ → ℕ
@@ -29,8 +18,6 @@ residue m (pos x) = x % m
 residue m (negsuc x) = (m - suc x % m) % m
 
 pub record T0 : Type 0 where
-  -- one argument serves both sets
-  pub sets : (set : ℕ) → set < 2 → Lawful (scaleOf set)
   -- 01's high part is Decompose's (its low part is by definition); high × α + low is w modulo q
   pub high : (p : Scale) → Lawful p → (w : ℕ) → w < p .modulus → pos (highPart p w) ≡ decompose p w .high
   pub join : (p : Scale) → Lawful p → (w : ℕ) → w < p .modulus → residue (p .modulus) (pos (highPart p w) *ℤ pos (p .alpha) +ℤ lowPart p w) ≡ w

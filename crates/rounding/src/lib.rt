@@ -4,21 +4,19 @@ ghost use Prim.Native.Nat.{_+_, _-_, _/_, _%_, _<_, _≤_};
 ghost use lib.IntN.{subℕ, natAbs};
 ghost use Rattle.lists.specs.Lists.{every};
 ghost use Rattle.field.specs.Field.{q};
-ghost use Rattle.rounding.specs.Sets.{scaleOf, base};
-ghost use Rattle.rounding.specs.Questions.{boundOk, keyOk, askSettings};
+ghost use Rattle.settings.specs.Sets.{scaleOf};
 ghost use Rattle.rounding.specs.Plain.{highPart, lowPart, centred, inside};
 ghost use Rattle.rounding.specs.Digits.{splitOf};
 ghost use Rattle.rounding.specs.Calls.{partNo, verdictNo, highCall, lowCall, verdictCall};
 use field::Q;
 use field::all_below_q;
-
-// Set by digit: how many values each digit has.
-const BASES: [[u32; 5]; 2] = [[16, 16, 24, 31, 45], [16, 32, 31, 33, 17]];
-
-// By set: the step α, and s.
-const ALPHAS: [u32; 2] = [190464, 523776];
-
-const PARTS: [u32; 2] = [44, 16];
+use settings::COUNT;
+use settings::BOUND;
+use settings::NOT_BELOW_Q;
+use settings::SIDE_SET_OR_KIND;
+use settings::alpha_of;
+use settings::base_of;
+use settings::bound_ok;
 
 // A number and its five digits, lowest first.
 pub struct Split {
@@ -44,31 +42,7 @@ pub enum Verdict {
     No(u32),
 }
 
-// ---- Constants and digits, for the calls below and for crates book and column, which ask question 1 first.
-
-// How many values a digit has.
-pub fn base_of(set: usize, digit: usize) -> u32
-    requires { ⌜ (set < 2) × (digit < 5) ⌝ }
-    ensures { λ r. ⌜ (r ≡ base (scaleOf set) digit) × (1 ≤ r) × (r ≤ 45) ⌝ }
-{
-    BASES[set][digit]
-}
-
-// The step α.
-pub fn alpha_of(set: usize) -> u32
-    requires { ⌜ set < 2 ⌝ }
-    ensures { λ r. ⌜ (r ≡ scaleOf set .alpha) × (2 ≤ r) × (r ≤ 523776) ⌝ }
-{
-    ALPHAS[set]
-}
-
-// The parts s.
-pub fn parts_of(set: usize) -> u32
-    requires { ⌜ set < 2 ⌝ }
-    ensures { λ r. ⌜ (r ≡ scaleOf set .parts) × (1 ≤ r) × (r ≤ 44) ⌝ }
-{
-    PARTS[set]
-}
+// ---- Digits, for the crates above, which ask question 1 first
 
 // A number and its five digits, by the bases that the table has for the set.
 fn split_by(set: usize, x: u32) -> Split
@@ -100,56 +74,6 @@ pub fn split_number(set: usize, x: u32) -> Split
     split_by(1, x)
 }
 
-// ---- Questions that several calls ask
-
-// Question 3.
-pub fn bound_ok(kind: u32, bound: u32) -> bool
-    ensures { λ r. ⌜ r ≡ boundOk kind bound ⌝ }
-{
-    if kind == 0 {
-        return bound == 0;
-    }
-    if bound < 1 {
-        return false;
-    }
-    bound <= 4190208
-}
-
-// Question 4, of one key.
-pub fn key_ok(key: u32) -> bool
-    ensures { λ r. ⌜ r ≡ keyOk key ⌝ }
-{
-    if key < 1 {
-        return false;
-    }
-    key < Q
-}
-
-// Questions 1 to 3: the first no, or 0.
-pub fn settings_no(number: u32, set: u32, kind: u32, n: u32, bound: u32) -> u32
-    ensures { λ r. ⌜ r ≡ askSettings number set kind n bound 0 ⌝ }
-{
-    if number >= 2 {
-        return 1;
-    }
-    if set >= 2 {
-        return 1;
-    }
-    if kind >= 2 {
-        return 1;
-    }
-    if n < 1 {
-        return 2;
-    }
-    if n > 8 {
-        return 2;
-    }
-    if !bound_ok(kind, bound) {
-        return 3;
-    }
-    0
-}
-
 // ---- High and low part
 
 // The first no of a call for a part, or 0.
@@ -157,10 +81,10 @@ fn part_no(set: u32, w: u32) -> u32
     ensures { λ r. ⌜ r ≡ partNo set w ⌝ }
 {
     if set >= 2 {
-        return 1;
+        return SIDE_SET_OR_KIND;
     }
     if w >= Q {
-        return 6;
+        return NOT_BELOW_Q;
     }
     0
 }
@@ -286,19 +210,19 @@ fn verdict_no(set: u32, bound: u32, numbers: &[u32]) -> u32
     ensures { λ r. ⌜ r ≡ verdictNo set bound (now (numbers .entry)) ⌝ }
 {
     if set >= 2 {
-        return 1;
+        return SIDE_SET_OR_KIND;
     }
     if numbers.len() < 1 {
-        return 2;
+        return COUNT;
     }
     if numbers.len() > 8 {
-        return 2;
+        return COUNT;
     }
     if !bound_ok(1, bound) {
-        return 3;
+        return BOUND;
     }
     if !all_below_q(numbers) {
-        return 6;
+        return NOT_BELOW_Q;
     }
     0
 }

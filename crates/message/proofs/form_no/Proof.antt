@@ -2,8 +2,7 @@
 use Rattle.message.proofs.Form.{other-fits, number-is, length-stop, header-stop, fields-stop, form-yes}
 use Rattle.message.proofs.Reading.{header-at}
 use Rattle.message.proofs.Numbers.{Bytes}
-use Rattle.message.specs.Lengths.{messageBits}
-use Rattle.message.specs.Bits.{bytesFor}
+use Rattle.settings.specs.Sizes.{messageBits, bytesFor}
 use Rattle.lists.proofs.Questions.{told-yes, told-no}
 use lib.ListN.{length}
 use native.Mathlib.Omega.{arith}

@@ -1,6 +1,7 @@
 -- `message::get_bits` meets its contract.
 use Rattle.message.proofs.Numbers.{one-shl, bits-local}
-use Rattle.message.specs.Bits.{bytesFor, padding}
+use Rattle.settings.specs.Sizes.{bytesFor}
+use Rattle.message.specs.Bits.{padding}
 use lib.Pow.{pow-pos, pow-mono}
 use native.Mathlib.Nat.{mod-lt, lt-of-lt-of-le}
 use native.Mathlib.Omega.{arith}

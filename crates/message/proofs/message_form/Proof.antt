@@ -4,7 +4,7 @@ use Rattle.message.specs.Message.{formNo}
 use Rattle.lists.proofs.Questions.{walk}
 use mathlib.Core.Path.{sym, _∙_}
 use native.Mathlib.Omega.{arith}
-use Rattle.rounding.proofs.Ready.{settings-ready}
+use Rattle.settings.proofs.Ready.{settings-ready}
 use borrow.Author.Needs.{needs}
 use Rattle.message.proofs.message_form.Statement.{statement}
 use Rattle.message.proofs.message_form.Tie as tie

@@ -7,8 +7,8 @@ use borrow.Author.Needs.{sfits-of}
 use borrow.Author.Tests.{eq-eqb, ne-eqb}
 use mir.Syntax.{w32}
 use mir.Facts.{toZ-ofZ}
-use Rattle.rounding.specs.Sets.{scaleOf}
-use Rattle.rounding.proofs.Sets.{lawful}
+use Rattle.settings.specs.Sets.{scaleOf}
+use Rattle.settings.proofs.Sets.{lawful}
 use Rattle.rounding.proofs.Decompose.{lowByShift, low-is}
 use Rattle.rounding.proofs.low_by.Statement.{statement}
 use Rattle.rounding.proofs.low_by.Tie as tie

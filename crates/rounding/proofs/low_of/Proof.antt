@@ -3,7 +3,7 @@ use borrow.Author.Needs.{needs}
 use mathlib.Core.Path.{_≡_, sym, ap, _∙_}
 use Prim.Native.Nat.{ℕ}
 use native.Mathlib.Omega.{arith}
-use Rattle.rounding.specs.Sets.{scaleOf}
+use Rattle.settings.specs.Sets.{scaleOf}
 use borrow.Author.Needs.{sfits-of}
 use mir.Syntax.{w32}
 use mir.Facts.{toZ-ofZ}

@@ -1,8 +1,0 @@
--- `rounding::bound_ok` meets its contract.
-use borrow.Author.Needs.{needs}
-use Rattle.lists.proofs.Questions.{walk}
-use Rattle.rounding.proofs.bound_ok.Statement.{statement}
-use Rattle.rounding.proofs.bound_ok.Tie as tie
-
-pub bound-ok-spec : {M : Type 1} → statement M
-bound-ok-spec = tie.close (tie.spec (λ c. search walk) (λ c. search walk) (λ c. search walk))

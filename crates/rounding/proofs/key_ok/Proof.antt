@@ -1,8 +1,0 @@
--- `rounding::key_ok` meets its contract.
-use borrow.Author.Needs.{needs}
-use Rattle.lists.proofs.Questions.{walk}
-use Rattle.rounding.proofs.key_ok.Statement.{statement}
-use Rattle.rounding.proofs.key_ok.Tie as tie
-
-pub key-ok-spec : {M : Type 1} → statement M
-key-ok-spec = tie.close (tie.spec (λ c. search walk) (λ c. search walk))

@@ -1,0 +1,24 @@
+-- Settings: the structs of the code, and what the arithmetic of a run takes from them.
+use Prim.Native.Nat.{ℕ}
+use Rattle.settings.specs.declared.Shape.{Shape}
+use Rattle.settings.specs.declared.Settings.{Settings}
+use Rattle.settings.specs.Sets.{Scale, scaleOf}
+
+-- what the places and steps of a run depend on: the constants of its set, its kind and N. A deal and a stock know no more
+pub record Params : Type 0 where
+  pub scale : Scale
+  pub kind : ℕ
+  pub n : ℕ
+
+-- and B
+pub record Terms : Type 0 where
+  pub params : Params
+  pub bound : ℕ
+
+-- the same of a set by its number
+abbrev pub paramsOf : Shape → Params
+paramsOf a = record { scale = scaleOf (a .set); kind = a .kind; n = a .n }
+
+-- "Settings are set, kind, N and B"
+abbrev pub termsOf : Settings → Terms
+termsOf s = record { params = paramsOf (s .shape); bound = s .bound }

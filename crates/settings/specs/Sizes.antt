@@ -1,0 +1,117 @@
+-- Every size that follows from the settings, k keys a side.
+use Prim.Native.Nat.{ℕ, _+_, _*_, _/_}
+use mathlib.Core.Bool.{Bool, cond, _&&_}
+use lib.Dec.{eqb, leb}
+use Rattle.field.specs.Sums.{sumTo}
+use Rattle.settings.specs.declared.Shape.{Shape}
+use Rattle.settings.specs.Sets.{base}
+use Rattle.settings.specs.Settings.{Params, paramsOf}
+use Rattle.settings.specs.Questions.{shapeOk}
+
+-- ---- Keys
+
+-- "key0 is the server's key, key1 the phone's": keys a side
+abbrev pub keyCount : ℕ
+keyCount = 1
+
+-- "A shared number is three numbers on each side": the share, and a part under each of the k keys of either side
+abbrev pub widthOf : ℕ → ℕ
+widthOf k = 1 + 2 * k
+
+-- ---- Openings and messages
+
+-- "round 1 to 7"
+abbrev pub roundOk : ℕ → Bool
+roundOk round = leb 1 round && leb round 7
+
+-- "Openings in all: 19N or 17N + 2": N in round 1, 4N in rounds 2 to 5, then N and N, or 1 and 1
+unfoldable pub openings : Params → ℕ → ℕ
+openings p round =
+    cond (eqb round 1) (p .n)
+    (cond (leb round 5) (4 * p .n)
+    (cond (eqb (p .kind) 0) (p .n) 1))
+
+-- the openings of the first rounds
+unfoldable pub openingsUpTo : Params → ℕ → ℕ
+openingsUpTo p rounds = sumTo rounds (λ (r : ℕ). openings p (r + 1))
+
+-- "sender 1 bit, set 1, kind 1, N − 1 in 3, round 3, B 23, serial 32"
+abbrev pub headerBits : ℕ
+headerBits = 64
+
+-- "share 23 bits and check part 23"
+abbrev pub fieldBits : ℕ
+fieldBits = 23
+
+-- "Then for each opening .. share .. and check part": a share, and a part under each of the receiver's k keys
+abbrev pub fieldCount : ℕ → Params → ℕ → ℕ
+fieldCount k p round = (1 + k) * openings p round
+
+abbrev pub messageBits : ℕ → ℕ
+messageBits fields = headerBits + fieldBits * fields
+
+-- the bytes that hold so many bits
+abbrev pub bytesFor : ℕ → ℕ
+bytesFor bits = (bits + 7) / 8
+
+-- the length of a round's message, in bytes
+unfoldable pub messageLength : ℕ → Params → ℕ → ℕ
+messageLength k p round = bytesFor (messageBits (fieldCount k p round))
+
+-- ---- Books and draws
+
+-- shared numbers for one coefficient: mask, vectors, eight triples; "and, for HIGH, a zero-check group with K = 5"
+unfoldable pub stride : Params → ℕ
+stride p = 1 + sumTo 5 (base (p .scale)) + 24 + cond (eqb (p .kind) 0) 8 0
+
+-- "So HIGH holds 165N shared numbers in set 0, 162N in set 1; BOUND holds 158N + 3 or 155N + 3" (a group with K = N at the end)
+unfoldable pub shared : Params → ℕ
+shared p = p .n * stride p + cond (eqb (p .kind) 0) 0 (p .n + 3)
+
+-- how many zero-check groups a book has
+abbrev pub groups : Params → ℕ
+groups p = cond (eqb (p .kind) 0) (p .n) 1
+
+-- "The dealer's draw is every r, a, b, ρ": drawn numbers of a book
+abbrev pub drawnNumbers : Params → ℕ
+drawnNumbers p = 17 * p .n + groups p
+
+-- ".. and the phone's three numbers for every shared number of the book": how many numbers a draw has
+unfoldable pub drawLength : ℕ → Params → ℕ
+drawLength width p = shared p * width + drawnNumbers p
+
+-- ---- A side's slices
+
+-- places of a column of the working slice: one number of each shared number
+abbrev pub places : ℕ
+places = 1536
+
+-- "working slice 4,608 numbers"
+abbrev pub workLength : ℕ → ℕ
+workLength k = widthOf k * places
+
+-- places of an answer: "N places for HIGH, 1 for BOUND"
+unfoldable pub answerPlaces : Params → ℕ
+answerPlaces p = cond (eqb (p .kind) 0) (p .n) 1
+
+-- ---- What a caller sizes slices by, with the keys a side that the product has: 0 where question 1 or 2 says no of the shape
+
+abbrev pub sized : Shape → ℕ → ℕ
+sized a size = cond (shapeOk a) size 0
+
+-- a message's bytes; 0 also where there is no such round
+unfoldable pub messageSize : Shape → ℕ → ℕ
+messageSize a round = sized a (cond (roundOk round) (messageLength keyCount (paramsOf a) round) 0)
+
+-- a book's numbers, a draw's, and those of a side's inputs
+unfoldable pub bookSize : Shape → ℕ
+bookSize a = sized a (shared (paramsOf a) * widthOf keyCount)
+
+unfoldable pub drawSize : Shape → ℕ
+drawSize a = sized a (drawLength (widthOf keyCount) (paramsOf a))
+
+unfoldable pub inputSize : Shape → ℕ
+inputSize a = sized a (a .n * widthOf keyCount)
+
+unfoldable pub answerSize : Shape → ℕ
+answerSize a = sized a (answerPlaces (paramsOf a))

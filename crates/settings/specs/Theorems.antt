@@ -1,0 +1,42 @@
+-- What is proved of the constants and the sizes, as types.
+use Prim.Native.Nat.{ℕ, _+_, _*_, _/_, _%_, _<_, _≤_}
+use mathlib.Core.Path.{_≡_}
+use Rattle.settings.specs.declared.Shape.{Shape}
+use Rattle.settings.specs.Sets.{Scale, scaleOf, base}
+use Rattle.settings.specs.Settings.{Params, paramsOf}
+use Rattle.settings.specs.Questions.{ShapeReady}
+use Rattle.settings.specs.Sizes.{widthOf, openingsUpTo, shared, drawLength, workLength}
+
+-- all that the arguments may use of the modulus, α, s and the bases
+pub record Lawful (p : Scale) : Type 0 where
+  -- "the first four bases multiply to α"; "digit 4: 0 to s"; "s × α = q − 1"
+  pub steps : base p 0 * base p 1 * base p 2 * base p 3 ≡ p .alpha
+  pub last : base p 4 ≡ p .parts + 1
+  pub whole : p .modulus ≡ p .parts * p .alpha + 1
+  pub even : p .alpha ≡ 2 * (p .alpha / 2)
+  pub some-parts : 1 ≤ p .parts
+  pub some-alpha : 1 ≤ p .alpha
+  -- the zero check with K = 5
+  pub checks : p .modulus % 6 ≤ p .modulus / 6
+
+abbrev shapeOf : ℕ → ℕ → ℕ → Params
+shapeOf set kind n = record { scale = scaleOf set; kind = kind; n = n }
+
+pub record SizeLaws : Type 0 where
+  -- one argument serves both sets
+  pub sets : (set : ℕ) → set < 2 → Lawful (scaleOf set)
+  -- "HIGH holds 165N shared numbers in set 0, 162N in set 1; BOUND holds 158N + 3 or 155N + 3"
+  pub high-0 : (n : ℕ) → shared (shapeOf 0 0 n) ≡ 165 * n
+  pub high-1 : (n : ℕ) → shared (shapeOf 1 0 n) ≡ 162 * n
+  pub bound-0 : (n : ℕ) → shared (shapeOf 0 1 n) ≡ 158 * n + 3
+  pub bound-1 : (n : ℕ) → shared (shapeOf 1 1 n) ≡ 155 * n + 3
+  -- "every r, a, b, ρ and the phone's three numbers"
+  pub high-draw : (set n : ℕ) → drawLength (widthOf 1) (shapeOf set 0 n) ≡ 3 * shared (shapeOf set 0 n) + 18 * n
+  pub bound-draw : (set n : ℕ) → drawLength (widthOf 1) (shapeOf set 1 n) ≡ 3 * shared (shapeOf set 1 n) + (17 * n + 1)
+  -- "Openings in all: 19N or 17N + 2"
+  pub high-openings : (set n : ℕ) → openingsUpTo (shapeOf set 0 n) 7 ≡ 19 * n
+  pub bound-openings : (set n : ℕ) → openingsUpTo (shapeOf set 1 n) 7 ≡ 17 * n + 2
+  -- "working slice 4,608 numbers"
+  pub work : workLength 1 ≡ 4608
+  -- a book fits a column
+  pub at-most : (a : Shape) → ShapeReady a → shared (paramsOf a) ≤ 1320

@@ -1,0 +1,343 @@
+// What a run is agreed on: the constants of the sets, the settings, the questions about them with their refusal numbers, and every size
+// that follows.
+ghost use mathlib.Core.Path.{_≡_};
+ghost use Prim.Native.Nat.{_+_, _*_, _≤_, _<_};
+ghost use Rattle.field.specs.Sums.{sumTo};
+ghost use Rattle.settings.specs.Sets.{scaleOf, base};
+ghost use Rattle.settings.specs.Settings.{paramsOf};
+ghost use Rattle.settings.specs.Questions.{boundOk, keyOk, keysOk, askShape, askSettings, shapeOk, ShapeReady};
+ghost use Rattle.settings.specs.Sizes.{keyCount, widthOf, openings, fieldCount, messageBits, bytesFor, messageLength, stride, shared, drawLength, answerPlaces, messageSize, bookSize, drawSize, inputSize, answerSize};
+use field::Q;
+
+// ---- Settings
+
+// What a book is for: the set, the kind (0 HIGH, 1 BOUND) and N.
+pub struct Shape {
+    pub set: u32,
+    pub kind: u32,
+    pub n: u32,
+}
+
+// What a run is for: the shape of its books, and the bound B.
+pub struct Settings {
+    pub shape: Shape,
+    pub bound: u32,
+}
+
+// ---- Refusal numbers, by the questions
+
+pub const SIDE_SET_OR_KIND: u32 = 1;
+
+pub const COUNT: u32 = 2;
+
+pub const BOUND: u32 = 3;
+
+pub const KEY: u32 = 4;
+
+pub const LENGTH: u32 = 5;
+
+pub const NOT_BELOW_Q: u32 = 6;
+
+pub const SERIAL: u32 = 7;
+
+pub const NOT_DUE: u32 = 8;
+
+pub const NO_ROOM: u32 = 9;
+
+pub const MESSAGE_LENGTH: u32 = 10;
+
+pub const HEADER: u32 = 11;
+
+pub const FIELDS: u32 = 12;
+
+pub const FAILED_CHECK: u32 = 13;
+
+pub const NO_BOOK: u32 = 14;
+
+// ---- The number of keys a side, and what follows from it alone
+
+pub const KEYS: usize = 1;
+
+// Numbers of a shared number on one side: the share, and a part under each key of either side.
+pub const WIDTH: usize = 1 + 2 * KEYS;
+
+// Fields of an opening in a message: a share, and a check part under each of the receiver's keys.
+pub const FIELDS_PER_OPENING: usize = 1 + KEYS;
+
+// Places of a column, and numbers of a working slice: a column for each number of a shared number.
+pub const PLACES: usize = 1536;
+
+pub const WORK_LENGTH: usize = WIDTH * PLACES;
+
+// Bits of a message's header and of a field.
+pub const HEADER_BITS: usize = 64;
+
+pub const FIELD_BITS: usize = 23;
+
+// The most openings of a round, and fields of a message.
+pub const MOST_OPENINGS: usize = 32;
+
+pub const MOST_FIELDS: usize = FIELDS_PER_OPENING * MOST_OPENINGS;
+
+// ---- Constants of the sets, for the crates above, which ask question 1 first
+
+// Set by digit: how many values each digit has.
+const BASES: [[u32; 5]; 2] = [[16, 16, 24, 31, 45], [16, 32, 31, 33, 17]];
+
+// By set: the step α, and s.
+const ALPHAS: [u32; 2] = [190464, 523776];
+
+const PARTS: [u32; 2] = [44, 16];
+
+// How many values a digit has.
+pub fn base_of(set: usize, digit: usize) -> u32
+    requires { ⌜ (set < 2) × (digit < 5) ⌝ }
+    ensures { λ r. ⌜ (r ≡ base (scaleOf set) digit) × (1 ≤ r) × (r ≤ 45) ⌝ }
+{
+    BASES[set][digit]
+}
+
+// The step α.
+pub fn alpha_of(set: usize) -> u32
+    requires { ⌜ set < 2 ⌝ }
+    ensures { λ r. ⌜ (r ≡ scaleOf set .alpha) × (2 ≤ r) × (r ≤ 523776) ⌝ }
+{
+    ALPHAS[set]
+}
+
+// The parts s.
+pub fn parts_of(set: usize) -> u32
+    requires { ⌜ set < 2 ⌝ }
+    ensures { λ r. ⌜ (r ≡ scaleOf set .parts) × (1 ≤ r) × (r ≤ 44) ⌝ }
+{
+    PARTS[set]
+}
+
+// ---- Questions that several calls ask
+
+// Question 3.
+pub fn bound_ok(kind: u32, bound: u32) -> bool
+    ensures { λ r. ⌜ r ≡ boundOk kind bound ⌝ }
+{
+    if kind == 0 {
+        return bound == 0;
+    }
+    if bound < 1 {
+        return false;
+    }
+    bound <= 4190208
+}
+
+// Question 4, of one key.
+fn key_ok(key: u32) -> bool
+    ensures { λ r. ⌜ r ≡ keyOk key ⌝ }
+{
+    if key < 1 {
+        return false;
+    }
+    key < Q
+}
+
+// Questions 1 and 2: the first no, or 0.
+pub fn shape_no(shape: Shape) -> u32
+    ensures { λ r. ⌜ r ≡ askShape shape 0 ⌝ }
+{
+    if shape.set >= 2 {
+        return SIDE_SET_OR_KIND;
+    }
+    if shape.kind >= 2 {
+        return SIDE_SET_OR_KIND;
+    }
+    if shape.n < 1 {
+        return COUNT;
+    }
+    if shape.n > 8 {
+        return COUNT;
+    }
+    0
+}
+
+// Questions 1 to 3 of a side's number and its settings: the first no, or 0.
+pub fn settings_no(number: u32, settings: Settings) -> u32
+    ensures { λ r. ⌜ r ≡ askSettings number settings 0 ⌝ }
+{
+    if number >= 2 {
+        return SIDE_SET_OR_KIND;
+    }
+    let shape = settings.shape;
+    let no = shape_no(shape);
+    if no != 0 {
+        return no;
+    }
+    if !bound_ok(shape.kind, settings.bound) {
+        return BOUND;
+    }
+    0
+}
+
+// ---- Sizes, for the crates above, which ask questions 1 and 2 first
+
+// How many openings a round has.
+pub fn openings_in(shape: Shape, round: u32) -> u32
+    requires { ⌜ shape .n ≤ 8 ⌝ }
+    ensures { λ r. ⌜ (r ≡ openings (paramsOf shape) round) × (r ≤ 32) ⌝ }
+{
+    if round == 1 {
+        return shape.n;
+    }
+    if round <= 5 {
+        return 4 * shape.n;
+    }
+    if shape.kind == 0 {
+        return shape.n;
+    }
+    1
+}
+
+// How many fields a round's message has.
+pub fn field_count(shape: Shape, round: u32) -> usize
+    requires { ⌜ shape .n ≤ 8 ⌝ }
+    ensures { λ r. ⌜ (r ≡ fieldCount keyCount (paramsOf shape) round) × (r ≤ (1 + keyCount) * 32) ⌝ }
+{
+    FIELDS_PER_OPENING * openings_in(shape, round) as usize
+}
+
+// The length in bytes of a message with so many fields.
+pub fn length_of(fields: usize) -> usize
+    requires { ⌜ fields ≤ (1 + keyCount) * 32 ⌝ }
+    ensures { λ r. ⌜ r ≡ bytesFor (messageBits fields) ⌝ }
+{
+    (HEADER_BITS + FIELD_BITS * fields + 7) / 8
+}
+
+// The length in bytes of a round's message.
+pub fn message_length(shape: Shape, round: u32) -> usize
+    requires { ⌜ shape .n ≤ 8 ⌝ }
+    ensures { λ r. ⌜ r ≡ messageLength keyCount (paramsOf shape) round ⌝ }
+{
+    length_of(field_count(shape, round))
+}
+
+// The numbers of the five digits' vectors, together.
+fn vectors_length(set: u32) -> usize
+    requires { ⌜ set < 2 ⌝ }
+    ensures { λ r. ⌜ (r ≡ sumTo 5 (base (scaleOf set))) × (r ≤ 132) ⌝ }
+{
+    if set == 0 {
+        return 132;
+    }
+    129
+}
+
+// How many shared numbers stand in a book for one coefficient.
+pub fn stride_of(shape: Shape) -> usize
+    requires { ⌜ shape .set < 2 ⌝ }
+    ensures { λ r. ⌜ (r ≡ stride (paramsOf shape)) × (r ≤ 165) ⌝ }
+{
+    let coefficient = 1 + vectors_length(shape.set) + 24;
+    if shape.kind == 0 {
+        return coefficient + 8;
+    }
+    coefficient
+}
+
+// How many shared numbers a book holds.
+pub fn shared_of(shape: Shape) -> usize
+    requires { ⌜ (shape .set < 2) × (shape .n ≤ 8) ⌝ }
+    ensures { λ r. ⌜ (r ≡ shared (paramsOf shape)) × (r ≤ 1320) ⌝ }
+{
+    let n = shape.n as usize;
+    let end = n * stride_of(shape);
+    if shape.kind == 0 {
+        return end;
+    }
+    end + n + 3
+}
+
+// How many numbers a draw has.
+pub fn draw_length(shape: Shape) -> usize
+    requires { ⌜ (shape .set < 2) × (shape .n ≤ 8) ⌝ }
+    ensures { λ r. ⌜ (r ≡ drawLength (widthOf keyCount) (paramsOf shape)) × (r ≤ 1320 * widthOf keyCount + 144) ⌝ }
+{
+    let size = shared_of(shape) * WIDTH;
+    let n = shape.n as usize;
+    if shape.kind == 0 {
+        return size + 18 * n;
+    }
+    size + 17 * n + 1
+}
+
+// How many places an answer has.
+pub fn answer_places(shape: Shape) -> usize
+    ensures { λ r. ⌜ r ≡ answerPlaces (paramsOf shape) ⌝ }
+{
+    if shape.kind == 0 {
+        return shape.n as usize;
+    }
+    1
+}
+
+// ---- Sizes for whoever lends slices: 0 where question 1 or 2 says no
+
+// Do set, kind and N pass questions 1 and 2?
+fn shape_ok(shape: Shape) -> bool
+    ensures { λ r. ⌜ r ≡ shapeOk shape ⌝ }
+{
+    shape_no(shape) == 0
+}
+
+// A message's bytes; 0 also where there is no such round.
+pub fn message_size(shape: Shape, round: u32) -> usize
+    ensures { λ r. ⌜ r ≡ messageSize shape round ⌝ }
+{
+    if !shape_ok(shape) {
+        return 0;
+    }
+    if round < 1 {
+        return 0;
+    }
+    if round > 7 {
+        return 0;
+    }
+    message_length(shape, round)
+}
+
+// A book's numbers.
+pub fn book_size(shape: Shape) -> usize
+    ensures { λ r. ⌜ r ≡ bookSize shape ⌝ }
+{
+    if !shape_ok(shape) {
+        return 0;
+    }
+    shared_of(shape) * WIDTH
+}
+
+// A draw's numbers.
+pub fn draw_size(shape: Shape) -> usize
+    ensures { λ r. ⌜ r ≡ drawSize shape ⌝ }
+{
+    if !shape_ok(shape) {
+        return 0;
+    }
+    draw_length(shape)
+}
+
+// The numbers of a side's inputs.
+pub fn input_size(shape: Shape) -> usize
+    ensures { λ r. ⌜ r ≡ inputSize shape ⌝ }
+{
+    if !shape_ok(shape) {
+        return 0;
+    }
+    shape.n as usize * WIDTH
+}
+
+// The places of an answer.
+pub fn answer_size(shape: Shape) -> usize
+    ensures { λ r. ⌜ r ≡ answerSize shape ⌝ }
+{
+    if !shape_ok(shape) {
+        return 0;
+    }
+    answer_places(shape)
+}
