@@ -17,7 +17,9 @@ use Rattle.lists.proofs.Every.{below-at, below-more, allTo-yes}
 use Rattle.field.specs.Field.{q}
 use Rattle.settings.specs.Sizes.{bytesFor, headerBits, fieldBits, fieldCount, messageBits, messageLength}
 use Rattle.message.specs.Bits.{padding, packed, numberOf}
-use Rattle.message.specs.Message.{headerNumber, fieldsBehind, messageOf, headerIn, fieldIn, fieldsOk, askForm}
+use Rattle.message.specs.Message.{headerNumber, headerWith, fieldsBehind, messageOf, headerIn, fieldIn, fieldsOk, askForm}
+use Rattle.settings.specs.Settings.{paramsOf}
+use Rattle.message.specs.declared.Header.{Header}
 use Rattle.message.specs.Fields.{HeaderFits}
 use Rattle.message.specs.Theorems.{Sized, RoundTrip}
 use Rattle.message.proofs.Numbers.{Bytes}
@@ -95,55 +97,55 @@ fields-pass h fs l e =
 
 -- ---- the header's number
 
-header-size : {sender set kind n round bound : ℕ} → HeaderFits sender set kind n round bound → (serial : ℕ) → serial < 2 ^ 32
-    → headerNumber sender set kind n bound round serial < 2 ^ headerBits
+header-size : (h : Header) → HeaderFits h → h .serial < 2 ^ 32 → headerNumber h < 2 ^ headerBits
 unfolding headerNumber
-header-size f serial h = omega arith
+header-size h f l = omega arith
 
 -- the last of several parts, and those before it
 last-part : (m a b c d : ℕ) → b < m → d < m → a * m + b ≡ c * m + d → (a ≡ c) × (b ≡ d)
 last-part m a b c d h k e =
     (sym (digits-div a h) ∙ ap (λ (x : ℕ). x / m) e ∙ digits-div c k, sym (digits-mod a h) ∙ ap (λ (x : ℕ). x % m) e ∙ digits-mod c k)
 
-header-tells : {sender set kind n round bound sender′ set′ kind′ n′ round′ bound′ : ℕ} (serial serial′ : ℕ)
-    → HeaderFits sender set kind n round bound → serial < 2 ^ 32 → HeaderFits sender′ set′ kind′ n′ round′ bound′ → serial′ < 2 ^ 32
-    → headerNumber sender set kind n bound round serial ≡ headerNumber sender′ set′ kind′ n′ bound′ round′ serial′
-    → (sender ≡ sender′) × (set ≡ set′) × (kind ≡ kind′) × (n ≡ n′) × (round ≡ round′) × (bound ≡ bound′) × (serial ≡ serial′)
+header-tells : (h h′ : Header) → HeaderFits h → h .serial < 2 ^ 32 → HeaderFits h′ → h′ .serial < 2 ^ 32 → headerNumber h ≡ headerNumber h′ → h ≡ h′
 unfolding headerNumber
-header-tells {n = n} {n′ = n′} serial serial′ f h f′ h′ e =
-    let a = last-part (2 ^ 32) _ serial _ serial′ h h′ e in
-    let b = last-part (2 ^ 23) _ _ _ _ (f .bound-fits) (f′ .bound-fits) (a .0) in
+header-tells h h′ f l f′ l′ e =
+    let a = last-part (2 ^ 32) _ (h .serial) _ (h′ .serial) l l′ e in
+    let b = last-part (2 ^ 23) _ _ _ _ (bound-fits h f) (bound-fits h′ f′) (a .0) in
     let c = last-part (2 ^ 3) _ _ _ _ (f .round-fits) (f′ .round-fits) (b .0) in
-    let d = last-part (2 ^ 3) _ _ _ _ (less-one f) (less-one f′) (c .0) in
-    let k = last-part (2 ^ 1) _ _ _ _ (f .kind-fits) (f′ .kind-fits) (d .0) in
-    let s = last-part (2 ^ 1) _ _ _ _ (f .set-fits) (f′ .set-fits) (k .0) in
-    let same : n ≡ n′ = some-less n n′ (f .n-some) (f′ .n-some) (d .1) in
-    (s .0, s .1, k .1, same, c .1, b .1, a .1)
+    let d = last-part (2 ^ 3) _ _ _ _ (less-one h f) (less-one h′ f′) (c .0) in
+    let k = last-part (2 ^ 1) _ _ _ _ (f .settings-fit .kinds) (f′ .settings-fit .kinds) (d .0) in
+    let s = last-part (2 ^ 1) _ _ _ _ (f .settings-fit .sets) (f′ .settings-fit .sets) (k .0) in
+    let same : h .settings .shape .n ≡ h′ .settings .shape .n = some-less _ _ (f .settings-fit .some) (f′ .settings-fit .some) (d .1) in
+    let made : h ≡ header-of (h′ .sender) (h′ .settings .shape .set) (h′ .settings .shape .kind) (h′ .settings .shape .n) (h′ .settings .bound) (h′ .round) (h′ .serial) = rw (← s .0, ← s .1, ← k .1, ← same, ← b .1, ← c .1, ← a .1) in made
   where
-    less-one : {sender set kind n round bound : ℕ} → HeaderFits sender set kind n round bound → n - 1 < 2 ^ 3
-    less-one g = omega arith
+    header-of : ℕ → ℕ → ℕ → ℕ → ℕ → ℕ → ℕ → Header
+    header-of sender set kind n bound round serial = headerWith sender (record { shape = record { set = set; kind = kind; n = n }; bound = bound }) round serial
+
+    bound-fits : (g : Header) → HeaderFits g → g .settings .bound < 2 ^ 23
+    bound-fits g i = omega (arith, i .settings-fit .bound-most)
+
+    less-one : (g : Header) → HeaderFits g → g .settings .shape .n - 1 < 2 ^ 3
+    less-one g i = omega (arith, i .settings-fit .most)
 
     some-less : (n n′ : ℕ) → 1 ≤ n → 1 ≤ n′ → n - 1 ≡ n′ - 1 → n ≡ n′
     some-less n n′ g g′ i = omega arith
 
 -- ---- what the other side sends
 
-accepted : {set kind n round bound : ℕ} (k receiver serial : ℕ) (fs : List ℕ) → HeaderFits receiver set kind n round bound → serial < 2 ^ 32
-    → length fs ≡ fieldCount k kind n round → allBelow q fs ≡ true
-    → (rest : ℕ) → askForm k receiver set kind n bound round serial (messageOf (headerNumber (1 - receiver) set kind n bound round serial) fs) rest ≡ rest
+accepted : (k : ℕ) (due : Header) (fs : List ℕ) → HeaderFits due → due .serial < 2 ^ 32
+    → length fs ≡ fieldCount k (paramsOf (due .settings .shape)) (due .round) → allBelow q fs ≡ true
+    → (rest : ℕ) → askForm k due (messageOf (headerNumber due) fs) rest ≡ rest
 unfolding askForm messageLength
-accepted {set} {kind} {n} {round} {bound} k receiver serial fs f h c e rest =
-    let x = headerNumber (1 - receiver) set kind n bound round serial in
-    let g : HeaderFits (1 - receiver) set kind n round bound =
-    record { sender-fits = omega arith; set-fits = f .set-fits; kind-fits = f .kind-fits; n-some = f .n-some; n-fits = f .n-fits; round-fits = f .round-fits; bound-fits = f .bound-fits } in
-    let l = header-size g serial h in
+accepted k due fs f h c e rest =
+    let x = headerNumber due in
+    let l = header-size due f h in
     rw (← c)
     (sym
     (skip _ rest 10 _ (eq-eqb _ _ (size x fs))
     (skip _ rest 11 _ (eq-eqb _ _ (header x fs (sized-q x fs l e)))
     (skip _ rest 12 rest (fields-pass x fs l e) refl))))
 
-sample : messageOf (headerNumber 0 0 0 1 0 1 1) (1 ∷ 0 ∷ [])
+sample : messageOf (headerNumber (headerWith 0 (record { shape = record { set = 0; kind = 0; n = 1 }; bound = 0 }) 1 1)) (1 ∷ 0 ∷ [])
     ≡ 0x00 ∷ 0x80 ∷ 0x00 ∷ 0x00 ∷ 0x00 ∷ 0x00 ∷ 0x00 ∷ 0x01 ∷ 0x00 ∷ 0x00 ∷ 0x02 ∷ 0x00 ∷ 0x00 ∷ 0x00 ∷ []
 unfolding messageOf packed fieldsBehind headerNumber listFrom
 sample = refl

@@ -2,11 +2,9 @@
 use Prim.Native.Nat.{ℕ, _+_, _*_, _-_, _/_, _%_, _^_}
 use mathlib.Core.List.{List, [], _∷_}
 use Rattle.lists.specs.Lists.{listTo}
+use Rattle.settings.specs.Sizes.{bytesFor}
 
--- the bytes that hold so many bits, and how many zero bits fill the last
-abbrev pub bytesFor : ℕ → ℕ
-bytesFor bits = (bits + 7) / 8
-
+-- how many zero bits fill the last of the bytes that hold so many bits
 abbrev pub padding : ℕ → ℕ
 padding bits = 8 * bytesFor bits - bits
 

@@ -1,11 +1,12 @@
 -- Bit fields in bytes, and the header: what the functions over them are promised with.
-use Prim.Native.Nat.{ℕ, _+_, _*_, _-_, _/_, _%_, _^_, _≤_, _<_}
+use Prim.Native.Nat.{ℕ, _+_, _*_, _-_, _/_, _%_, _^_, _<_}
 use mathlib.Core.List.{List}
 use lib.ListN.{length}
 use Rattle.lists.specs.Lists.{inFront}
 use Rattle.message.specs.Bits.{packed, numberOf}
 use Rattle.settings.specs.Sizes.{headerBits, messageBits}
 use Rattle.message.specs.Message.{fieldsBehind}
+use Rattle.settings.specs.Questions.{Ready}
 use Rattle.message.specs.declared.Header.{Header}
 
 -- the number in the first bits
@@ -28,16 +29,8 @@ putFields bytes fields = inFront (packed (messageBits (length fields)) (fieldsBe
 abbrev pub byteOf : ℕ → ℕ → ℕ → ℕ
 byteOf count x k = x / 2 ^ (8 * (count - 1 - k)) % 256
 
-abbrev pub headerWith : ℕ → ℕ → ℕ → ℕ → ℕ → ℕ → ℕ → Header
-headerWith sender set kind n round bound serial =
-    record { sender = sender; set = set; kind = kind; n = n; round = round; bound = bound; serial = serial }
-
 -- each part of a header fits its width (a serial always does)
-pub record HeaderFits (sender set kind n round bound : ℕ) : Type 0 where
-  pub sender-fits : sender < 2
-  pub set-fits : set < 2
-  pub kind-fits : kind < 2
-  pub n-some : 1 ≤ n
-  pub n-fits : n ≤ 8
-  pub round-fits : round < 8
-  pub bound-fits : bound < 2 ^ 23
+pub record HeaderFits (h : Header) : Type 0 where
+  pub sender-fits : h .sender < 2
+  pub settings-fit : Ready (h .settings)
+  pub round-fits : h .round < 8

@@ -7,14 +7,21 @@ use lib.ListN.{length}
 use Rattle.lists.specs.Answers.{ask}
 use Rattle.lists.specs.Lists.{allTo}
 use Rattle.field.specs.Field.{q}
+use Rattle.settings.specs.declared.Settings.{Settings}
+use Rattle.settings.specs.Settings.{paramsOf}
 use Rattle.settings.specs.Questions.{askSettings}
+use Rattle.message.specs.declared.Header.{Header}
 use Rattle.message.specs.Bits.{padding, packed, numberOf}
 use Rattle.settings.specs.Sizes.{roundOk, fieldBits, fieldCount, messageBits, messageLength}
 
 -- "sender 1 bit, set 1, kind 1, N − 1 in 3, round 3, B 23, serial 32"
-unfoldable pub headerNumber : ℕ → ℕ → ℕ → ℕ → ℕ → ℕ → ℕ → ℕ
-headerNumber sender set kind n bound round serial =
-    (((((sender * 2 ^ 1 + set) * 2 ^ 1 + kind) * 2 ^ 3 + (n - 1)) * 2 ^ 3 + round) * 2 ^ 23 + bound) * 2 ^ 32 + serial
+unfoldable pub headerNumber : Header → ℕ
+headerNumber h =
+    let a = h .settings .shape in
+    (((((h .sender * 2 ^ 1 + a .set) * 2 ^ 1 + a .kind) * 2 ^ 3 + (a .n - 1)) * 2 ^ 3 + h .round) * 2 ^ 23 + h .settings .bound) * 2 ^ 32 + h .serial
+
+abbrev pub headerWith : ℕ → Settings → ℕ → ℕ → Header
+headerWith sender s round serial = record { sender = sender; settings = s; round = round; serial = serial }
 
 -- the header and then the fields as one number
 unfoldable pub fieldsBehind : ℕ → List ℕ → ℕ
@@ -40,20 +47,21 @@ fieldsOk fields message =
     let field = fieldIn fields message in
     allTo fields (λ (f : ℕ). ltb (field f) q) && eqb (numberOf message % 2 ^ padding (messageBits fields)) 0
 
--- Questions 10 to 12 of a message for the receiver, and then the rest:
+-- Questions 10 to 12 of a message that is to have the header `due`, and then the rest:
 -- "Message length exact?" "Header equal to mine, with the other sender?" "Fields below q, padding zero?"
-unfoldable pub askForm : ℕ → ℕ → ℕ → ℕ → ℕ → ℕ → ℕ → ℕ → List ℕ → ℕ → ℕ
-askForm k receiver set kind n bound round serial message rest =
-    let fields = fieldCount k kind n round in
-    ask (eqb (length message) (messageLength k kind n round)) 10
-    (ask (eqb (headerIn fields message) (headerNumber (1 - receiver) set kind n bound round serial)) 11
+unfoldable pub askForm : ℕ → Header → List ℕ → ℕ → ℕ
+askForm k due message rest =
+    let p = paramsOf (due .settings .shape) in
+    let fields = fieldCount k p (due .round) in
+    ask (eqb (length message) (messageLength k p (due .round))) 10
+    (ask (eqb (headerIn fields message) (headerNumber due)) 11
     (ask (fieldsOk fields message) 12
     rest))
 
 -- "Form test: 1, 2, 3, 8 (round 1 to 7, serial above 0), 10 to 12", k keys a side
-unfoldable pub formNo : ℕ → ℕ → ℕ → ℕ → ℕ → ℕ → ℕ → ℕ → List ℕ → ℕ
-formNo k receiver set kind n bound round serial message =
-    askSettings receiver set kind n bound
+unfoldable pub formNo : ℕ → ℕ → Settings → ℕ → ℕ → List ℕ → ℕ
+formNo k receiver s round serial message =
+    askSettings receiver s
     (ask (roundOk round && leb 1 serial) 8
-    (askForm k receiver set kind n bound round serial message
+    (askForm k (headerWith (1 - receiver) s round serial) message
     0))

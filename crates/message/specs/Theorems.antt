@@ -6,10 +6,12 @@ use mathlib.Core.List.{List, [], _∷_}
 use lib.ListN.{length, getD}
 use Rattle.lists.specs.Lists.{allBelow}
 use Rattle.field.specs.Field.{q}
+use Rattle.settings.specs.Settings.{paramsOf}
 use Rattle.settings.specs.Sizes.{bytesFor, headerBits, fieldBits, fieldCount, messageBits}
 use Rattle.message.specs.Bits.{padding, numberOf}
-use Rattle.message.specs.Message.{headerNumber, messageOf, headerIn, fieldIn, fieldsOk, askForm}
+use Rattle.message.specs.Message.{headerNumber, headerWith, messageOf, headerIn, fieldIn, fieldsOk, askForm}
 use Rattle.message.specs.Fields.{HeaderFits}
+use Rattle.message.specs.declared.Header.{Header}
 
 -- a header of 64 bits and fields of 23
 pub record Sized (header : ℕ) (fields : List ℕ) : Type 0 where
@@ -27,16 +29,13 @@ pub record RoundTrip : Type 0 where
   -- fields below q pass question 12
   pub fields-pass : (h : ℕ) (fs : List ℕ) → h < 2 ^ headerBits → allBelow q fs ≡ true → fieldsOk (length fs) (messageOf h fs) ≡ true
   -- a header is 64 bits, and tells its parts
-  pub header-size : {sender set kind n round bound : ℕ} → HeaderFits sender set kind n round bound → (serial : ℕ) → serial < 2 ^ 32
-      → headerNumber sender set kind n bound round serial < 2 ^ headerBits
-  pub header-tells : {sender set kind n round bound sender′ set′ kind′ n′ round′ bound′ : ℕ} (serial serial′ : ℕ)
-      → HeaderFits sender set kind n round bound → serial < 2 ^ 32 → HeaderFits sender′ set′ kind′ n′ round′ bound′ → serial′ < 2 ^ 32
-      → headerNumber sender set kind n bound round serial ≡ headerNumber sender′ set′ kind′ n′ bound′ round′ serial′
-      → (sender ≡ sender′) × (set ≡ set′) × (kind ≡ kind′) × (n ≡ n′) × (round ≡ round′) × (bound ≡ bound′) × (serial ≡ serial′)
-  -- what the other side sends passes questions 10 to 12
-  pub accepted : {set kind n round bound : ℕ} (k receiver serial : ℕ) (fs : List ℕ) → HeaderFits receiver set kind n round bound → serial < 2 ^ 32
-      → length fs ≡ fieldCount k kind n round → allBelow q fs ≡ true
-      → (rest : ℕ) → askForm k receiver set kind n bound round serial (messageOf (headerNumber (1 - receiver) set kind n bound round serial) fs) rest ≡ rest
+  pub header-size : (h : Header) → HeaderFits h → h .serial < 2 ^ 32 → headerNumber h < 2 ^ headerBits
+  pub header-tells : (h h′ : Header) → HeaderFits h → h .serial < 2 ^ 32 → HeaderFits h′ → h′ .serial < 2 ^ 32
+      → headerNumber h ≡ headerNumber h′ → h ≡ h′
+  -- what is sent with the due header passes questions 10 to 12
+  pub accepted : (k : ℕ) (due : Header) (fs : List ℕ) → HeaderFits due → due .serial < 2 ^ 32
+      → length fs ≡ fieldCount k (paramsOf (due .settings .shape)) (due .round) → allBelow q fs ≡ true
+      → (rest : ℕ) → askForm k due (messageOf (headerNumber due) fs) rest ≡ rest
   -- "Server, set 0, HIGH, N = 1, round 1, serial 1, opened share 1, check part 0"
-  pub sample : messageOf (headerNumber 0 0 0 1 0 1 1) (1 ∷ 0 ∷ [])
+  pub sample : messageOf (headerNumber (headerWith 0 (record { shape = record { set = 0; kind = 0; n = 1 }; bound = 0 }) 1 1)) (1 ∷ 0 ∷ [])
       ≡ 0x00 ∷ 0x80 ∷ 0x00 ∷ 0x00 ∷ 0x00 ∷ 0x00 ∷ 0x00 ∷ 0x01 ∷ 0x00 ∷ 0x00 ∷ 0x02 ∷ 0x00 ∷ 0x00 ∷ 0x00 ∷ []

@@ -4,28 +4,28 @@ ghost use mathlib.Core.Bool.{true};
 ghost use Prim.Native.Nat.{_+_, _*_, _%_, _^_, _≤_, _<_};
 ghost use lib.ListN.{length};
 ghost use Rattle.lists.specs.Lists.{fill, inFront, allBelow};
-ghost use Rattle.settings.specs.Sizes.{bytesFor, openings, fieldBits, fieldCount, messageBits, messageLength};
+ghost use Rattle.settings.specs.Sizes.{keyCount, bytesFor, fieldBits, messageBits};
 ghost use Rattle.message.specs.Bits.{padding, numberOf};
-ghost use Rattle.message.specs.Message.{headerNumber, messageOf, fieldIn, fieldsOk, askForm, formNo};
-ghost use Rattle.message.specs.Fields.{bitsAt, putBits, putFields, byteOf, headerWith, HeaderFits};
+ghost use Rattle.message.specs.Message.{headerNumber, headerWith, messageOf, fieldIn, fieldsOk, askForm, formNo};
+ghost use Rattle.message.specs.Fields.{bitsAt, putBits, putFields, byteOf, HeaderFits};
 use field::Q;
+use settings::FIELDS;
+use settings::FIELD_BITS;
+use settings::HEADER;
+use settings::MESSAGE_LENGTH;
+use settings::NOT_DUE;
+use settings::Settings;
+use settings::field_count;
+use settings::length_of;
 use settings::settings_no;
-
-// An opening's fields: a share, and a check part under each of the receiver's keys, of which there is one.
-pub const FIELDS_PER_OPENING: usize = 2;
-
-pub const FIELD_BITS: usize = 23;
 
 // ---- Header
 
 // What a message begins with, in this order.
 pub struct Header {
     pub sender: u32,
-    pub set: u32,
-    pub kind: u32,
-    pub n: u32,
+    pub settings: Settings,
     pub round: u32,
-    pub bound: u32,
     pub serial: u32,
 }
 
@@ -67,83 +67,31 @@ impl Header {
 
     const SERIALS: u64 = 1 << Self::SERIAL_BITS;
 
-    pub fn new(
-        sender: u32,
-        set: u32,
-        kind: u32,
-        n: u32,
-        round: u32,
-        bound: u32,
-        serial: u32,
-    ) -> Header
-        ensures { λ r. ⌜ r ≡ headerWith sender set kind n round bound serial ⌝ }
+    pub fn new(sender: u32, settings: Settings, round: u32, serial: u32) -> Header
+        ensures { λ r. ⌜ r ≡ headerWith sender settings round serial ⌝ }
     {
         Header {
             sender,
-            set,
-            kind,
-            n,
+            settings,
             round,
-            bound,
             serial,
         }
     }
 
     // The header's bits as one number. `form_no` and `send` of crate side come after questions 1 to 3 and the round.
     pub fn number(self) -> u64
-        requires { ⌜ HeaderFits (self .sender) (self .set) (self .kind) (self .n) (self .round) (self .bound) ⌝ }
-        ensures { λ r. ⌜ r ≡ headerNumber (self .sender) (self .set) (self .kind) (self .n) (self .bound) (self .round) (self .serial) ⌝ }
+        requires { ⌜ HeaderFits self ⌝ }
+        ensures { λ r. ⌜ r ≡ headerNumber self ⌝ }
     {
-        let a = self.sender as u64 * Self::SETS + self.set as u64;
-        let b = a * Self::KINDS + self.kind as u64;
-        let c = b * Self::COUNTS + (self.n - 1) as u64;
+        let settings = self.settings;
+        let shape = settings.shape;
+        let a = self.sender as u64 * Self::SETS + shape.set as u64;
+        let b = a * Self::KINDS + shape.kind as u64;
+        let c = b * Self::COUNTS + (shape.n - 1) as u64;
         let d = c * Self::ROUNDS + self.round as u64;
-        let e = d * Self::BOUNDS + self.bound as u64;
+        let e = d * Self::BOUNDS + settings.bound as u64;
         e * Self::SERIALS + self.serial as u64
     }
-}
-
-// ---- Lengths, for the form test and for crates column and side, which ask question 2 first.
-
-// How many openings a round has.
-pub fn openings_in(kind: u32, n: u32, round: u32) -> u32
-    requires { ⌜ n ≤ 8 ⌝ }
-    ensures { λ r. ⌜ (r ≡ openings kind n round) × (r ≤ 32) ⌝ }
-{
-    if round == 1 {
-        return n;
-    }
-    if round <= 5 {
-        return 4 * n;
-    }
-    if kind == 0 {
-        return n;
-    }
-    1
-}
-
-// How many fields a round's message has.
-pub fn field_count(kind: u32, n: u32, round: u32) -> usize
-    requires { ⌜ n ≤ 8 ⌝ }
-    ensures { λ r. ⌜ (r ≡ fieldCount 1 kind n round) × (r ≤ 64) ⌝ }
-{
-    FIELDS_PER_OPENING * openings_in(kind, n, round) as usize
-}
-
-// The length in bytes of a message with so many fields.
-fn length_of(fields: usize) -> usize
-    requires { ⌜ fields ≤ 64 ⌝ }
-    ensures { λ r. ⌜ r ≡ bytesFor (messageBits fields) ⌝ }
-{
-    (Header::BITS + FIELD_BITS * fields + 7) / 8
-}
-
-// The length in bytes of a round's message.
-pub fn message_length(kind: u32, n: u32, round: u32) -> usize
-    requires { ⌜ n ≤ 8 ⌝ }
-    ensures { λ r. ⌜ r ≡ messageLength 1 kind n round ⌝ }
-{
-    length_of(field_count(kind, n, round))
 }
 
 // ---- Bit fields, most significant bit first
@@ -252,7 +200,7 @@ fn read_field(bytes: &[u8], at: usize, width: usize) -> u32
 
 // Puts the fields behind the header.
 fn put_fields(out: &mut [u8], fields: &[u32])
-    requires { ⌜ (bytesFor (messageBits (length (now fields))) ≤ length (now out)) × (length (now fields) ≤ 64) ⌝ }
+    requires { ⌜ (bytesFor (messageBits (length (now fields))) ≤ length (now out)) × (length (now fields) ≤ (1 + keyCount) * 32) ⌝ }
     requires { ⌜ allBelow (2 ^ fieldBits) (now fields) ≡ true ⌝ }
     ensures { λ _. ⌜ now (out .exit) ≡ putFields (now (out .entry)) (now (fields .entry)) ⌝ }
 {
@@ -265,11 +213,11 @@ fn put_fields(out: &mut [u8], fields: &[u32])
 
 // Writes a message in front of `out` and gives its length. A side's `send` has asked for the room and made the fields.
 pub fn put_message(out: &mut [u8], header: Header, fields: &[u32]) -> usize
-    requires { ⌜ HeaderFits (header .sender) (header .set) (header .kind) (header .n) (header .round) (header .bound) ⌝ }
-    requires { ⌜ (bytesFor (messageBits (length (now fields))) ≤ length (now out)) × (length (now fields) ≤ 64) ⌝ }
+    requires { ⌜ HeaderFits header ⌝ }
+    requires { ⌜ (bytesFor (messageBits (length (now fields))) ≤ length (now out)) × (length (now fields) ≤ (1 + keyCount) * 32) ⌝ }
     requires { ⌜ allBelow (2 ^ fieldBits) (now fields) ≡ true ⌝ }
     ensures { λ r. ⌜ (r ≡ bytesFor (messageBits (length (now (fields .entry)))))
-        × (now (out .exit) ≡ inFront (messageOf (headerNumber (header .sender) (header .set) (header .kind) (header .n) (header .bound) (header .round) (header .serial)) (now (fields .entry))) (now (out .entry))) ⌝ }
+        × (now (out .exit) ≡ inFront (messageOf (headerNumber header) (now (fields .entry))) (now (out .entry))) ⌝ }
 {
     put_number(out, 0, Header::BYTES, header.number());
     put_fields(out, fields);
@@ -280,7 +228,7 @@ pub fn put_message(out: &mut [u8], header: Header, fields: &[u32]) -> usize
 
 // Field f. (The count of fields is for the promise: it fixes where the bits end.)
 pub fn field_of(message: &[u8], fields: usize, f: usize) -> u32
-    requires { ⌜ (length (now message) ≡ bytesFor (messageBits fields)) × (f < fields) × (fields ≤ 64) ⌝ }
+    requires { ⌜ (length (now message) ≡ bytesFor (messageBits fields)) × (f < fields) × (fields ≤ (1 + keyCount) * 32) ⌝ }
     ensures { λ r. ⌜ r ≡ fieldIn fields (now (message .entry)) f ⌝ }
 {
     read_field(message, Header::BITS + FIELD_BITS * f, FIELD_BITS)
@@ -288,7 +236,7 @@ pub fn field_of(message: &[u8], fields: usize, f: usize) -> u32
 
 // The bits that fill the last byte.
 fn padding_of(message: &[u8], fields: usize) -> u32
-    requires { ⌜ (length (now message) ≡ bytesFor (messageBits fields)) × (fields ≤ 64) ⌝ }
+    requires { ⌜ (length (now message) ≡ bytesFor (messageBits fields)) × (fields ≤ (1 + keyCount) * 32) ⌝ }
     ensures { λ r. ⌜ r ≡ numberOf (now (message .entry)) % 2 ^ padding (messageBits fields) ⌝ }
 {
     let bits = Header::BITS + FIELD_BITS * fields;
@@ -297,7 +245,7 @@ fn padding_of(message: &[u8], fields: usize) -> u32
 
 // Question 12.
 fn fields_ok(message: &[u8], fields: usize) -> bool
-    requires { ⌜ (length (now message) ≡ bytesFor (messageBits fields)) × (fields ≤ 64) ⌝ }
+    requires { ⌜ (length (now message) ≡ bytesFor (messageBits fields)) × (fields ≤ (1 + keyCount) * 32) ⌝ }
     ensures { λ r. ⌜ r ≡ fieldsOk fields (now (message .entry)) ⌝ }
 {
     let mut f = 0;
@@ -310,59 +258,52 @@ fn fields_ok(message: &[u8], fields: usize) -> bool
     padding_of(message, fields) == 0
 }
 
-// Questions 10 to 12: the first no, or 0. `message_form` and `take` of crate side have asked questions 1 to 3 and the round.
-pub fn form_no(
-    receiver: u32,
-    set: u32,
-    kind: u32,
-    n: u32,
-    bound: u32,
-    round: u32,
-    serial: u32,
-    message: &[u8],
-) -> u32
-    requires { ⌜ HeaderFits receiver set kind n round bound ⌝ }
-    ensures { λ r. ⌜ r ≡ askForm 1 receiver set kind n bound round serial (now (message .entry)) 0 ⌝ }
+// Questions 10 to 12 of a message that is to have the header `due`: the first no, or 0. `message_form` and `take` of crate side have asked
+// questions 1 to 3 and the round.
+pub fn form_no(due: Header, message: &[u8]) -> u32
+    requires { ⌜ HeaderFits due ⌝ }
+    ensures { λ r. ⌜ r ≡ askForm keyCount due (now (message .entry)) 0 ⌝ }
 {
-    let fields = field_count(kind, n, round);
+    let settings = due.settings;
+    let shape = settings.shape;
+    let fields = field_count(shape, due.round);
     if message.len() != length_of(fields) {
-        return 10;
+        return MESSAGE_LENGTH;
     }
-    let due = Header::new(1 - receiver, set, kind, n, round, bound, serial);
     if get_number(message, 0, Header::BYTES) != due.number() {
-        return 11;
+        return HEADER;
     }
     if !fields_ok(message, fields) {
-        return 12;
+        return FIELDS;
     }
     0
 }
 
 // The form test: the first no, or 0.
 pub fn message_form(
-    side: u32,
-    set: u32,
-    kind: u32,
-    n: u32,
-    bound: u32,
+    receiver: u32,
+    settings: Settings,
     round: u32,
     serial: u32,
     message: &[u8],
 ) -> u32
-    ensures { λ r. ⌜ r ≡ formNo 1 side set kind n bound round serial (now (message .entry)) ⌝ }
+    ensures { λ r. ⌜ r ≡ formNo keyCount receiver settings round serial (now (message .entry)) ⌝ }
 {
-    let no = settings_no(side, set, kind, n, bound);
+    let no = settings_no(receiver, settings);
     if no != 0 {
         return no;
     }
     if round < 1 {
-        return 8;
+        return NOT_DUE;
     }
     if round > 7 {
-        return 8;
+        return NOT_DUE;
     }
     if serial < 1 {
-        return 8;
+        return NOT_DUE;
     }
-    form_no(side, set, kind, n, bound, round, serial, message)
+    form_no(
+        Header::new(1 - receiver, settings, round, serial),
+        message,
+    )
 }

@@ -1,8 +1,8 @@
 -- `message::form_no` meets its contract.
-use Rattle.message.proofs.Form.{other-fits, number-is, length-stop, header-stop, fields-stop, form-yes}
+use Rattle.message.proofs.Form.{length-stop, header-stop, fields-stop, form-yes}
 use Rattle.message.proofs.Reading.{header-at}
 use Rattle.message.proofs.Numbers.{Bytes}
-use Rattle.settings.specs.Sizes.{messageBits, bytesFor}
+use Rattle.settings.specs.Sizes.{keyCount, messageBits, bytesFor}
 use Rattle.lists.proofs.Questions.{told-yes, told-no}
 use lib.ListN.{length}
 use native.Mathlib.Omega.{arith}
@@ -13,38 +13,33 @@ use Rattle.message.proofs.form_no.Tie as tie
 
 returns : tie.Need-returns
 returns c =
-    let a = c .before .before .before .before .args in
-    length-stop 1 (a .receiver) (a .set) (a .kind) (a .n) (a .bound) (a .round) (a .serial) (a .message .now) (c .before .before .field-count .result) (c .before .before .field-count .ensures .0) (λ e. c .if1 .taken (e ∙ sym (c .before .length-of .ensures)))
-
-number-requires : tie.Need-number-requires
-number-requires c κs =
     let a = c .before .before .before .before .before .before .args in
-    other-fits (a .receiver) (a .set) (a .kind) (a .n) (a .round) (a .bound) (a .serial) _ (c .before .new .ensures) (c .before .before .before .before .before .before .pre)
+    length-stop keyCount (a .due) (a .message .now) (c .before .before .field-count .result) (c .before .before .field-count .ensures .0) (λ e. c .if1 .taken (e ∙ sym (c .before .length-of .ensures)))
 
 returns-2 : tie.Need-returns-2
 returns-2 c =
-    let a = c .before .before .before .before .before .before .before .before .args in
-    let bytes : Bytes (a .message .now) = λ j. omega (arith, c .before .before .before .before .before .before .before .shared-slice-known .given j) in
-    let l : length (a .message .now) ≡ bytesFor (messageBits (c .before .before .before .before .before .before .field-count .result)) = omega arith in
-    header-stop 1 (a .receiver) (a .set) (a .kind) (a .n) (a .bound) (a .round) (a .serial) (a .message .now) (c .before .before .before .before .before .before .field-count .result) (c .before .before .before .before .before .before .field-count .ensures .0) l
-    (λ e. c .if2 .taken (c .before .before .get-number .ensures ∙ header-at _ (a .message .now) l bytes ∙ e ∙ sym (number-is _ _ (c .before .before .before .new .ensures) (c .before .number .ensures))))
+    let a = c .before .before .before .before .before .before .before .before .before .args in
+    let bytes : Bytes (a .message .now) = λ j. omega (arith, c .before .before .before .before .before .before .before .before .shared-slice-known .given j) in
+    let l : length (a .message .now) ≡ bytesFor (messageBits (c .before .before .before .before .before .field-count .result)) = omega arith in
+    header-stop keyCount (a .due) (a .message .now) (c .before .before .before .before .before .field-count .result) (c .before .before .before .before .before .field-count .ensures .0) l
+    (λ e. c .if2 .taken (c .before .before .get-number .ensures ∙ header-at _ (a .message .now) l bytes ∙ e ∙ sym (c .before .number .ensures)))
 
 returns-3 : tie.Need-returns-3
 returns-3 c =
-    let a = c .before .before .before .before .before .before .before .before .before .before .args in
-    let bytes : Bytes (a .message .now) = λ j. omega (arith, c .before .before .before .before .before .before .before .before .before .shared-slice-known .given j) in
-    let l : length (a .message .now) ≡ bytesFor (messageBits (c .before .before .before .before .before .before .before .before .field-count .result)) = omega arith in
-    fields-stop 1 (a .receiver) (a .set) (a .kind) (a .n) (a .bound) (a .round) (a .serial) (a .message .now) (c .before .before .before .before .before .before .before .before .field-count .result) (c .before .before .before .before .before .before .before .before .field-count .ensures .0) l
-    (sym (header-at _ (a .message .now) l bytes) ∙ sym (c .before .before .before .before .get-number .ensures) ∙ c .before .before .if2 .left ∙ number-is _ _ (c .before .before .before .before .before .new .ensures) (c .before .before .before .number .ensures))
+    let a = c .before .before .before .before .before .before .before .before .before .before .before .args in
+    let bytes : Bytes (a .message .now) = λ j. omega (arith, c .before .before .before .before .before .before .before .before .before .before .shared-slice-known .given j) in
+    let l : length (a .message .now) ≡ bytesFor (messageBits (c .before .before .before .before .before .before .before .field-count .result)) = omega arith in
+    fields-stop keyCount (a .due) (a .message .now) (c .before .before .before .before .before .before .before .field-count .result) (c .before .before .before .before .before .before .before .field-count .ensures .0) l
+    (sym (header-at _ (a .message .now) l bytes) ∙ sym (c .before .before .before .before .get-number .ensures) ∙ c .before .before .if2 .left ∙ c .before .before .before .number .ensures)
     (told-no _ _ (c .before .fields-ok .ensures) (c .if3 .taken))
 
 returns-4 : tie.Need-returns-4
 returns-4 c =
-    let a = c .before .before .before .before .before .before .before .before .before .before .args in
-    let bytes : Bytes (a .message .now) = λ j. omega (arith, c .before .before .before .before .before .before .before .before .before .shared-slice-known .given j) in
-    let l : length (a .message .now) ≡ bytesFor (messageBits (c .before .before .before .before .before .before .before .before .field-count .result)) = omega arith in
-    form-yes 1 (a .receiver) (a .set) (a .kind) (a .n) (a .bound) (a .round) (a .serial) (a .message .now) (c .before .before .before .before .before .before .before .before .field-count .result) (c .before .before .before .before .before .before .before .before .field-count .ensures .0) l
-    (sym (header-at _ (a .message .now) l bytes) ∙ sym (c .before .before .before .before .get-number .ensures) ∙ c .before .before .if2 .left ∙ number-is _ _ (c .before .before .before .before .before .new .ensures) (c .before .before .before .number .ensures))
+    let a = c .before .before .before .before .before .before .before .before .before .before .before .args in
+    let bytes : Bytes (a .message .now) = λ j. omega (arith, c .before .before .before .before .before .before .before .before .before .before .shared-slice-known .given j) in
+    let l : length (a .message .now) ≡ bytesFor (messageBits (c .before .before .before .before .before .before .before .field-count .result)) = omega arith in
+    form-yes keyCount (a .due) (a .message .now) (c .before .before .before .before .before .before .before .field-count .result) (c .before .before .before .before .before .before .before .field-count .ensures .0) l
+    (sym (header-at _ (a .message .now) l bytes) ∙ sym (c .before .before .before .before .get-number .ensures) ∙ c .before .before .if2 .left ∙ c .before .before .before .number .ensures)
     (told-yes _ _ (c .before .fields-ok .ensures) (c .if3 .left))
 
 pub form-no-spec : {M : Type 1} → statement M
@@ -54,10 +49,8 @@ form-no-spec =
     (λ c κs. search needs)
     (λ c κs. search needs)
     returns
-    (λ c. search needs)
     (λ c κs. search needs)
     (λ c κs. search needs)
-    number-requires
     returns-2
     (λ c κs. search needs)
     returns-3
