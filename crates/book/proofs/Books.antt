@@ -15,9 +15,10 @@ use Rattle.lists.proofs.Every.{below-at, every-listTo}
 use Rattle.lists.proofs.Lists.{length-listFrom, getD-listTo}
 use Rattle.field.specs.Forms.{Adds}
 use Rattle.field.proofs.Solve.{at, _⊕_, _⊖_, _⊗_, red, solve}
-use Rattle.rounding.specs.Sets.{Scale}
+use Rattle.settings.specs.Settings.{Params}
+use Rattle.settings.specs.Sizes.{shared, drawLength, groups}
 use Rattle.rounding.specs.Digits.{digit}
-use Rattle.book.specs.Book.{Entry, groupGap, shared, entryOf, maskAt, groupAt, isDrawn, drawn, phoneNumber, value, valueOf}
+use Rattle.book.specs.Book.{Entry, groupGap, entryOf, maskAt, groupAt, isDrawn, drawn, phoneNumber, value, valueOf}
 use Rattle.book.specs.Book.Entry.{mask, place, left, right, product, groupMask, groupPlace}
 use Rattle.book.specs.Deal.{inOrder, serverNumber, phoneBook, serverBook}
 use Rattle.book.specs.Theorems.{Holds, Books, Values}
@@ -41,49 +42,49 @@ module _ (count width : ℕ) (f : ℕ → ℕ → ℕ) where
 
 -- ---- the two books
 
-module _ (p : Scale) (kind n width : ℕ) (factors draw : List ℕ) where
-  pub server-lt : 0 < p .modulus → (k c : ℕ) → serverNumber p kind n width factors draw k c < p .modulus
+module _ (p : Params) (width : ℕ) (factors draw : List ℕ) where
+  pub server-lt : 0 < p .scale .modulus → (k c : ℕ) → serverNumber p width factors draw k c < p .scale .modulus
   unfolding serverNumber
   server-lt pos k c = mod-lt _ pos
 
-  phone-lt : 0 < p .modulus → allBelow (p .modulus) draw ≡ true → (k c : ℕ) → phoneNumber p kind n width draw k c < p .modulus
+  phone-lt : 0 < p .scale .modulus → allBelow (p .scale .modulus) draw ≡ true → (k c : ℕ) → phoneNumber p width draw k c < p .scale .modulus
   unfolding phoneNumber
-  phone-lt pos h k c = below-at (p .modulus) draw _ pos h
+  phone-lt pos h k c = below-at (p .scale .modulus) draw _ pos h
 
-  adds : 0 < p .modulus → (k c : ℕ) → Adds (p .modulus) (getD factors c 0) (serverNumber p kind n width factors draw k c) (phoneNumber p kind n width draw k c) (value p kind n width draw k)
+  adds : 0 < p .scale .modulus → (k c : ℕ) → Adds (p .scale .modulus) (getD factors c 0) (serverNumber p width factors draw k c) (phoneNumber p width draw k c) (value p width draw k)
   unfolding serverNumber
   adds pos k c =
       let f = getD factors c 0 in
-      let v = value p kind n width draw k in
-      let h = phoneNumber p kind n width draw k c in
-      record { total = solve (p .modulus) pos (red (at f ⊗ at v ⊖ at h) ⊕ at h) (at f ⊗ at v) (omega arith) }
+      let v = value p width draw k in
+      let h = phoneNumber p width draw k c in
+      record { total = solve (p .scale .modulus) pos (red (at f ⊗ at v ⊖ at h) ⊕ at h) (at f ⊗ at v) (omega arith) }
 
-  pub books : Books p kind n width factors draw
+  pub books : Books p width factors draw
   unfolding serverBook phoneBook
   books =
       record {
-        server-length = length-inOrder (shared p kind n) width (serverNumber p kind n width factors draw);
-        phone-length = length-inOrder (shared p kind n) width (phoneNumber p kind n width draw);
-        server-at = getD-inOrder (shared p kind n) width (serverNumber p kind n width factors draw);
-        phone-at = getD-inOrder (shared p kind n) width (phoneNumber p kind n width draw);
-        server-below = λ pos. below-inOrder (shared p kind n) width (serverNumber p kind n width factors draw) (p .modulus) (server-lt pos);
-        phone-below = λ pos h. below-inOrder (shared p kind n) width (phoneNumber p kind n width draw) (p .modulus) (phone-lt pos h);
+        server-length = length-inOrder (shared p) width (serverNumber p width factors draw);
+        phone-length = length-inOrder (shared p) width (phoneNumber p width draw);
+        server-at = getD-inOrder (shared p) width (serverNumber p width factors draw);
+        phone-at = getD-inOrder (shared p) width (phoneNumber p width draw);
+        server-below = λ pos. below-inOrder (shared p) width (serverNumber p width factors draw) (p .scale .modulus) (server-lt pos);
+        phone-below = λ pos h. below-inOrder (shared p) width (phoneNumber p width draw) (p .scale .modulus) (phone-lt pos h);
         adds = adds;
       }
 
 -- ---- the joined values
 
-module _ (p : Scale) (kind n width : ℕ) (draw : List ℕ) where
+module _ (p : Params) (width : ℕ) (draw : List ℕ) where
   -- what stands at a place decides the value there
-  pub value-holds : (k : ℕ) (e : Entry) → Holds p kind n k e → value p kind n width draw k ≡ valueOf p kind n width draw k e
+  pub value-holds : (k : ℕ) (e : Entry) → Holds p k e → value p width draw k ≡ valueOf p width draw k e
   unfolding value
-  value-holds k e h = ap (λ (e : Entry). valueOf p kind n width draw k e) (h .1)
+  value-holds k e h = ap (λ (e : Entry). valueOf p width draw k e) (h .1)
 
-  pub value-drawn : (k : ℕ) → isDrawn (entryOf p kind n k) ≡ true → value p kind n width draw k ≡ drawn p kind n width draw k
+  pub value-drawn : (k : ℕ) → isDrawn (entryOf p k) ≡ true → value p width draw k ≡ drawn p width draw k
   unfolding value
-  value-drawn k h = by (entryOf p kind n k) h
+  value-drawn k h = by (entryOf p k) h
     where
-      by : (e : Entry) → isDrawn e ≡ true → valueOf p kind n width draw k e ≡ drawn p kind n width draw k
+      by : (e : Entry) → isDrawn e ≡ true → valueOf p width draw k e ≡ drawn p width draw k
       by (mask c) h = refl
       by (left c t) h = refl
       by (right c t) h = refl
@@ -93,25 +94,25 @@ module _ (p : Scale) (kind n width : ℕ) (draw : List ℕ) where
       by (groupPlace g j) h = absurd (true≢false (sym h))
 
   -- a place that holds a drawn entry
-  pub drawn-holds : (k : ℕ) (e : Entry) → Holds p kind n k e → isDrawn e ≡ true → value p kind n width draw k ≡ drawn p kind n width draw k
+  pub drawn-holds : (k : ℕ) (e : Entry) → Holds p k e → isDrawn e ≡ true → value p width draw k ≡ drawn p width draw k
   drawn-holds k e h i = value-drawn k (ap isDrawn (h .1) ∙ i)
 
-  value-below : 1 < p .modulus → allBelow (p .modulus) draw ≡ true → (k : ℕ) → value p kind n width draw k < p .modulus
+  value-below : 1 < p .scale .modulus → allBelow (p .scale .modulus) draw ≡ true → (k : ℕ) → value p width draw k < p .scale .modulus
   unfolding value drawn
-  value-below pos h k = by (entryOf p kind n k)
+  value-below pos h k = by (entryOf p k)
     where
-      by : (e : Entry) → valueOf p kind n width draw k e < p .modulus
-      by (mask c) = below-at (p .modulus) draw _ (omega arith) h
-      by (left c t) = below-at (p .modulus) draw _ (omega arith) h
-      by (right c t) = below-at (p .modulus) draw _ (omega arith) h
-      by (groupMask g) = below-at (p .modulus) draw _ (omega arith) h
-      by (place c i j) = omega (arith, bit-le (eqb j (digit p (drawn p kind n width draw (maskAt p kind c)) i)))
+      by : (e : Entry) → valueOf p width draw k e < p .scale .modulus
+      by (mask c) = below-at (p .scale .modulus) draw _ (omega arith) h
+      by (left c t) = below-at (p .scale .modulus) draw _ (omega arith) h
+      by (right c t) = below-at (p .scale .modulus) draw _ (omega arith) h
+      by (groupMask g) = below-at (p .scale .modulus) draw _ (omega arith) h
+      by (place c i j) = omega (arith, bit-le (eqb j (digit (p .scale) (drawn p width draw (maskAt p c)) i)))
       by (product c t) = mod-lt _ (omega arith)
-      by (groupPlace g j) = omega (arith, bit-le (eqb j (drawn p kind n width draw (groupAt p kind n g) / groupGap p kind n)))
+      by (groupPlace g j) = omega (arith, bit-le (eqb j (drawn p width draw (groupAt p g) / groupGap p)))
 
-  pub values : Values p kind n width draw
+  pub values : Values p width draw
   values =
-      let h = places p kind n in
+      let h = places p in
       record {
         below = value-below;
         of-mask = λ c b. drawn-holds _ _ (h .of-mask c b) refl;

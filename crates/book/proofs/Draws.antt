@@ -6,10 +6,13 @@ use native.Mathlib.Nat.{mul-le-mul-right}
 use native.Mathlib.Omega.{arith}
 use lib.ListN.{length, getD, take}
 use Rattle.lists.specs.Answers.{bit}
-use Rattle.rounding.specs.Sets.{Scale}
-use Rattle.book.specs.Book.{Entry, plan, shared, entryOf, isDrawn, drawnIn, drawAt, drawLength}
+use Rattle.settings.specs.Settings.{Params}
+use Rattle.settings.specs.Sizes.{shared, drawLength}
+use Rattle.book.specs.Book.{Entry, plan, entryOf, isDrawn, drawnIn, drawAt}
 use Rattle.book.specs.Book.Entry.{mask}
 use Rattle.book.specs.Theorems.{Cursor}
+use Rattle.book.proofs.Places.{plan-length}
+use Rattle.book.proofs.Sizes.{drawn-is}
 
 drawnIn-more : (es : List Entry) (k : ℕ) → k < length es → drawnIn (take (suc k) es) ≡ drawnIn (take k es) + bit (isDrawn (getD es k (mask 0)))
 unfolding drawnIn
@@ -27,23 +30,23 @@ take-all : {A : Type 0} (es : List A) → take (length es) es ≡ es
 take-all [] = refl
 take-all (e ∷ es) = ap (λ r. e ∷ r) (take-all es)
 
-module _ (p : Scale) (kind n width : ℕ) where
-  pub drawAt-none : drawAt p kind n width 0 ≡ 0
+module _ (p : Params) (width : ℕ) where
+  pub drawAt-none : drawAt p width 0 ≡ 0
   unfolding drawAt drawnIn
   drawAt-none = omega arith
 
-  pub drawAt-more : (k : ℕ) → k < shared p kind n → drawAt p kind n width (suc k) ≡ drawAt p kind n width k + bit (isDrawn (entryOf p kind n k)) + width
+  pub drawAt-more : (k : ℕ) → k < shared p → drawAt p width (suc k) ≡ drawAt p width k + bit (isDrawn (entryOf p k)) + width
   unfolding drawAt
-  drawAt-more k h = omega (arith, drawnIn-more (plan p kind n) k h)
+  drawAt-more k h = omega (arith, drawnIn-more (plan p) k (rw (plan-length p) h))
 
   -- the numbers of a place lie within the draw
-  pub drawAt-inside : (k : ℕ) → k < shared p kind n → drawAt p kind n width k + bit (isDrawn (entryOf p kind n k)) + width ≤ drawLength p kind n width
+  pub drawAt-inside : (k : ℕ) → k < shared p → drawAt p width k + bit (isDrawn (entryOf p k)) + width ≤ drawLength p width
   unfolding drawAt drawLength
-  drawAt-inside k h = omega (arith, drawnIn-more (plan p kind n) k h, drawnIn-take (plan p kind n) (suc k), mul-le-mul-right width h)
+  drawAt-inside k h = omega (arith, drawn-is p, drawnIn-more (plan p) k (rw (plan-length p) h), drawnIn-take (plan p) (suc k), mul-le-mul-right width h)
 
-  pub drawAt-end : drawAt p kind n width (shared p kind n) ≡ drawLength p kind n width
+  pub drawAt-end : drawAt p width (shared p) ≡ drawLength p width
   unfolding drawAt drawLength
-  drawAt-end = rw (take-all (plan p kind n))
+  drawAt-end = rw (← plan-length p, take-all (plan p), ← drawn-is p)
 
-  pub cursor : Cursor p kind n width
+  pub cursor : Cursor p width
   cursor = record { none = drawAt-none; more = drawAt-more; inside = drawAt-inside; end = drawAt-end }

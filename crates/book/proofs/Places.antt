@@ -12,10 +12,12 @@ use lib.Seq.{getD-append-add}
 use Rattle.lists.specs.Lists.{listFrom, listTo, joinFrom, joinTo}
 use Rattle.lists.proofs.Lists.{length-listFrom, getD-listFrom, getD-listTo, ahead, ahead-more, join-at, ahead-fixed}
 use Rattle.field.specs.Sums.{sumTo}
-use Rattle.rounding.specs.Sets.{Scale, base}
-use Rattle.book.specs.Book.{Entry, plan, shared, entryOf, groupK, vectors, triples, group, coefficient, stride, maskAt, vectorAt, tripleAt, groupAt}
+use Rattle.settings.specs.Sets.{Scale, base}
+use Rattle.settings.specs.Settings.{Params}
+use Rattle.settings.specs.Sizes.{stride, shared, groups}
+use Rattle.book.specs.Book.{Entry, plan, entryOf, groupK, vectors, triples, group, coefficient, maskAt, vectorAt, tripleAt, groupAt}
 use Rattle.book.specs.Book.Entry.{mask, place, left, right, product, groupMask, groupPlace}
-use Rattle.book.specs.Theorems.{groups, At, at-mask, at-place, at-left, at-right, at-product, at-group, at-groupPlace, Holds, Places}
+use Rattle.book.specs.Theorems.{At, at-mask, at-place, at-left, at-right, at-product, at-group, at-groupPlace, Holds, Places}
 
 -- ---- lists of entries that stand from place k on
 
@@ -91,189 +93,189 @@ ahead-triples c k = ahead-fixed 3 k (λ (t : ℕ). left c t ∷ right c t ∷ pr
 pub length-group : (k g : ℕ) → length (group k g) ≡ k + 3
 length-group k g = omega (arith, length-listFrom 0 (k + 2) (groupPlace g))
 
-module _ (p : Scale) (kind : ℕ) where
-  length-tail : (c : ℕ) → length (cond (eqb kind 0) (group 5 c) []) ≡ cond (eqb kind 0) 8 0
-  length-tail c = go (eqb kind 0)
+module _ (p : Params) where
+  length-tail : (c : ℕ) → length (cond (eqb (p .kind) 0) (group 5 c) []) ≡ cond (eqb (p .kind) 0) 8 0
+  length-tail c = go (eqb (p .kind) 0)
     where
       go : (b : Bool) → length (cond b (group 5 c) []) ≡ cond b 8 0
       go true = length-group 5 c
       go false = refl
 
-  pub length-coefficient : (c : ℕ) → length (coefficient p kind c) ≡ stride p kind
+  pub length-coefficient : (c : ℕ) → length (coefficient p c) ≡ stride p
   unfolding stride
   length-coefficient c =
-      omega (arith, length-append (vectors p c ++ triples c) (cond (eqb kind 0) (group 5 c) []), length-append (vectors p c) (triples c), length-vectors p c, ahead-triples c 8, length-tail c)
+      omega (arith, length-append (vectors (p .scale) c ++ triples c) (cond (eqb (p .kind) 0) (group 5 c) []), length-append (vectors (p .scale) c) (triples c), length-vectors (p .scale) c, ahead-triples c 8, length-tail c)
 
-  pub ahead-coefficients : (k : ℕ) → ahead 0 k (coefficient p kind) ≡ maskAt p kind k
-  ahead-coefficients k = ahead-fixed (stride p kind) k (coefficient p kind) length-coefficient
+  pub ahead-coefficients : (k : ℕ) → ahead 0 k (coefficient p) ≡ maskAt p k
+  ahead-coefficients k = ahead-fixed (stride p) k (coefficient p) length-coefficient
 
 -- ---- each entry at its own place
 
-module _ (p : Scale) (kind n : ℕ) where
+module _ (p : Params) where
   abbrev Here : ℕ → Entry → Type 0
-  Here k e = At p kind n k e
+  Here k e = At p k e
 
   abbrev Held : ℕ → Entry → Type 0
-  Held k e = Holds p kind n k e
+  Held k e = Holds p k e
 
-  at-vectors : (c : ℕ) → c < n → Stands Here (maskAt p kind c + 1) (vectors p c)
+  -- as many entries as the book's size says
+  pub plan-length : length (plan p) ≡ shared p
+  unfolding plan shared
+  plan-length =
+      length-append (joinTo (p .n) (coefficient p)) (cond (eqb (p .kind) 0) [] (group (p .n) 0))
+      ∙ ap₂ (λ a b. a + b) (ahead-coefficients p (p .n)) (by (eqb (p .kind) 0))
+    where
+      by : (b : Bool) → length (cond b [] (group (p .n) 0)) ≡ cond b 0 (p .n + 3)
+      by true = refl
+      by false = length-group (p .n) 0
+
+  at-vectors : (c : ℕ) → c < p .n → Stands Here (maskAt p c + 1) (vectors (p .scale) c)
   unfolding vectorAt
   at-vectors c h =
-      stands-joinTo Here (maskAt p kind c + 1) 5 (λ (i : ℕ). listTo (base p i) (place c i)) (λ i b.
-      stands-listTo Here _ (base p i) (place c i) (λ j l.
-      at-place h b l (omega (arith, ahead-vectors p c i))))
+      stands-joinTo Here (maskAt p c + 1) 5 (λ (i : ℕ). listTo (base (p .scale) i) (place c i)) (λ i b.
+      stands-listTo Here _ (base (p .scale) i) (place c i) (λ j l.
+      at-place h b l (omega (arith, ahead-vectors (p .scale) c i))))
 
-  at-triples : (c : ℕ) → c < n → Stands Here (maskAt p kind c + 1 + digits p) (triples c)
+  at-triples : (c : ℕ) → c < p .n → Stands Here (maskAt p c + 1 + digits (p .scale)) (triples c)
   unfolding tripleAt
   at-triples c h =
-      stands-joinTo Here (maskAt p kind c + 1 + digits p) 8 (λ (t : ℕ). left c t ∷ right c t ∷ product c t ∷ []) (λ t b.
+      stands-joinTo Here (maskAt p c + 1 + digits (p .scale)) 8 (λ (t : ℕ). left c t ∷ right c t ∷ product c t ∷ []) (λ t b.
       let a : ahead 0 t (λ (t : ℕ). left c t ∷ right c t ∷ product c t ∷ []) ≡ t * 3 = ahead-triples c t in
       stands-more Here _ (left c t) (right c t ∷ product c t ∷ []) (at-left h b (omega arith))
       (stands-more Here _ (right c t) (product c t ∷ []) (at-right h b (omega arith))
       (stands-more Here _ (product c t) [] (at-product h b (omega arith)) (stands-none Here _))))
 
-  at-groups : (k g : ℕ) → k ≡ groupK kind n → g < groups kind n → Stands Here (groupAt p kind n g) (group k g)
+  at-groups : (k g : ℕ) → k ≡ groupK p → g < groups p → Stands Here (groupAt p g) (group k g)
   at-groups k g e h =
       stands-more Here _ (groupMask g) (listTo (k + 2) (groupPlace g)) (at-group h refl)
       (stands-listTo Here _ (k + 2) (groupPlace g) (λ j l. at-groupPlace h (rw e at l) (omega arith)))
 
-  at-coefficient : (c : ℕ) → c < n → Stands Here (maskAt p kind c) (coefficient p kind c)
+  at-coefficient : (c : ℕ) → c < p .n → Stands Here (maskAt p c) (coefficient p c)
   unfolding tripleAt groupAt
   at-coefficient c h =
-      let s : suc (maskAt p kind c) ≡ maskAt p kind c + 1 = omega arith in
-      let v : length (vectors p c) ≡ digits p = length-vectors p c in
-      let l : suc (maskAt p kind c) + length (vectors p c ++ triples c) ≡ maskAt p kind c + 1 + digits p + 3 * 8 = omega (arith, length-append (vectors p c) (triples c), ahead-triples c 8) in
-      stands-more Here (maskAt p kind c) (mask c) (vectors p c ++ triples c ++ cond (eqb kind 0) (group 5 c) []) (at-mask h refl)
-      (stands-append Here (suc (maskAt p kind c)) (vectors p c ++ triples c) (cond (eqb kind 0) (group 5 c) [])
-      (stands-append Here (suc (maskAt p kind c)) (vectors p c) (triples c)
-      (subst (λ k. Stands Here k (vectors p c)) (sym s) (at-vectors c h))
+      let s : suc (maskAt p c) ≡ maskAt p c + 1 = omega arith in
+      let v : length (vectors (p .scale) c) ≡ digits (p .scale) = length-vectors (p .scale) c in
+      let l : suc (maskAt p c) + length (vectors (p .scale) c ++ triples c) ≡ maskAt p c + 1 + digits (p .scale) + 3 * 8 = omega (arith, length-append (vectors (p .scale) c) (triples c), ahead-triples c 8) in
+      stands-more Here (maskAt p c) (mask c) (vectors (p .scale) c ++ triples c ++ cond (eqb (p .kind) 0) (group 5 c) []) (at-mask h refl)
+      (stands-append Here (suc (maskAt p c)) (vectors (p .scale) c ++ triples c) (cond (eqb (p .kind) 0) (group 5 c) [])
+      (stands-append Here (suc (maskAt p c)) (vectors (p .scale) c) (triples c)
+      (subst (λ k. Stands Here k (vectors (p .scale) c)) (sym s) (at-vectors c h))
       (subst (λ k. Stands Here k (triples c)) (sym (ap₂ (λ a b. a + b) s v)) (at-triples c h)))
-      (subst (λ k. Stands Here k (cond (eqb kind 0) (group 5 c) [])) (sym l) (go (eqb kind 0) refl)))
+      (subst (λ k. Stands Here k (cond (eqb (p .kind) 0) (group 5 c) [])) (sym l) (go (eqb (p .kind) 0) refl)))
     where
-      go : (b : Bool) → eqb kind 0 ≡ b → Stands Here (maskAt p kind c + 1 + digits p + 3 * 8) (cond b (group 5 c) [])
+      go : (b : Bool) → eqb (p .kind) 0 ≡ b → Stands Here (maskAt p c + 1 + digits (p .scale) + 3 * 8) (cond b (group 5 c) [])
       go true e = subst (λ (k : ℕ). Stands Here k (group 5 c)) (rw e) (at-groups 5 c (rw e) (rw e h))
       go false e = stands-none Here _
 
-  pub at-plan : Stands Here 0 (plan p kind n)
+  pub at-plan : Stands Here 0 (plan p)
   unfolding plan groupAt
   at-plan =
-      stands-append Here 0 (joinTo n (coefficient p kind)) (cond (eqb kind 0) [] (group n 0))
-      (stands-joinTo Here 0 n (coefficient p kind) (λ c b.
-      subst (λ k. Stands Here k (coefficient p kind c)) (sym (zero-add _ ∙ ahead-coefficients p kind c)) (at-coefficient c b)))
-      (subst (λ k. Stands Here k (cond (eqb kind 0) [] (group n 0))) (sym (zero-add _ ∙ ahead-coefficients p kind n)) (go (eqb kind 0) refl))
+      stands-append Here 0 (joinTo (p .n) (coefficient p)) (cond (eqb (p .kind) 0) [] (group (p .n) 0))
+      (stands-joinTo Here 0 (p .n) (coefficient p) (λ c b.
+      subst (λ k. Stands Here k (coefficient p c)) (sym (zero-add _ ∙ ahead-coefficients p c)) (at-coefficient c b)))
+      (subst (λ k. Stands Here k (cond (eqb (p .kind) 0) [] (group (p .n) 0))) (sym (zero-add _ ∙ ahead-coefficients p (p .n))) (go (eqb (p .kind) 0) refl))
     where
-      go : (b : Bool) → eqb kind 0 ≡ b → Stands Here (maskAt p kind n) (cond b [] (group n 0))
+      go : (b : Bool) → eqb (p .kind) 0 ≡ b → Stands Here (maskAt p (p .n)) (cond b [] (group (p .n) 0))
       go true e = stands-none Here _
-      go false e = subst (λ (k : ℕ). Stands Here k (group n 0)) (rw e) (at-groups n 0 (rw e) (rw e (omega arith)))
+      go false e = subst (λ (k : ℕ). Stands Here k (group (p .n) 0)) (rw e) (at-groups (p .n) 0 (rw e) (rw e (omega arith)))
 
   -- WHAT STANDS AT A PLACE knows its place
-  pub at-entry : (k : ℕ) → k < shared p kind n → Here k (entryOf p kind n k)
-  at-entry k h = let z : 0 + k ≡ k = zero-add k in rw z at (at-plan k h)
+  pub at-entry : (k : ℕ) → k < shared p → Here k (entryOf p k)
+  at-entry k h = let z : 0 + k ≡ k = zero-add k in rw z at (at-plan k (rw plan-length h))
 
   -- ---- and the other way: what stands at the places that are drawn
 
-  in-coefficient : (c x : ℕ) → c < n → x < stride p kind → (maskAt p kind c + x < shared p kind n) × (entryOf p kind n (maskAt p kind c + x) ≡ getD (coefficient p kind c) x (mask 0))
+  in-coefficient : (c x : ℕ) → c < p .n → x < stride p → (maskAt p c + x < shared p) × (entryOf p (maskAt p c + x) ≡ getD (coefficient p c) x (mask 0))
   unfolding plan
   in-coefficient c x h b =
-      let l : x < length (coefficient p kind c) = rw (length-coefficient p kind c) b in
-      let a : ahead 0 c (coefficient p kind) ≡ maskAt p kind c = ahead-coefficients p kind c in
-      let m : maskAt p kind c + x < length (joinTo n (coefficient p kind)) = rw (ahead-coefficients p kind n) (omega (arith, mul-le-mul-right (stride p kind) h)) in (
-        omega (arith, length-append (joinTo n (coefficient p kind)) (cond (eqb kind 0) [] (group n 0))),
-        List·getD-append (joinTo n (coefficient p kind)) _ (mask 0) (maskAt p kind c + x) m
-            ∙ subst (λ k. getD (joinTo n (coefficient p kind)) (k + x) (mask 0) ≡ getD (coefficient p kind c) x (mask 0)) a (join-at n (coefficient p kind) (mask 0) c x h l),
+      let l : x < length (coefficient p c) = rw (length-coefficient p c) b in
+      let a : ahead 0 c (coefficient p) ≡ maskAt p c = ahead-coefficients p c in
+      let m : maskAt p c + x < length (joinTo (p .n) (coefficient p)) = rw (ahead-coefficients p (p .n)) (omega (arith, mul-le-mul-right (stride p) h)) in (
+        omega (arith, plan-length, length-append (joinTo (p .n) (coefficient p)) (cond (eqb (p .kind) 0) [] (group (p .n) 0))),
+        List·getD-append (joinTo (p .n) (coefficient p)) _ (mask 0) (maskAt p c + x) m
+            ∙ subst (λ k. getD (joinTo (p .n) (coefficient p)) (k + x) (mask 0) ≡ getD (coefficient p c) x (mask 0)) a (join-at (p .n) (coefficient p) (mask 0) c x h l),
       )
 
   -- the three parts of a coefficient
-  of-vectors : (c i j : ℕ) → i < 5 → j < base p i → getD (coefficient p kind c) (suc (sumTo i (base p) + j)) (mask 0) ≡ place c i j
+  of-vectors : (c i j : ℕ) → i < 5 → j < base (p .scale) i → getD (coefficient p c) (suc (sumTo i (base (p .scale)) + j)) (mask 0) ≡ place c i j
   of-vectors c i j h b =
-      let a : ahead 0 i (λ (i : ℕ). listTo (base p i) (place c i)) ≡ sumTo i (base p) = ahead-vectors p c i in
-      let m : sumTo i (base p) + j < length (vectors p c) = rw (length-vectors p c) (omega (arith, sum-within (base p) 5 i h)) in
-      List·getD-append (vectors p c ++ triples c) _ (mask 0) (sumTo i (base p) + j) (omega (arith, length-append (vectors p c) (triples c)))
-      ∙ List·getD-append (vectors p c) (triples c) (mask 0) (sumTo i (base p) + j) m
-      ∙ subst (λ k. getD (vectors p c) (k + j) (mask 0) ≡ getD (listTo (base p i) (place c i)) j (mask 0)) a
-      (join-at 5 (λ (i : ℕ). listTo (base p i) (place c i)) (mask 0) i j h (rw (length-listFrom 0 (base p i) (place c i)) b))
-      ∙ getD-listTo (base p i) (place c i) j (mask 0) b
+      let a : ahead 0 i (λ (i : ℕ). listTo (base (p .scale) i) (place c i)) ≡ sumTo i (base (p .scale)) = ahead-vectors (p .scale) c i in
+      let m : sumTo i (base (p .scale)) + j < length (vectors (p .scale) c) = rw (length-vectors (p .scale) c) (omega (arith, sum-within (base (p .scale)) 5 i h)) in
+      List·getD-append (vectors (p .scale) c ++ triples c) _ (mask 0) (sumTo i (base (p .scale)) + j) (omega (arith, length-append (vectors (p .scale) c) (triples c)))
+      ∙ List·getD-append (vectors (p .scale) c) (triples c) (mask 0) (sumTo i (base (p .scale)) + j) m
+      ∙ subst (λ k. getD (vectors (p .scale) c) (k + j) (mask 0) ≡ getD (listTo (base (p .scale) i) (place c i)) j (mask 0)) a
+      (join-at 5 (λ (i : ℕ). listTo (base (p .scale) i) (place c i)) (mask 0) i j h (rw (length-listFrom 0 (base (p .scale) i) (place c i)) b))
+      ∙ getD-listTo (base (p .scale) i) (place c i) j (mask 0) b
 
-  of-triples : (c t x : ℕ) → t < 8 → x < 3 → getD (coefficient p kind c) (suc (digits p + (3 * t + x))) (mask 0) ≡ getD (left c t ∷ right c t ∷ product c t ∷ []) x (mask 0)
+  of-triples : (c t x : ℕ) → t < 8 → x < 3 → getD (coefficient p c) (suc (digits (p .scale) + (3 * t + x))) (mask 0) ≡ getD (left c t ∷ right c t ∷ product c t ∷ []) x (mask 0)
   of-triples c t x h b =
-      let v : length (vectors p c) ≡ digits p = length-vectors p c in
+      let v : length (vectors (p .scale) c) ≡ digits (p .scale) = length-vectors (p .scale) c in
       let l : length (triples c) ≡ 8 * 3 = ahead-triples c 8 in
       let a : ahead 0 t (λ (t : ℕ). left c t ∷ right c t ∷ product c t ∷ []) ≡ 3 * t = omega (arith, ahead-triples c t) in
-      List·getD-append (vectors p c ++ triples c) _ (mask 0) (digits p + (3 * t + x)) (omega (arith, length-append (vectors p c) (triples c)))
-      ∙ subst (λ k. getD (vectors p c ++ triples c) (k + (3 * t + x)) (mask 0) ≡ getD (triples c) (3 * t + x) (mask 0)) v (getD-append-add (vectors p c) (triples c) (3 * t + x) (mask 0))
+      List·getD-append (vectors (p .scale) c ++ triples c) _ (mask 0) (digits (p .scale) + (3 * t + x)) (omega (arith, length-append (vectors (p .scale) c) (triples c)))
+      ∙ subst (λ k. getD (vectors (p .scale) c ++ triples c) (k + (3 * t + x)) (mask 0) ≡ getD (triples c) (3 * t + x) (mask 0)) v (getD-append-add (vectors (p .scale) c) (triples c) (3 * t + x) (mask 0))
       ∙ subst (λ k. getD (triples c) (k + x) (mask 0) ≡ getD (left c t ∷ right c t ∷ product c t ∷ []) x (mask 0)) a
       (join-at 8 (λ (t : ℕ). left c t ∷ right c t ∷ product c t ∷ []) (mask 0) t x h (omega arith))
 
-  of-tail : (c x : ℕ) → getD (coefficient p kind c) (suc (digits p + 24 + x)) (mask 0) ≡ getD (cond (eqb kind 0) (group 5 c) []) x (mask 0)
+  of-tail : (c x : ℕ) → getD (coefficient p c) (suc (digits (p .scale) + 24 + x)) (mask 0) ≡ getD (cond (eqb (p .kind) 0) (group 5 c) []) x (mask 0)
   of-tail c x =
-      let e : length (vectors p c ++ triples c) ≡ digits p + 24 = omega (arith, length-append (vectors p c) (triples c), length-vectors p c, ahead-triples c 8) in
-      subst (λ k. getD (vectors p c ++ triples c ++ cond (eqb kind 0) (group 5 c) []) (k + x) (mask 0) ≡ getD (cond (eqb kind 0) (group 5 c) []) x (mask 0)) e
-      (getD-append-add (vectors p c ++ triples c) _ x (mask 0))
+      let e : length (vectors (p .scale) c ++ triples c) ≡ digits (p .scale) + 24 = omega (arith, length-append (vectors (p .scale) c) (triples c), length-vectors (p .scale) c, ahead-triples c 8) in
+      subst (λ k. getD (vectors (p .scale) c ++ triples c ++ cond (eqb (p .kind) 0) (group 5 c) []) (k + x) (mask 0) ≡ getD (cond (eqb (p .kind) 0) (group 5 c) []) x (mask 0)) e
+      (getD-append-add (vectors (p .scale) c ++ triples c) _ x (mask 0))
 
-  holds-at : (c x k : ℕ) (e : Entry) → c < n → x < stride p kind → maskAt p kind c + x ≡ k → getD (coefficient p kind c) x (mask 0) ≡ e → Held k e
+  holds-at : (c x k : ℕ) (e : Entry) → c < p .n → x < stride p → maskAt p c + x ≡ k → getD (coefficient p c) x (mask 0) ≡ e → Held k e
   holds-at c x k e h b i f = let r = in-coefficient c x h b in subst (λ k. Held k e) i (r .0, r .1 ∙ f)
 
-  pub holds-mask : (c : ℕ) → c < n → Held (maskAt p kind c) (mask c)
+  pub holds-mask : (c : ℕ) → c < p .n → Held (maskAt p c) (mask c)
   unfolding stride
   holds-mask c h = holds-at c 0 _ _ h (omega arith) (add-zero _) refl
 
-  pub holds-left : (c t : ℕ) → c < n → t < 8 → Held (tripleAt p kind c t) (left c t)
+  pub holds-left : (c t : ℕ) → c < p .n → t < 8 → Held (tripleAt p c t) (left c t)
   unfolding stride tripleAt
-  holds-left c t h b = holds-at c (suc (digits p + (3 * t + 0))) _ _ h (omega arith) (omega arith) (of-triples c t 0 b (omega arith))
+  holds-left c t h b = holds-at c (suc (digits (p .scale) + (3 * t + 0))) _ _ h (omega arith) (omega arith) (of-triples c t 0 b (omega arith))
 
-  pub holds-right : (c t : ℕ) → c < n → t < 8 → Held (tripleAt p kind c t + 1) (right c t)
+  pub holds-right : (c t : ℕ) → c < p .n → t < 8 → Held (tripleAt p c t + 1) (right c t)
   unfolding stride tripleAt
-  holds-right c t h b = holds-at c (suc (digits p + (3 * t + 1))) _ _ h (omega arith) (omega arith) (of-triples c t 1 b (omega arith))
+  holds-right c t h b = holds-at c (suc (digits (p .scale) + (3 * t + 1))) _ _ h (omega arith) (omega arith) (of-triples c t 1 b (omega arith))
 
-  pub holds-product : (c t : ℕ) → c < n → t < 8 → Held (tripleAt p kind c t + 2) (product c t)
+  pub holds-product : (c t : ℕ) → c < p .n → t < 8 → Held (tripleAt p c t + 2) (product c t)
   unfolding stride tripleAt
-  holds-product c t h b = holds-at c (suc (digits p + (3 * t + 2))) _ _ h (omega arith) (omega arith) (of-triples c t 2 b (omega arith))
+  holds-product c t h b = holds-at c (suc (digits (p .scale) + (3 * t + 2))) _ _ h (omega arith) (omega arith) (of-triples c t 2 b (omega arith))
 
   -- groups: x = 0 the mask, x = 1 + j the vector
-  pub holds-group : (g x : ℕ) → g < groups kind n → x < groupK kind n + 3 → Held (groupAt p kind n g + x) (getD (group (groupK kind n) g) x (mask 0))
+  pub holds-group : (g x : ℕ) → g < groups p → x < groupK p + 3 → Held (groupAt p g + x) (getD (group (groupK p) g) x (mask 0))
   unfolding groupAt plan tripleAt stride
-  holds-group g x h b = go (eqb kind 0) refl h b
+  holds-group g x h b = go (eqb (p .kind) 0) refl h b
     where
-      go : (b : Bool) → eqb kind 0 ≡ b → g < cond b n 1 → x < cond b 5 n + 3 → Held (cond b (tripleAt p kind g 8) (maskAt p kind n) + x) (getD (group (cond b 5 n) g) x (mask 0))
+      go : (b : Bool) → eqb (p .kind) 0 ≡ b → g < cond b (p .n) 1 → x < cond b 5 (p .n) + 3 → Held (cond b (tripleAt p g 8) (maskAt p (p .n)) + x) (getD (group (cond b 5 (p .n)) g) x (mask 0))
       go true e h l =
-          holds-at g (suc (digits p + 24 + x)) _ _ h (rw e (omega arith)) (omega arith)
+          holds-at g (suc (digits (p .scale) + 24 + x)) _ _ h (rw e (omega arith)) (omega arith)
           (of-tail g x ∙ ap (λ b. getD (cond b (group 5 g) []) x (mask 0)) e)
       go false e h l =
           let z : g ≡ 0 = omega arith in
-          let a : ahead 0 n (coefficient p kind) ≡ maskAt p kind n = ahead-coefficients p kind n in
-          let w : cond (eqb kind 0) [] (group n 0) ≡ group n 0 = ap (λ b. cond b [] (group n 0)) e in
-          subst (λ g. Held (maskAt p kind n + x) (getD (group n g) x (mask 0))) (sym z) (
-            omega (arith, length-append (joinTo n (coefficient p kind)) (cond (eqb kind 0) [] (group n 0)), ap length w, length-group n 0),
-            subst (λ k. getD (joinTo n (coefficient p kind) ++ cond (eqb kind 0) [] (group n 0)) (k + x) (mask 0) ≡ getD (cond (eqb kind 0) [] (group n 0)) x (mask 0)) a
-                (getD-append-add (joinTo n (coefficient p kind)) _ x (mask 0))
+          let a : ahead 0 (p .n) (coefficient p) ≡ maskAt p (p .n) = ahead-coefficients p (p .n) in
+          let w : cond (eqb (p .kind) 0) [] (group (p .n) 0) ≡ group (p .n) 0 = ap (λ b. cond b [] (group (p .n) 0)) e in
+          subst (λ g. Held (maskAt p (p .n) + x) (getD (group (p .n) g) x (mask 0))) (sym z) (
+            omega (arith, plan-length, length-append (joinTo (p .n) (coefficient p)) (cond (eqb (p .kind) 0) [] (group (p .n) 0)), ap length w, length-group (p .n) 0),
+            subst (λ k. getD (joinTo (p .n) (coefficient p) ++ cond (eqb (p .kind) 0) [] (group (p .n) 0)) (k + x) (mask 0) ≡ getD (cond (eqb (p .kind) 0) [] (group (p .n) 0)) x (mask 0)) a
+                (getD-append-add (joinTo (p .n) (coefficient p)) _ x (mask 0))
                 ∙ ap (λ es. getD es x (mask 0)) w,
           )
 
-  pub holds-place : (c i j : ℕ) → c < n → i < 5 → j < base p i → Held (vectorAt p kind c i + j) (place c i j)
+  pub holds-place : (c i j : ℕ) → c < p .n → i < 5 → j < base (p .scale) i → Held (vectorAt p c i + j) (place c i j)
   unfolding stride vectorAt
   holds-place c i j h l b =
-      holds-at c (suc (sumTo i (base p) + j)) _ _ h (omega (arith, sum-within (base p) 5 i l)) (omega arith) (of-vectors c i j l b)
+      holds-at c (suc (sumTo i (base (p .scale)) + j)) _ _ h (omega (arith, sum-within (base (p .scale)) 5 i l)) (omega arith) (of-vectors c i j l b)
 
-  -- how many shared numbers
-  pub shared-is : shared p kind n ≡ n * stride p kind + cond (eqb kind 0) 0 (n + 3)
-  unfolding plan
-  shared-is =
-      length-append (joinTo n (coefficient p kind)) (cond (eqb kind 0) [] (group n 0))
-      ∙ ap₂ (λ a b. a + b) (ahead-coefficients p kind n) (by (eqb kind 0))
-    where
-      by : (b : Bool) → length (cond b [] (group n 0)) ≡ cond b 0 (n + 3)
-      by true = refl
-      by false = length-group n 0
-
-  pub holds-ρ : (g : ℕ) → g < groups kind n → Held (groupAt p kind n g) (groupMask g)
+  pub holds-ρ : (g : ℕ) → g < groups p → Held (groupAt p g) (groupMask g)
   holds-ρ g h = rw add-zero at (holds-group g 0 h (omega arith))
 
-  pub holds-groupPlace : (g j : ℕ) → g < groups kind n → j < groupK kind n + 2 → Held (groupAt p kind n g + 1 + j) (groupPlace g j)
+  pub holds-groupPlace : (g j : ℕ) → g < groups p → j < groupK p + 2 → Held (groupAt p g + 1 + j) (groupPlace g j)
   holds-groupPlace g j h b =
-      let s : groupAt p kind n g + suc j ≡ groupAt p kind n g + 1 + j = omega arith in
+      let s : groupAt p g + suc j ≡ groupAt p g + 1 + j = omega arith in
       let r = holds-group g (suc j) h (omega arith) in
-      subst (λ k. Held k (groupPlace g j)) s (r .0, r .1 ∙ getD-listTo (groupK kind n + 2) (groupPlace g) j (mask 0) b)
+      subst (λ k. Held k (groupPlace g j)) s (r .0, r .1 ∙ getD-listTo (groupK p + 2) (groupPlace g) j (mask 0) b)
 
-  pub places : Places p kind n
+  pub places : Places p
   places =
       record { every = at-entry; of-mask = holds-mask; of-vector = holds-place; of-left = holds-left; of-right = holds-right; of-product = holds-product; of-group = holds-ρ; of-groupPlace = holds-groupPlace }

@@ -1,13 +1,15 @@
 -- What a book holds, where it stands, and what the dealer draws for it.
-use Prim.Native.Nat.{ℕ, zero, suc, _+_, _*_, _/_, _%_}
+use Prim.Native.Nat.{ℕ, _+_, _*_, _/_, _%_}
 use mathlib.Core.Bool.{Bool, true, false, cond}
 use mathlib.Core.List.{List, [], _∷_, _++_}
 use lib.Dec.{eqb}
-use lib.ListN.{length, getD, take}
+use lib.ListN.{getD, take}
 use Rattle.lists.specs.Answers.{bit}
 use Rattle.lists.specs.Lists.{listTo, joinTo}
 use Rattle.field.specs.Sums.{sumTo}
-use Rattle.rounding.specs.Sets.{Scale, base}
+use Rattle.settings.specs.Sets.{Scale, base}
+use Rattle.settings.specs.Settings.{Params}
+use Rattle.settings.specs.Sizes.{stride}
 use Rattle.rounding.specs.Digits.{digit}
 use Rattle.rounding.specs.Rounds.{gap}
 
@@ -24,12 +26,12 @@ pub data Entry : Type 0 where
   groupPlace : (g j : ℕ) → Entry
 
 -- the K of a zero check: "for HIGH, .. K = 5", "BOUND .. K = N"
-abbrev pub groupK : ℕ → ℕ → ℕ
-groupK kind n = cond (eqb kind 0) 5 n
+abbrev pub groupK : Params → ℕ
+groupK p = cond (eqb (p .kind) 0) 5 (p .n)
 
 -- "g = q divided by (K + 1) rounded down"
-abbrev pub groupGap : Scale → ℕ → ℕ → ℕ
-groupGap p kind n = gap (p .modulus) (groupK kind n)
+abbrev pub groupGap : Params → ℕ
+groupGap p = gap (p .scale .modulus) (groupK p)
 
 -- "the vectors of r's five digits (lengths: the bases, then s + 1)"
 abbrev pub vectors : Scale → ℕ → List Entry
@@ -44,40 +46,32 @@ abbrev pub group : ℕ → ℕ → List Entry
 group k g = groupMask g ∷ listTo (k + 2) (groupPlace g)
 
 -- "A book holds, per coefficient: mask r; the vectors ..; eight product triples ..; and, for HIGH, a zero-check group"
-abbrev pub coefficient : Scale → ℕ → ℕ → List Entry
-coefficient p kind c = mask c ∷ vectors p c ++ triples c ++ cond (eqb kind 0) (group 5 c) []
+abbrev pub coefficient : Params → ℕ → List Entry
+coefficient p c = mask c ∷ vectors (p .scale) c ++ triples c ++ cond (eqb (p .kind) 0) (group 5 c) []
 
 -- "A BOUND book ends with one group with K = N"
-unfoldable pub plan : Scale → ℕ → ℕ → List Entry
-plan p kind n = joinTo n (coefficient p kind) ++ cond (eqb kind 0) [] (group n 0)
-
--- how many shared numbers a book holds
-abbrev pub shared : Scale → ℕ → ℕ → ℕ
-shared p kind n = length (plan p kind n)
+unfoldable pub plan : Params → List Entry
+plan p = joinTo (p .n) (coefficient p) ++ cond (eqb (p .kind) 0) [] (group (p .n) 0)
 
 -- what stands at place k
-abbrev pub entryOf : Scale → ℕ → ℕ → ℕ → Entry
-entryOf p kind n k = getD (plan p kind n) k (mask 0)
+abbrev pub entryOf : Params → ℕ → Entry
+entryOf p k = getD (plan p) k (mask 0)
 
 -- ---- Where it stands: the book's places, counted in shared numbers
 
--- places for one coefficient
-unfoldable pub stride : Scale → ℕ → ℕ
-stride p kind = 25 + sumTo 5 (base p) + cond (eqb kind 0) 8 0
+abbrev pub maskAt : Params → ℕ → ℕ
+maskAt p c = c * stride p
 
-abbrev pub maskAt : Scale → ℕ → ℕ → ℕ
-maskAt p kind c = c * stride p kind
-
-unfoldable pub vectorAt : Scale → ℕ → ℕ → ℕ → ℕ
-vectorAt p kind c i = maskAt p kind c + 1 + sumTo i (base p)
+unfoldable pub vectorAt : Params → ℕ → ℕ → ℕ
+vectorAt p c i = maskAt p c + 1 + sumTo i (base (p .scale))
 
 -- a; b and c follow
-unfoldable pub tripleAt : Scale → ℕ → ℕ → ℕ → ℕ
-tripleAt p kind c t = maskAt p kind c + 1 + sumTo 5 (base p) + 3 * t
+unfoldable pub tripleAt : Params → ℕ → ℕ → ℕ
+tripleAt p c t = maskAt p c + 1 + sumTo 5 (base (p .scale)) + 3 * t
 
 -- ρ; its vector follows
-unfoldable pub groupAt : Scale → ℕ → ℕ → ℕ → ℕ
-groupAt p kind n g = cond (eqb kind 0) (tripleAt p kind g 8) (maskAt p kind n)
+unfoldable pub groupAt : Params → ℕ → ℕ
+groupAt p g = cond (eqb (p .kind) 0) (tripleAt p g 8) (maskAt p (p .n))
 
 -- ---- The draw
 
@@ -95,38 +89,30 @@ unfoldable pub drawnIn : List Entry → ℕ
 drawnIn [] = 0
 drawnIn (e ∷ es) = bit (isDrawn e) + drawnIn es
 
--- a shared number is `width` numbers on each side: the share, and a part under each of the k keys of either side
-abbrev pub widthOf : ℕ → ℕ
-widthOf k = 1 + 2 * k
-
 -- "and the phone's three numbers for every shared number of the book, in book order, a drawn number just before its own three":
 -- where the numbers for place k begin in the draw
-unfoldable pub drawAt : Scale → ℕ → ℕ → ℕ → ℕ → ℕ
-drawAt p kind n width k = k * width + drawnIn (take k (plan p kind n))
+unfoldable pub drawAt : Params → ℕ → ℕ → ℕ
+drawAt p width k = k * width + drawnIn (take k (plan p))
 
--- how many numbers a draw has
-unfoldable pub drawLength : Scale → ℕ → ℕ → ℕ → ℕ
-drawLength p kind n width = shared p kind n * width + drawnIn (plan p kind n)
-
-module _ (p : Scale) (kind n width : ℕ) (draw : List ℕ) where
+module _ (p : Params) (width : ℕ) (draw : List ℕ) where
   -- the drawn number of place k
   unfoldable pub drawn : ℕ → ℕ
-  drawn k = getD draw (drawAt p kind n width k) 0
+  drawn k = getD draw (drawAt p width k) 0
 
   -- the phone's number in column c of place k
   unfoldable pub phoneNumber : ℕ → ℕ → ℕ
-  phoneNumber k c = getD draw (drawAt p kind n width k + bit (isDrawn (entryOf p kind n k)) + c) 0
+  phoneNumber k c = getD draw (drawAt p width k + bit (isDrawn (entryOf p k)) + c) 0
 
   -- the joined value of place k, where e stands: drawn, or worked out
   -- "The vector of a number d is all 0 but a 1 at position d"; "c = a × b"; "ρ divided by g rounded down"
   abbrev pub valueOf : ℕ → Entry → ℕ
   valueOf k (mask c) = drawn k
-  valueOf k (place c i j) = bit (eqb j (digit p (drawn (maskAt p kind c)) i))
+  valueOf k (place c i j) = bit (eqb j (digit (p .scale) (drawn (maskAt p c)) i))
   valueOf k (left c t) = drawn k
   valueOf k (right c t) = drawn k
-  valueOf k (product c t) = drawn (tripleAt p kind c t) * drawn (tripleAt p kind c t + 1) % p .modulus
+  valueOf k (product c t) = drawn (tripleAt p c t) * drawn (tripleAt p c t + 1) % p .scale .modulus
   valueOf k (groupMask g) = drawn k
-  valueOf k (groupPlace g j) = bit (eqb j (drawn (groupAt p kind n g) / groupGap p kind n))
+  valueOf k (groupPlace g j) = bit (eqb j (drawn (groupAt p g) / groupGap p))
 
   unfoldable pub value : ℕ → ℕ
-  value k = valueOf k (entryOf p kind n k)
+  value k = valueOf k (entryOf p k)

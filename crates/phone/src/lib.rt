@@ -4,10 +4,14 @@ ghost use mathlib.Core.Path.{_≡_};
 ghost use Prim.Native.Nat.{_*_, _<_};
 ghost use lib.IntN.{pos};
 ghost use Rattle.rounding.specs.Calls.{highCall, lowCall};
+ghost use Rattle.settings.specs.Settings.{settingsWith};
+ghost use Rattle.settings.specs.Sizes.{keyCount};
 ghost use Rattle.message.specs.Message.{formNo};
 ghost use Rattle.phone.specs.Codes.{highCode, lowCode};
 use rounding::High;
 use rounding::Low;
+use settings::Settings;
+use settings::Shape;
 
 // A refusal as one number.
 fn refusal(no: u32) -> i64
@@ -51,7 +55,11 @@ pub extern "C" fn message_form(
     serial: u32,
     message: &[u8],
 ) -> u32
-    ensures { λ r. ⌜ r ≡ formNo 1 side set kind n bound round serial (now (message .entry)) ⌝ }
+    ensures { λ r. ⌜ r ≡ formNo keyCount side (settingsWith set kind n bound) round serial (now (message .entry)) ⌝ }
 {
-    message::message_form(side, set, kind, n, bound, round, serial, message)
+    let settings = Settings {
+        shape: Shape { set, kind, n },
+        bound,
+    };
+    message::message_form(side, settings, round, serial, message)
 }

@@ -40,11 +40,11 @@ module _ (p : Params) where
   unfolding shared
   shared-bound e = rw (ne-eqb (p .kind) 0 e)
 
-  pub draw-high : (width : ℕ) → p .kind ≡ 0 → drawLength width p ≡ shared p * width + 18 * p .n
+  pub draw-high : (width : ℕ) → p .kind ≡ 0 → drawLength p width ≡ shared p * width + 18 * p .n
   unfolding drawLength
   draw-high width e = rw (eq-eqb (p .kind) 0 e) (omega arith)
 
-  pub draw-bound : (width : ℕ) → p .kind ≢ 0 → drawLength width p ≡ shared p * width + (17 * p .n + 1)
+  pub draw-bound : (width : ℕ) → p .kind ≢ 0 → drawLength p width ≡ shared p * width + (17 * p .n + 1)
   unfolding drawLength
   draw-bound width e = rw (ne-eqb (p .kind) 0 e)
 

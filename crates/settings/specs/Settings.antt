@@ -22,3 +22,7 @@ paramsOf a = record { scale = scaleOf (a .set); kind = a .kind; n = a .n }
 -- "Settings are set, kind, N and B"
 abbrev pub termsOf : Settings → Terms
 termsOf s = record { params = paramsOf (s .shape); bound = s .bound }
+
+-- settings by their four numbers
+abbrev pub settingsWith : ℕ → ℕ → ℕ → ℕ → Settings
+settingsWith set kind n bound = record { shape = record { set = set; kind = kind; n = n }; bound = bound }

@@ -77,8 +77,8 @@ abbrev pub drawnNumbers : Params → ℕ
 drawnNumbers p = 17 * p .n + groups p
 
 -- ".. and the phone's three numbers for every shared number of the book": how many numbers a draw has
-unfoldable pub drawLength : ℕ → Params → ℕ
-drawLength width p = shared p * width + drawnNumbers p
+unfoldable pub drawLength : Params → ℕ → ℕ
+drawLength p width = shared p * width + drawnNumbers p
 
 -- ---- A side's slices
 
@@ -108,7 +108,7 @@ unfoldable pub bookSize : Shape → ℕ
 bookSize a = sized a (shared (paramsOf a) * widthOf keyCount)
 
 unfoldable pub drawSize : Shape → ℕ
-drawSize a = sized a (drawLength (widthOf keyCount) (paramsOf a))
+drawSize a = sized a (drawLength (paramsOf a) (widthOf keyCount))
 
 unfoldable pub inputSize : Shape → ℕ
 inputSize a = sized a (a .n * widthOf keyCount)

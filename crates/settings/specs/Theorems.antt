@@ -31,8 +31,8 @@ pub record SizeLaws : Type 0 where
   pub bound-0 : (n : ℕ) → shared (shapeOf 0 1 n) ≡ 158 * n + 3
   pub bound-1 : (n : ℕ) → shared (shapeOf 1 1 n) ≡ 155 * n + 3
   -- "every r, a, b, ρ and the phone's three numbers"
-  pub high-draw : (set n : ℕ) → drawLength (widthOf 1) (shapeOf set 0 n) ≡ 3 * shared (shapeOf set 0 n) + 18 * n
-  pub bound-draw : (set n : ℕ) → drawLength (widthOf 1) (shapeOf set 1 n) ≡ 3 * shared (shapeOf set 1 n) + (17 * n + 1)
+  pub high-draw : (set n : ℕ) → drawLength (shapeOf set 0 n) (widthOf 1) ≡ 3 * shared (shapeOf set 0 n) + 18 * n
+  pub bound-draw : (set n : ℕ) → drawLength (shapeOf set 1 n) (widthOf 1) ≡ 3 * shared (shapeOf set 1 n) + (17 * n + 1)
   -- "Openings in all: 19N or 17N + 2"
   pub high-openings : (set n : ℕ) → openingsUpTo (shapeOf set 0 n) 7 ≡ 19 * n
   pub bound-openings : (set n : ℕ) → openingsUpTo (shapeOf set 1 n) 7 ≡ 17 * n + 2

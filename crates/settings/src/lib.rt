@@ -257,7 +257,7 @@ pub fn shared_of(shape: Shape) -> usize
 // How many numbers a draw has.
 pub fn draw_length(shape: Shape) -> usize
     requires { ⌜ (shape .set < 2) × (shape .n ≤ 8) ⌝ }
-    ensures { λ r. ⌜ (r ≡ drawLength (widthOf keyCount) (paramsOf shape)) × (r ≤ 1320 * widthOf keyCount + 144) ⌝ }
+    ensures { λ r. ⌜ (r ≡ drawLength (paramsOf shape) (widthOf keyCount)) × (r ≤ 1320 * widthOf keyCount + 144) ⌝ }
 {
     let size = shared_of(shape) * WIDTH;
     let n = shape.n as usize;

@@ -12,7 +12,7 @@ returns c = rw (eq-eqb _ _ (c .before .if1 .taken)) (omega arith)
 
 returns-2 : tie.Need-returns-2
 unfolding groupAt
-returns-2 c = rw (ne-eqb _ _ (c .before .if1 .left)) (omega arith)
+returns-2 c = rw (ne-eqb _ _ (c .before .before .if1 .left)) (omega arith)
 
 pub group-at-spec : {M : Type 1} → statement M
-group-at-spec = tie.close (tie.spec (λ c κs. search needs) returns (λ c κs. search needs) returns-2)
+group-at-spec = tie.close (tie.spec (λ c κs. search needs) returns (λ c. search needs) (λ c κs. search needs) returns-2)

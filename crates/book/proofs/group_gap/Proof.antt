@@ -8,4 +8,4 @@ returns : tie.Need-returns
 returns c = (rw (c .group-k .ensures .0), gap-some (c .group-k .result) (c .group-k .ensures .1))
 
 pub group-gap-spec : {M : Type 1} → statement M
-group-gap-spec = tie.close (tie.spec (λ c κs. search needs) (λ c. search needs) (λ c. search needs) (λ c. search needs) returns)
+group-gap-spec = tie.close (tie.spec (λ c κs. search needs) (λ c. search needs) (λ c. search needs) returns)

@@ -34,6 +34,12 @@ returns-4 c =
     let a = c .before .before .before .before .before .before .args in
     settings-skip (a .receiver) (a .settings) _ _ _ (c .before .before .before .before .settings-no .ensures) (c .before .before .before .if1 .left) (search walk depth 20)
 
+sender : tie.Need-sub-new
+sender c =
+    let a = c .before .before .before .before .before .before .args in
+    let no = sym (c .before .before .before .before .settings-no .ensures) ∙ c .before .before .before .if1 .left in
+    omega (arith, settings-ready (a .receiver) (a .settings) 0 no .0)
+
 form-no-requires : tie.Need-form-no-requires
 form-no-requires c κs =
     let a = c .before .before .before .before .before .before .before .args in
@@ -55,7 +61,7 @@ message-form-spec =
     returns-2
     returns-3
     returns-4
-    (λ c. search needs)
+    sender
     (λ c κs. search needs)
     form-no-requires
     returns-5)
