@@ -4,7 +4,7 @@ ghost use mathlib.Core.Bool.{true};
 ghost use Prim.Native.Nat.{_+_, _*_, _%_, _^_, _≤_, _<_};
 ghost use lib.ListN.{length};
 ghost use Rattle.lists.specs.Lists.{fill, inFront, allBelow};
-ghost use Rattle.settings.specs.Sizes.{keyCount, bytesFor, fieldBits, messageBits};
+ghost use Rattle.settings.specs.Sizes.{keyCount, mostFields, bytesFor, fieldBits, messageBits};
 ghost use Rattle.message.specs.Bits.{padding, numberOf};
 ghost use Rattle.message.specs.Message.{headerNumber, headerWith, messageOf, fieldIn, fieldsOk, askForm, formNo};
 ghost use Rattle.message.specs.Fields.{bitsAt, putBits, putFields, byteOf, HeaderFits};
@@ -200,7 +200,7 @@ fn read_field(bytes: &[u8], at: usize, width: usize) -> u32
 
 // Puts the fields behind the header.
 fn put_fields(out: &mut [u8], fields: &[u32])
-    requires { ⌜ (bytesFor (messageBits (length (now fields))) ≤ length (now out)) × (length (now fields) ≤ (1 + keyCount) * 32) ⌝ }
+    requires { ⌜ (bytesFor (messageBits (length (now fields))) ≤ length (now out)) × (length (now fields) ≤ mostFields keyCount) ⌝ }
     requires { ⌜ allBelow (2 ^ fieldBits) (now fields) ≡ true ⌝ }
     ensures { λ _. ⌜ now (out .exit) ≡ putFields (now (out .entry)) (now (fields .entry)) ⌝ }
 {
@@ -214,7 +214,7 @@ fn put_fields(out: &mut [u8], fields: &[u32])
 // Writes a message in front of `out` and gives its length. A side's `send` has asked for the room and made the fields.
 pub fn put_message(out: &mut [u8], header: Header, fields: &[u32]) -> usize
     requires { ⌜ HeaderFits header ⌝ }
-    requires { ⌜ (bytesFor (messageBits (length (now fields))) ≤ length (now out)) × (length (now fields) ≤ (1 + keyCount) * 32) ⌝ }
+    requires { ⌜ (bytesFor (messageBits (length (now fields))) ≤ length (now out)) × (length (now fields) ≤ mostFields keyCount) ⌝ }
     requires { ⌜ allBelow (2 ^ fieldBits) (now fields) ≡ true ⌝ }
     ensures { λ r. ⌜ (r ≡ bytesFor (messageBits (length (now (fields .entry)))))
         × (now (out .exit) ≡ inFront (messageOf (headerNumber header) (now (fields .entry))) (now (out .entry))) ⌝ }
@@ -228,7 +228,7 @@ pub fn put_message(out: &mut [u8], header: Header, fields: &[u32]) -> usize
 
 // Field f. (The count of fields is for the promise: it fixes where the bits end.)
 pub fn field_of(message: &[u8], fields: usize, f: usize) -> u32
-    requires { ⌜ (length (now message) ≡ bytesFor (messageBits fields)) × (f < fields) × (fields ≤ (1 + keyCount) * 32) ⌝ }
+    requires { ⌜ (length (now message) ≡ bytesFor (messageBits fields)) × (f < fields) × (fields ≤ mostFields keyCount) ⌝ }
     ensures { λ r. ⌜ r ≡ fieldIn fields (now (message .entry)) f ⌝ }
 {
     read_field(message, Header::BITS + FIELD_BITS * f, FIELD_BITS)
@@ -236,7 +236,7 @@ pub fn field_of(message: &[u8], fields: usize, f: usize) -> u32
 
 // The bits that fill the last byte.
 fn padding_of(message: &[u8], fields: usize) -> u32
-    requires { ⌜ (length (now message) ≡ bytesFor (messageBits fields)) × (fields ≤ (1 + keyCount) * 32) ⌝ }
+    requires { ⌜ (length (now message) ≡ bytesFor (messageBits fields)) × (fields ≤ mostFields keyCount) ⌝ }
     ensures { λ r. ⌜ r ≡ numberOf (now (message .entry)) % 2 ^ padding (messageBits fields) ⌝ }
 {
     let bits = Header::BITS + FIELD_BITS * fields;
@@ -245,7 +245,7 @@ fn padding_of(message: &[u8], fields: usize) -> u32
 
 // Question 12.
 fn fields_ok(message: &[u8], fields: usize) -> bool
-    requires { ⌜ (length (now message) ≡ bytesFor (messageBits fields)) × (fields ≤ (1 + keyCount) * 32) ⌝ }
+    requires { ⌜ (length (now message) ≡ bytesFor (messageBits fields)) × (fields ≤ mostFields keyCount) ⌝ }
     ensures { λ r. ⌜ r ≡ fieldsOk fields (now (message .entry)) ⌝ }
 {
     let mut f = 0;

@@ -31,6 +31,13 @@ openings p round =
     (cond (leb round 5) (4 * p .n)
     (cond (eqb (p .kind) 0) (p .n) 1))
 
+-- the most openings of a round, and the most fields of a message
+abbrev pub mostOpenings : ℕ
+mostOpenings = 32
+
+abbrev pub mostFields : ℕ → ℕ
+mostFields k = mostOpenings * (1 + k)
+
 -- the openings of the first rounds
 unfoldable pub openingsUpTo : Params → ℕ → ℕ
 openingsUpTo p rounds = sumTo rounds (λ (r : ℕ). openings p (r + 1))

@@ -1,12 +1,14 @@
 // What a run is agreed on: the constants of the sets, the settings, the questions about them with their refusal numbers, and every size
 // that follows.
 ghost use mathlib.Core.Path.{_≡_};
+ghost use mathlib.Core.List.{_∷_, _++_};
 ghost use Prim.Native.Nat.{_+_, _*_, _≤_, _<_};
+ghost use lib.ListN.{getD};
 ghost use Rattle.field.specs.Sums.{sumTo};
 ghost use Rattle.settings.specs.Sets.{scaleOf, base};
 ghost use Rattle.settings.specs.Settings.{paramsOf};
 ghost use Rattle.settings.specs.Questions.{boundOk, keyOk, keysOk, askShape, askSettings, shapeOk, ShapeReady};
-ghost use Rattle.settings.specs.Sizes.{keyCount, widthOf, openings, fieldCount, messageBits, bytesFor, messageLength, stride, shared, drawLength, answerPlaces, messageSize, bookSize, drawSize, inputSize, answerSize};
+ghost use Rattle.settings.specs.Sizes.{keyCount, widthOf, mostOpenings, mostFields, openings, fieldCount, messageBits, bytesFor, messageLength, stride, shared, drawLength, answerPlaces, messageSize, bookSize, drawSize, inputSize, answerSize};
 use field::Q;
 
 // ---- Settings
@@ -77,7 +79,7 @@ pub const FIELD_BITS: usize = 23;
 // The most openings of a round, and fields of a message.
 pub const MOST_OPENINGS: usize = 32;
 
-pub const MOST_FIELDS: usize = FIELDS_PER_OPENING * MOST_OPENINGS;
+pub const MOST_FIELDS: usize = MOST_OPENINGS * FIELDS_PER_OPENING;
 
 // ---- Constants of the sets, for the crates above, which ask question 1 first
 
@@ -138,6 +140,20 @@ fn key_ok(key: u32) -> bool
     key < Q
 }
 
+// Question 4, of a side's keys.
+pub fn keys_ok(keys: [u32; KEYS]) -> bool
+    ensures { λ r. ⌜ r ≡ keysOk keys ⌝ }
+{
+    let mut i = 0;
+    while i < KEYS {
+        if !key_ok(keys[i]) {
+            return false;
+        }
+        i += 1;
+    }
+    true
+}
+
 // Questions 1 and 2: the first no, or 0.
 pub fn shape_no(shape: Shape) -> u32
     ensures { λ r. ⌜ r ≡ askShape shape 0 ⌝ }
@@ -175,12 +191,38 @@ pub fn settings_no(number: u32, settings: Settings) -> u32
     0
 }
 
+// ---- A number for each column
+
+// Number i of the server's keys and the phone's, in this order.
+fn key_at(keys0: [u32; KEYS], keys1: [u32; KEYS], i: usize) -> u32
+    requires { ⌜ i < 2 * keyCount ⌝ }
+    ensures { λ r. ⌜ r ≡ getD (keys0 ++ keys1) i 0 ⌝ }
+{
+    if i < KEYS {
+        return keys0[i];
+    }
+    keys1[i - KEYS]
+}
+
+// One number for the share, and those for the parts under the server's keys and under the phone's.
+pub fn for_columns(share: u32, keys0: [u32; KEYS], keys1: [u32; KEYS]) -> [u32; WIDTH]
+    ensures { λ r. ⌜ r ≡ share ∷ keys0 ++ keys1 ⌝ }
+{
+    let mut columns = [share; WIDTH];
+    let mut i = 0;
+    while i < 2 * KEYS {
+        columns[1 + i] = key_at(keys0, keys1, i);
+        i += 1;
+    }
+    columns
+}
+
 // ---- Sizes, for the crates above, which ask questions 1 and 2 first
 
 // How many openings a round has.
 pub fn openings_in(shape: Shape, round: u32) -> u32
     requires { ⌜ shape .n ≤ 8 ⌝ }
-    ensures { λ r. ⌜ (r ≡ openings (paramsOf shape) round) × (r ≤ 32) ⌝ }
+    ensures { λ r. ⌜ (r ≡ openings (paramsOf shape) round) × (r ≤ mostOpenings) ⌝ }
 {
     if round == 1 {
         return shape.n;
@@ -197,14 +239,14 @@ pub fn openings_in(shape: Shape, round: u32) -> u32
 // How many fields a round's message has.
 pub fn field_count(shape: Shape, round: u32) -> usize
     requires { ⌜ shape .n ≤ 8 ⌝ }
-    ensures { λ r. ⌜ (r ≡ fieldCount keyCount (paramsOf shape) round) × (r ≤ (1 + keyCount) * 32) ⌝ }
+    ensures { λ r. ⌜ (r ≡ fieldCount keyCount (paramsOf shape) round) × (r ≤ mostFields keyCount) ⌝ }
 {
     FIELDS_PER_OPENING * openings_in(shape, round) as usize
 }
 
 // The length in bytes of a message with so many fields.
 pub fn length_of(fields: usize) -> usize
-    requires { ⌜ fields ≤ (1 + keyCount) * 32 ⌝ }
+    requires { ⌜ fields ≤ mostFields keyCount ⌝ }
     ensures { λ r. ⌜ r ≡ bytesFor (messageBits fields) ⌝ }
 {
     (HEADER_BITS + FIELD_BITS * fields + 7) / 8
