@@ -12,7 +12,7 @@ use Rattle.lists.proofs.Fill.{fill-none, fill-more, fill-join, fill-same, lengt
 use Rattle.field.specs.Field.{q, sub, mul}
 use Rattle.book.specs.Book.{drawn, phoneNumber}
 use Rattle.book.specs.Deal.{serverNumber}
-use Rattle.dealer.specs.Work.{dealtInto, scaleFor, cursorFor, serverFor, phoneFor, Lent, Next, Draws, Vector, Wrote}
+use Rattle.dealer.specs.Work.{width, dealtInto, paramsFor, cursorFor, serverFor, phoneFor, Lent, Next, Draws, Vector, Wrote}
 use Rattle.dealer.specs.declared.Order.{Order}
 use Rattle.book.proofs.Draws.{drawAt-none, drawAt-more, drawAt-inside}
 use Rattle.book.proofs.Books.{value-drawn}
@@ -21,24 +21,24 @@ use Rattle.book.proofs.Books.{value-drawn}
 
 dealt-none : (s : List ℕ) (f : ℕ → ℕ) (k : ℕ) → s ≡ dealtInto s f k 0
 unfolding dealtInto
-dealt-none s f k = sym (fill-none s (3 * k) _)
+dealt-none s f k = sym (fill-none s (width * k) _)
 
 dealt-join : (s : List ℕ) (f : ℕ → ℕ) (k a b : ℕ) → dealtInto (dealtInto s f k a) f (k + a) b ≡ dealtInto s f k (a + b)
 unfolding dealtInto
 dealt-join s f k a b =
-    let i : 3 * (k + a) ≡ 3 * k + 3 * a = omega arith in
-    let j : 3 * (a + b) ≡ 3 * a + 3 * b = omega arith in
-    rw (i, j) (fill-join s (3 * k) (3 * a) (3 * b) (λ (x : ℕ). f (3 * k + x)) _ (λ x h. ap f (omega arith)))
+    let i : width * (k + a) ≡ width * k + width * a = omega arith in
+    let j : width * (a + b) ≡ width * a + width * b = omega arith in
+    rw (i, j) (fill-join s (width * k) (width * a) (width * b) (λ (x : ℕ). f (width * k + x)) _ (λ x h. ap f (omega arith)))
 
 length-dealt : (s : List ℕ) (f : ℕ → ℕ) (k a : ℕ) → length (dealtInto s f k a) ≡ length s
 unfolding dealtInto
-length-dealt s f k a = length-fill s (3 * k) (3 * a) _
+length-dealt s f k a = length-fill s (width * k) (width * a) _
 
-pub dealt-whole : (s : List ℕ) (f : ℕ → ℕ) (n : ℕ) → length s ≡ n * 3 → dealtInto s f 0 n ≡ listTo (n * 3) f
+pub dealt-whole : (s : List ℕ) (f : ℕ → ℕ) (n : ℕ) → length s ≡ n * width → dealtInto s f 0 n ≡ listTo (n * width) f
 unfolding dealtInto
 dealt-whole s f n h =
-    let j : 3 * n ≡ n * 3 = omega arith in
-    rw j (fill-same s 0 (n * 3) _ f (λ x l. ap f (omega arith)) ∙ whole-is s (n * 3) f h)
+    let j : width * n ≡ n * width = omega arith in
+    rw j (fill-same s 0 (n * width) _ f (λ x l. ap f (omega arith)) ∙ whole-is s (n * width) f h)
 
 -- ---- runs
 
@@ -65,8 +65,7 @@ module _ {o : Order} {draw : List ℕ} where
   pub still-lent : {s₀ p₀ s₁ p₁ : List ℕ} {k a at : ℕ} → Lent o draw s₀ p₀ → Wrote o draw s₀ p₀ k a s₁ p₁ at → Lent o draw s₁ p₁
   still-lent {s₀} {p₀} {k = k} {a = a} l u =
       record {
-        set-is = l .set-is;
-        count-is = l .count-is;
+        ready = l .ready;
         draw-size = l .draw-size;
         server-size = ap length (u .server-is) ∙ length-dealt s₀ (serverFor o draw) k a ∙ l .server-size;
         phone-size = ap length (u .phone-is) ∙ length-dealt p₀ (phoneFor o draw) k a ∙ l .phone-size;
@@ -74,38 +73,38 @@ module _ {o : Order} {draw : List ℕ} where
 
 -- ---- one place
 
-module _ (o : Order) (draw : List ℕ) (k at v : ℕ) (h : Next o draw k at v) (c : ℕ) (l : c < 3) where
+module _ (o : Order) (draw : List ℕ) (k at v : ℕ) (h : Next o draw k at v) (c : ℕ) (l : c < width) where
   -- column c of place k, as the book has it
   abbrev x : ℕ
-  x = 3 * k + c
+  x = width * k + c
 
   pub phone-column : getD draw (at + c) 0 ≡ phoneFor o draw x
   unfolding phoneFor phoneNumber
   phone-column =
-      let i : x / 3 ≡ k = omega arith in
-      let j : x % 3 ≡ c = omega arith in
+      let i : x / width ≡ k = omega arith in
+      let j : x % width ≡ c = omega arith in
       rw (i, j, h .begins)
 
   pub server-column : sub q (mul q (getD (o .factors) c 0) v) (getD draw (at + c) 0) ≡ serverFor o draw x
   unfolding serverFor serverNumber phoneNumber
   server-column =
-      let i : x / 3 ≡ k = omega arith in
-      let j : x % 3 ≡ c = omega arith in
+      let i : x / width ≡ k = omega arith in
+      let j : x % width ≡ c = omega arith in
       rw (i, j, h .begins, h .is) (omega arith)
 
 -- the draw and both books have room for it
 pub room : {o : Order} {draw server phone : List ℕ} {k at v : ℕ} → Lent o draw server phone → Next o draw k at v
-    → (at + 3 ≤ length draw) × (3 * k + 3 ≤ length server) × (3 * k + 3 ≤ length phone)
-room {o} {k = k} l h = omega (arith, drawAt-inside (scaleFor o) (o .kind) (o .n) 3 k (h .inside))
+    → (at + width ≤ length draw) × (width * k + width ≤ length server) × (width * k + width ≤ length phone)
+room {o} {k = k} l h = omega (arith, drawAt-inside (paramsFor o) width k (h .inside))
 
--- a place's three columns are a run of one place
+-- a place's columns are a run of one place
 pub wrote-place : {o : Order} {draw server phone server′ phone′ : List ℕ} {k at v : ℕ} → Next o draw k at v
-    → server′ ≡ fill server (3 * k) 3 (λ (x : ℕ). serverFor o draw (3 * k + x)) → phone′ ≡ fill phone (3 * k) 3 (λ (x : ℕ). phoneFor o draw (3 * k + x))
-    → Wrote o draw server phone k 1 server′ phone′ (at + 3)
+    → server′ ≡ fill server (width * k) width (λ (x : ℕ). serverFor o draw (width * k + x)) → phone′ ≡ fill phone (width * k) width (λ (x : ℕ). phoneFor o draw (width * k + x))
+    → Wrote o draw server phone k 1 server′ phone′ (at + width)
 unfolding dealtInto
 wrote-place {o} {k = k} h s p =
     let e : k + 1 ≡ suc k = omega arith in
-    record { server-is = s; phone-is = p; next = rw e (omega (arith, drawAt-more (scaleFor o) (o .kind) (o .n) 3 k (h .inside))) }
+    record { server-is = s; phone-is = p; next = rw e (omega (arith, drawAt-more (paramsFor o) width k (h .inside))) }
 
 -- a turn of the loop over the columns
 pub stored : (s₀ s : List ℕ) (i n x : ℕ) (f : ℕ → ℕ) → s ≡ fill s₀ i n f → x ≡ f n → set s (i + n) x ≡ fill s₀ i (n + 1) f
@@ -120,11 +119,11 @@ module _ {o : Order} {draw : List ℕ} {k at : ℕ} (h : Draws o k) (e : at ≡ 
       record {
         inside = h .inside;
         begins = rw (h .draws, e);
-        is = rw e (sym (value-drawn (scaleFor o) (o .kind) (o .n) 3 draw k (h .draws)));
+        is = rw e (sym (value-drawn (paramsFor o) width draw k (h .draws)));
       }
 
-  -- it and its own three lie within the draw
-  pub drawn-room : {server phone : List ℕ} → Lent o draw server phone → at + 4 ≤ length draw
+  -- it and the place's own numbers lie within the draw
+  pub drawn-room : {server phone : List ℕ} → Lent o draw server phone → at + 1 + width ≤ length draw
   drawn-room l = let r = room l next-drawn in omega arith
 
 -- ---- a vector
@@ -144,4 +143,4 @@ pub cursor-as : (o : Order) {at k m : ℕ} → at ≡ cursorFor o k → k ≡ m 
 cursor-as o e f = e ∙ ap (cursorFor o) f
 
 pub first-cursor : (o : Order) → 0 ≡ cursorFor o 0
-first-cursor o = sym (drawAt-none (scaleFor o) (o .kind) (o .n) 3)
+first-cursor o = sym (drawAt-none (paramsFor o) width)

@@ -1,4 +1,4 @@
--- What the dealer's working functions are told and promise: the numbers of a run of places, at three columns.
+-- What the dealer's working functions are told and promise: the numbers of a run of places, column by column.
 use mathlib.Core.Path.{_≡_}
 use mathlib.Core.Bool.{true, false}
 use mathlib.Core.List.{List}
@@ -7,47 +7,52 @@ use lib.Dec.{eqb}
 use lib.ListN.{length}
 use Rattle.lists.specs.Answers.{bit}
 use Rattle.lists.specs.Lists.{fill}
-use Rattle.rounding.specs.Sets.{Scale, scaleOf}
-use Rattle.book.specs.Book.{Entry, shared, entryOf, isDrawn, drawAt, drawLength, value, phoneNumber}
+use Rattle.settings.specs.Settings.{Params, paramsOf}
+use Rattle.settings.specs.Questions.{ShapeReady}
+use Rattle.settings.specs.Sizes.{keyCount, widthOf, shared, drawLength}
+use Rattle.book.specs.Book.{Entry, entryOf, isDrawn, drawAt, value, phoneNumber}
 use Rattle.book.specs.Deal.{serverNumber}
 use Rattle.dealer.specs.declared.Order.{Order}
 
+-- how many numbers a place has
+abbrev pub width : ℕ
+width = widthOf keyCount
+
 -- s with the numbers of `count` places from place k on, x ↦ f x being the numbers of the whole book
 unfoldable pub dealtInto : List ℕ → (ℕ → ℕ) → ℕ → ℕ → List ℕ
-dealtInto s f k count = fill s (3 * k) (3 * count) (λ (x : ℕ). f (3 * k + x))
+dealtInto s f k count = fill s (width * k) (width * count) (λ (x : ℕ). f (width * k + x))
 
 module _ (o : Order) where
-  abbrev pub scaleFor : Scale
-  scaleFor = scaleOf (o .set)
+  abbrev pub paramsFor : Params
+  paramsFor = paramsOf (o .shape)
 
   abbrev pub sharedFor : ℕ
-  sharedFor = shared scaleFor (o .kind) (o .n)
+  sharedFor = shared paramsFor
 
   abbrev pub entryFor : ℕ → Entry
-  entryFor k = entryOf scaleFor (o .kind) (o .n) k
+  entryFor k = entryOf paramsFor k
 
   abbrev pub cursorFor : ℕ → ℕ
-  cursorFor k = drawAt scaleFor (o .kind) (o .n) 3 k
+  cursorFor k = drawAt paramsFor width k
 
   abbrev pub valueFor : List ℕ → ℕ → ℕ
-  valueFor draw k = value scaleFor (o .kind) (o .n) 3 draw k
+  valueFor draw k = value paramsFor width draw k
 
   -- number x of a side's book
   unfoldable pub serverFor : List ℕ → ℕ → ℕ
-  serverFor draw x = serverNumber scaleFor (o .kind) (o .n) 3 (o .factors) draw (x / 3) (x % 3)
+  serverFor draw x = serverNumber paramsFor width (o .factors) draw (x / width) (x % width)
 
   unfoldable pub phoneFor : List ℕ → ℕ → ℕ
-  phoneFor draw x = phoneNumber scaleFor (o .kind) (o .n) 3 draw (x / 3) (x % 3)
+  phoneFor draw x = phoneNumber paramsFor width draw (x / width) (x % width)
 
   -- what the questions have told
   pub record Lent (draw server phone : List ℕ) : Type 0 where
-    pub set-is : o .set < 2
-    pub count-is : o .n ≤ 8
-    pub draw-size : length draw ≡ drawLength scaleFor (o .kind) (o .n) 3
-    pub server-size : length server ≡ sharedFor * 3
-    pub phone-size : length phone ≡ sharedFor * 3
+    pub ready : ShapeReady (o .shape)
+    pub draw-size : length draw ≡ drawLength paramsFor width
+    pub server-size : length server ≡ sharedFor * width
+    pub phone-size : length phone ≡ sharedFor * width
 
-  -- place k is next: its own three numbers begin at `at`, and its joined value is v
+  -- place k is next: its own numbers begin at `at`, and its joined value is v
   pub record Next (draw : List ℕ) (k at v : ℕ) : Type 0 where
     pub inside : k < sharedFor
     pub begins : at ≡ cursorFor k + bit (isDrawn (entryFor k))

@@ -1,42 +1,47 @@
 // The dealer, who makes both sides' books from a draw.
 ghost use mathlib.Core.Path.{_≡_};
 ghost use mathlib.Core.Bool.{_&&_};
-ghost use mathlib.Core.List.{[], _∷_};
 ghost use Prim.Native.Nat.{_+_, _*_, _/_, _≤_, _<_};
 ghost use lib.Dec.{eqb};
 ghost use lib.ListN.{length};
 ghost use Rattle.lists.specs.Answers.{bit};
 ghost use Rattle.field.specs.Sums.{sumTo};
-ghost use Rattle.rounding.specs.Sets.{scaleOf, base};
-ghost use Rattle.rounding.specs.Questions.{keysOk};
-ghost use Rattle.rounding.specs.Rounds.{gap};
+ghost use Rattle.settings.specs.Sets.{base};
+ghost use Rattle.settings.specs.Settings.{paramsOf};
+ghost use Rattle.settings.specs.Sizes.{keyCount, widthOf, shared, stride, drawLength, groups};
+ghost use Rattle.settings.specs.Questions.{keysOk};
 ghost use Rattle.rounding.specs.Digits.{splitOf};
-ghost use Rattle.book.specs.Book.{groupK, shared, stride, maskAt, vectorAt, tripleAt, groupAt, drawLength, drawn};
+ghost use Rattle.book.specs.Book.{groupK, maskAt, vectorAt, tripleAt, groupAt, drawn};
 ghost use Rattle.book.specs.Deal.{dealNo, dealCall};
-ghost use Rattle.book.specs.Theorems.{groups};
-ghost use Rattle.dealer.specs.Work.{Lent, Next, Draws, Vector, Wrote, cursorFor, sharedFor};
-use book::draw_length;
+ghost use Rattle.dealer.specs.Work.{Lent, Next, Draws, Vector, Wrote, paramsFor, cursorFor, sharedFor};
+use settings::draw_length;
 use book::group_at;
 use book::group_gap;
 use book::group_k;
 use book::mask_at;
-use book::shared_of;
+use settings::shared_of;
 use book::triple_at;
 use book::vector_at;
 use field::all_below_q;
 use field::mul_mod;
 use field::sub_mod;
+use settings::KEY;
+use settings::KEYS;
+use settings::LENGTH;
+use settings::NOT_BELOW_Q;
+use settings::Shape;
+use settings::shape_no;
 use rounding::Split;
-use rounding::base_of;
-use rounding::key_ok;
+use settings::WIDTH;
+use settings::base_of;
+use settings::for_columns;
+use settings::keys_ok;
 use rounding::split_number;
 
 // What the working functions are told: the settings, and what each column's numbers add up to, as a factor.
 struct Order {
-    set: usize,
-    kind: u32,
-    n: usize,
-    factors: [u32; 3],
+    shape: Shape,
+    factors: [u32; WIDTH],
 }
 
 // ---- The deal's work: each function deals a run of places and gives back where the next place's numbers begin in the draw.
@@ -51,7 +56,7 @@ fn vector_entry(j: usize, d: u32) -> u32
     0
 }
 
-// The three columns of place k, with the joined value `value`; its own three numbers begin at `at`.
+// The columns of place k, with the joined value `value`; its own numbers begin at `at`.
 fn deal_place(
     o: Order,
     draw: &[u32],
@@ -66,16 +71,16 @@ fn deal_place(
     ensures { λ r. ⌜ Wrote o (now (draw .entry)) (now (server .entry)) (now (phone .entry)) k 1 (now (server .exit)) (now (phone .exit)) r ⌝ }
 {
     let mut c = 0;
-    while c < 3 {
+    while c < WIDTH {
         let own = draw[at + c];
-        phone[3 * k + c] = own;
-        server[3 * k + c] = sub_mod(mul_mod(o.factors[c], value), own);
+        phone[WIDTH * k + c] = own;
+        server[WIDTH * k + c] = sub_mod(mul_mod(o.factors[c], value), own);
         c += 1;
     }
-    at + 3
+    at + WIDTH
 }
 
-// Place k, which holds a drawn number: it stands just before its own three.
+// Place k, which holds a drawn number: it stands just before the place's own numbers.
 fn deal_drawn(
     o: Order,
     draw: &[u32],
@@ -128,14 +133,14 @@ fn deal_vectors(
     r: Split,
 ) -> usize
     requires { ⌜ Lent o (now draw) (now server) (now phone) ⌝ }
-    requires { ⌜ (c < o .n) × (at ≡ cursorFor o (vectorAt (scaleOf (o .set)) (o .kind) c 0)) × (r ≡ splitOf (scaleOf (o .set)) (drawn (scaleOf (o .set)) (o .kind) (o .n) 3 (now draw) (maskAt (scaleOf (o .set)) (o .kind) c))) ⌝ }
-    ensures { λ r. ⌜ Wrote o (now (draw .entry)) (now (server .entry)) (now (phone .entry)) (vectorAt (scaleOf (o .set)) (o .kind) c 0) (sumTo 5 (base (scaleOf (o .set)))) (now (server .exit)) (now (phone .exit)) r ⌝ }
+    requires { ⌜ (c < o .shape .n) × (at ≡ cursorFor o (vectorAt (paramsFor o) c 0)) × (r ≡ splitOf (paramsFor o .scale) (drawn (paramsFor o) (widthOf keyCount) (now draw) (maskAt (paramsFor o) c))) ⌝ }
+    ensures { λ r. ⌜ Wrote o (now (draw .entry)) (now (server .entry)) (now (phone .entry)) (vectorAt (paramsFor o) c 0) (sumTo 5 (base (paramsFor o .scale))) (now (server .exit)) (now (phone .exit)) r ⌝ }
 {
     let mut next = at;
     let mut i = 0;
     while i < 5 {
-        let k = vector_at(o.set, o.kind, c, i);
-        let size = base_of(o.set, i) as usize;
+        let k = vector_at(o.shape, c, i);
+        let size = base_of(o.shape.set as usize, i) as usize;
         next = deal_vector(o, draw, server, phone, k, next, size, r.digits[i]);
         i += 1;
     }
@@ -152,11 +157,12 @@ fn deal_mask(
     at: usize,
 ) -> usize
     requires { ⌜ Lent o (now draw) (now server) (now phone) ⌝ }
-    requires { ⌜ (c < o .n) × (at ≡ cursorFor o (maskAt (scaleOf (o .set)) (o .kind) c)) ⌝ }
-    ensures { λ r. ⌜ Wrote o (now (draw .entry)) (now (server .entry)) (now (phone .entry)) (maskAt (scaleOf (o .set)) (o .kind) c) (1 + sumTo 5 (base (scaleOf (o .set)))) (now (server .exit)) (now (phone .exit)) r ⌝ }
+    requires { ⌜ (c < o .shape .n) × (at ≡ cursorFor o (maskAt (paramsFor o) c)) ⌝ }
+    ensures { λ r. ⌜ Wrote o (now (draw .entry)) (now (server .entry)) (now (phone .entry)) (maskAt (paramsFor o) c) (1 + sumTo 5 (base (paramsFor o .scale))) (now (server .exit)) (now (phone .exit)) r ⌝ }
 {
-    let k = mask_at(o.set, o.kind, c);
-    let r = split_number(o.set, draw[at]);
+    let shape = o.shape;
+    let k = mask_at(shape, c);
+    let r = split_number(shape.set as usize, draw[at]);
     let next = deal_drawn(o, draw, server, phone, k, at);
     deal_vectors(o, draw, server, phone, c, next, r)
 }
@@ -172,10 +178,11 @@ fn deal_triple(
     at: usize,
 ) -> usize
     requires { ⌜ Lent o (now draw) (now server) (now phone) ⌝ }
-    requires { ⌜ (c < o .n) × (t < 8) × (at ≡ cursorFor o (tripleAt (scaleOf (o .set)) (o .kind) c t)) ⌝ }
-    ensures { λ r. ⌜ Wrote o (now (draw .entry)) (now (server .entry)) (now (phone .entry)) (tripleAt (scaleOf (o .set)) (o .kind) c t) 3 (now (server .exit)) (now (phone .exit)) r ⌝ }
+    requires { ⌜ (c < o .shape .n) × (t < 8) × (at ≡ cursorFor o (tripleAt (paramsFor o) c t)) ⌝ }
+    ensures { λ r. ⌜ Wrote o (now (draw .entry)) (now (server .entry)) (now (phone .entry)) (tripleAt (paramsFor o) c t) 3 (now (server .exit)) (now (phone .exit)) r ⌝ }
 {
-    let k = triple_at(o.set, o.kind, c, t);
+    let shape = o.shape;
+    let k = triple_at(shape, c, t);
     let at_b = deal_drawn(o, draw, server, phone, k, at);
     let at_c = deal_drawn(o, draw, server, phone, k + 1, at_b);
     let product = mul_mod(draw[at], draw[at_b]);
@@ -192,8 +199,8 @@ fn deal_triples(
     at: usize,
 ) -> usize
     requires { ⌜ Lent o (now draw) (now server) (now phone) ⌝ }
-    requires { ⌜ (c < o .n) × (at ≡ cursorFor o (tripleAt (scaleOf (o .set)) (o .kind) c 0)) ⌝ }
-    ensures { λ r. ⌜ Wrote o (now (draw .entry)) (now (server .entry)) (now (phone .entry)) (tripleAt (scaleOf (o .set)) (o .kind) c 0) 24 (now (server .exit)) (now (phone .exit)) r ⌝ }
+    requires { ⌜ (c < o .shape .n) × (at ≡ cursorFor o (tripleAt (paramsFor o) c 0)) ⌝ }
+    ensures { λ r. ⌜ Wrote o (now (draw .entry)) (now (server .entry)) (now (phone .entry)) (tripleAt (paramsFor o) c 0) 24 (now (server .exit)) (now (phone .exit)) r ⌝ }
 {
     let mut next = at;
     let mut t = 0;
@@ -214,13 +221,14 @@ fn deal_group(
     at: usize,
 ) -> usize
     requires { ⌜ Lent o (now draw) (now server) (now phone) ⌝ }
-    requires { ⌜ (g < groups (o .kind) (o .n)) × (at ≡ cursorFor o (groupAt (scaleOf (o .set)) (o .kind) (o .n) g)) ⌝ }
-    ensures { λ r. ⌜ Wrote o (now (draw .entry)) (now (server .entry)) (now (phone .entry)) (groupAt (scaleOf (o .set)) (o .kind) (o .n) g) (groupK (o .kind) (o .n) + 3) (now (server .exit)) (now (phone .exit)) r ⌝ }
+    requires { ⌜ (g < groups (paramsFor o)) × (at ≡ cursorFor o (groupAt (paramsFor o) g)) ⌝ }
+    ensures { λ r. ⌜ Wrote o (now (draw .entry)) (now (server .entry)) (now (phone .entry)) (groupAt (paramsFor o) g) (groupK (paramsFor o) + 3) (now (server .exit)) (now (phone .exit)) r ⌝ }
 {
-    let k = group_at(o.set, o.kind, o.n, g);
-    let d = draw[at] / group_gap(o.kind, o.n);
+    let shape = o.shape;
+    let k = group_at(shape, g);
+    let d = draw[at] / group_gap(shape);
     let next = deal_drawn(o, draw, server, phone, k, at);
-    let size = group_k(o.kind, o.n) + 2;
+    let size = group_k(shape) as usize + 2;
     deal_vector(o, draw, server, phone, k + 1, next, size, d)
 }
 
@@ -234,12 +242,13 @@ fn deal_coefficient(
     at: usize,
 ) -> usize
     requires { ⌜ Lent o (now draw) (now server) (now phone) ⌝ }
-    requires { ⌜ (c < o .n) × (at ≡ cursorFor o (maskAt (scaleOf (o .set)) (o .kind) c)) ⌝ }
-    ensures { λ r. ⌜ Wrote o (now (draw .entry)) (now (server .entry)) (now (phone .entry)) (maskAt (scaleOf (o .set)) (o .kind) c) (stride (scaleOf (o .set)) (o .kind)) (now (server .exit)) (now (phone .exit)) r ⌝ }
+    requires { ⌜ (c < o .shape .n) × (at ≡ cursorFor o (maskAt (paramsFor o) c)) ⌝ }
+    ensures { λ r. ⌜ Wrote o (now (draw .entry)) (now (server .entry)) (now (phone .entry)) (maskAt (paramsFor o) c) (stride (paramsFor o)) (now (server .exit)) (now (phone .exit)) r ⌝ }
 {
+    let shape = o.shape;
     let triples = deal_mask(o, draw, server, phone, c, at);
     let next = deal_triples(o, draw, server, phone, c, triples);
-    if o.kind == 0 {
+    if shape.kind == 0 {
         return deal_group(o, draw, server, phone, c, next);
     }
     next
@@ -248,11 +257,11 @@ fn deal_coefficient(
 // All coefficients.
 fn deal_coefficients(o: Order, draw: &[u32], server: &mut [u32], phone: &mut [u32]) -> usize
     requires { ⌜ Lent o (now draw) (now server) (now phone) ⌝ }
-    ensures { λ r. ⌜ Wrote o (now (draw .entry)) (now (server .entry)) (now (phone .entry)) 0 (maskAt (scaleOf (o .set)) (o .kind) (o .n)) (now (server .exit)) (now (phone .exit)) r ⌝ }
+    ensures { λ r. ⌜ Wrote o (now (draw .entry)) (now (server .entry)) (now (phone .entry)) 0 (maskAt (paramsFor o) (o .shape .n)) (now (server .exit)) (now (phone .exit)) r ⌝ }
 {
     let mut next = 0;
     let mut c = 0;
-    while c < o.n {
+    while c < o.shape.n as usize {
         next = deal_coefficient(o, draw, server, phone, c, next);
         c += 1;
     }
@@ -264,8 +273,9 @@ fn deal_books(o: Order, draw: &[u32], server: &mut [u32], phone: &mut [u32]) -> 
     requires { ⌜ Lent o (now draw) (now server) (now phone) ⌝ }
     ensures { λ r. ⌜ Wrote o (now (draw .entry)) (now (server .entry)) (now (phone .entry)) 0 (sharedFor o) (now (server .exit)) (now (phone .exit)) r ⌝ }
 {
+    let shape = o.shape;
     let next = deal_coefficients(o, draw, server, phone);
-    if o.kind == 0 {
+    if shape.kind == 0 {
         return next;
     }
     deal_group(o, draw, server, phone, 0, next)
@@ -273,23 +283,23 @@ fn deal_books(o: Order, draw: &[u32], server: &mut [u32], phone: &mut [u32]) -> 
 
 // ---- The call
 
-// Question 4, of both keys.
-fn keys_ok(key0: u32, key1: u32) -> bool
-    ensures { λ r. ⌜ r ≡ (keysOk (key0 ∷ []) && keysOk (key1 ∷ [])) ⌝ }
+// Question 4, of both sides' keys.
+fn all_keys_ok(keys0: [u32; KEYS], keys1: [u32; KEYS]) -> bool
+    ensures { λ r. ⌜ r ≡ (keysOk keys0 && keysOk keys1) ⌝ }
 {
-    if !key_ok(key0) {
+    if !keys_ok(keys0) {
         return false;
     }
-    key_ok(key1)
+    keys_ok(keys1)
 }
 
-// Question 5: the draw, and the two lent books.
-fn lengths_ok(set: usize, kind: u32, n: usize, draw: &[u32], server: &[u32], phone: &[u32]) -> bool
-    requires { ⌜ (set < 2) × (n ≤ 8) ⌝ }
-    ensures { λ r. ⌜ r ≡ (eqb (length (now (draw .entry))) (drawLength (scaleOf set) kind n 3) && eqb (length (now (server .entry))) (shared (scaleOf set) kind n * 3) && eqb (length (now (phone .entry))) (shared (scaleOf set) kind n * 3)) ⌝ }
+// Question 5: the draw, and the two lent books. (`deal_no` has asked 1 and 2.)
+fn lengths_ok(shape: Shape, draw: &[u32], server: &[u32], phone: &[u32]) -> bool
+    requires { ⌜ (shape .set < 2) × (shape .n ≤ 8) ⌝ }
+    ensures { λ r. ⌜ r ≡ (eqb (length (now (draw .entry))) (drawLength (paramsOf shape) (widthOf keyCount)) && eqb (length (now (server .entry))) (shared (paramsOf shape) * widthOf keyCount) && eqb (length (now (phone .entry))) (shared (paramsOf shape) * widthOf keyCount)) ⌝ }
 {
-    let size = shared_of(set, kind, n) * 3;
-    if draw.len() != draw_length(set, kind, n) {
+    let size = shared_of(shape) * WIDTH;
+    if draw.len() != draw_length(shape) {
         return false;
     }
     if server.len() != size {
@@ -300,64 +310,47 @@ fn lengths_ok(set: usize, kind: u32, n: usize, draw: &[u32], server: &[u32], pho
 
 // The first no, or 0.
 fn deal_no(
-    set: u32,
-    kind: u32,
-    n: u32,
-    key0: u32,
-    key1: u32,
+    shape: Shape,
+    keys0: [u32; KEYS],
+    keys1: [u32; KEYS],
     draw: &[u32],
     server: &[u32],
     phone: &[u32],
 ) -> u32
-    ensures { λ r. ⌜ r ≡ dealNo 1 set kind n (key0 ∷ []) (key1 ∷ []) (now (draw .entry)) (now (server .entry)) (now (phone .entry)) ⌝ }
+    ensures { λ r. ⌜ r ≡ dealNo keyCount shape keys0 keys1 (now (draw .entry)) (now (server .entry)) (now (phone .entry)) ⌝ }
 {
-    if set >= 2 {
-        return 1;
+    let no = shape_no(shape);
+    if no != 0 {
+        return no;
     }
-    if kind >= 2 {
-        return 1;
+    if !all_keys_ok(keys0, keys1) {
+        return KEY;
     }
-    if n < 1 {
-        return 2;
-    }
-    if n > 8 {
-        return 2;
-    }
-    if !keys_ok(key0, key1) {
-        return 4;
-    }
-    if !lengths_ok(set as usize, kind, n as usize, draw, server, phone) {
-        return 5;
+    if !lengths_ok(shape, draw, server, phone) {
+        return LENGTH;
     }
     if !all_below_q(draw) {
-        return 6;
+        return NOT_BELOW_Q;
     }
     0
 }
 
 // Both sides' books from a draw, or the number of the first no.
 pub fn deal(
-    set: u32,
-    kind: u32,
-    n: u32,
-    key0: u32,
-    key1: u32,
+    shape: Shape,
+    keys0: [u32; KEYS],
+    keys1: [u32; KEYS],
     draw: &[u32],
     server: &mut [u32],
     phone: &mut [u32],
 ) -> u32
-    ensures { λ r. ⌜ record { refused = r; server = now (server .exit); phone = now (phone .exit) } ≡ dealCall 1 set kind n (key0 ∷ []) (key1 ∷ []) (now (draw .entry)) (now (server .entry)) (now (phone .entry)) ⌝ }
+    ensures { λ r. ⌜ record { refused = r; server = now (server .exit); phone = now (phone .exit) } ≡ dealCall keyCount shape keys0 keys1 (now (draw .entry)) (now (server .entry)) (now (phone .entry)) ⌝ }
 {
-    let no = deal_no(set, kind, n, key0, key1, draw, server, phone);
+    let no = deal_no(shape, keys0, keys1, draw, server, phone);
     if no != 0 {
         return no;
     }
-    let o = Order {
-        set: set as usize,
-        kind,
-        n: n as usize,
-        factors: [1, key0, key1],
-    };
-    deal_books(o, draw, server, phone);
+    let factors = for_columns(1, keys0, keys1);
+    deal_books(Order { shape, factors }, draw, server, phone);
     0
 }

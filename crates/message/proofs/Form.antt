@@ -1,5 +1,5 @@
 -- The form test's questions, one after the other.
-use mathlib.Core.Path.{_≡_, refl, sym, _∙_}
+use mathlib.Core.Path.{_≡_, refl}
 use mathlib.Core.Logic.{_≢_}
 use mathlib.Core.Bool.{true, false}
 use mathlib.Core.List.{List}
@@ -10,21 +10,11 @@ use lib.ListN.{length}
 use Rattle.lists.proofs.Questions.{stop, skip}
 use Rattle.settings.specs.declared.Settings.{Settings}
 use Rattle.settings.specs.Settings.{paramsOf}
-use Rattle.settings.specs.Questions.{askSettings, Ready}
-use Rattle.settings.proofs.Ready.{settings-pass, settings-refuse}
+use Rattle.settings.specs.Questions.{Ready}
 use Rattle.settings.specs.Sizes.{bytesFor, fieldCount, messageBits, messageLength}
 use Rattle.message.specs.Message.{headerNumber, headerWith, headerIn, fieldsOk, askForm}
 use Rattle.message.specs.Fields.{HeaderFits}
 use Rattle.message.specs.declared.Header.{Header}
-
--- ---- questions 1 to 3
-
-module _ (number : ℕ) (s : Settings) where
-  pub settings-stop : (r rest : ℕ) → r ≡ askSettings number s 0 → r ≢ 0 → r ≡ askSettings number s rest
-  settings-stop r rest e h = e ∙ sym (settings-refuse number s rest (λ z. h (e ∙ z)))
-
-  pub settings-skip : (r x rest : ℕ) → r ≡ askSettings number s 0 → r ≡ 0 → x ≡ rest → x ≡ askSettings number s rest
-  settings-skip r x rest e z h = h ∙ sym (settings-pass number s rest (sym e ∙ z))
 
 -- settings that pass fit the other side's header
 pub other-fits : (receiver : ℕ) (s : Settings) (round serial : ℕ) → Ready s → round < 8 → HeaderFits (headerWith (1 - receiver) s round serial)

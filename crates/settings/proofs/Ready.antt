@@ -73,6 +73,13 @@ module _ (a : Shape) where
   unfolding askShape
   shape-refuse rest = two-refuse (isBit (a .set) && isBit (a .kind)) (countOk (a .n)) rest
 
+  -- as a function that has asked them goes on
+  pub shape-stop : (r rest : ℕ) → r ≡ askShape a 0 → r ≢ 0 → r ≡ askShape a rest
+  shape-stop r rest e h = e ∙ sym (shape-refuse rest (λ z. h (e ∙ z)))
+
+  pub shape-skip : (r x rest : ℕ) → r ≡ askShape a 0 → r ≡ 0 → x ≡ rest → x ≡ askShape a rest
+  shape-skip r x rest e z h = h ∙ sym (shape-pass rest (sym e ∙ z))
+
   -- the two questions as one test
   pub shape-ok : eqb (askShape a 0) 0 ≡ shapeOk a
   unfolding askShape shapeOk
@@ -126,3 +133,9 @@ module _ (number : ℕ) (s : Settings) where
       by false e b f = refl
       by true e false f = refl
       by true e true f = shape-refuse (s .shape) rest (λ z. n (rw (e, f) z))
+
+  pub settings-stop : (r rest : ℕ) → r ≡ askSettings number s 0 → r ≢ 0 → r ≡ askSettings number s rest
+  settings-stop r rest e h = e ∙ sym (settings-refuse rest (λ z. h (e ∙ z)))
+
+  pub settings-skip : (r x rest : ℕ) → r ≡ askSettings number s 0 → r ≡ 0 → x ≡ rest → x ≡ askSettings number s rest
+  settings-skip r x rest e z h = h ∙ sym (settings-pass rest (sym e ∙ z))

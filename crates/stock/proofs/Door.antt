@@ -8,8 +8,9 @@ use lib.Dec.{leb}
 use borrow.Author.Tests.{ltb-true, leb-true, ne-eqb}
 use Rattle.lists.specs.Answers.{ask}
 use Rattle.lists.proofs.Questions.{both-yes, passed}
-use Rattle.rounding.specs.Questions.{isBit, countOk}
-use Rattle.stock.specs.Stock.{bookSize, isAbove, bothStocks, someOf, bestOf, askStocks, chooseNo, chosen}
+use Rattle.settings.specs.Questions.{isBit, countOk}
+use Rattle.settings.specs.declared.Shape.{Shape}
+use Rattle.stock.specs.Stock.{stockedSize, isAbove, bothStocks, someOf, bestOf, askStocks, chooseNo, chosen}
 use Rattle.stock.proofs.Choice.{none-best}
 
 -- three questions and the rest
@@ -27,17 +28,17 @@ refused-of true true false rest e = refl
 refused-of true false c rest e = refl
 refused-of false b c rest e = refl
 
-module _ (k set kind n : ℕ) (first second : List ℕ) where
-  stocks-go : askStocks k set kind n first second 0 ≡ 0 → (rest : ℕ) → askStocks k set kind n first second rest ≡ rest
+module _ (k : ℕ) (a : Shape) (first second : List ℕ) where
+  stocks-go : askStocks k a first second 0 ≡ 0 → (rest : ℕ) → askStocks k a first second rest ≡ rest
   unfolding askStocks
   stocks-go e rest = rest-of _ _ _ rest e
 
-  stocks-refuse : (code : ℕ) → code ≡ askStocks k set kind n first second 0 → ¬ (code ≡ 0) → (rest : ℕ) → askStocks k set kind n first second rest ≡ code
+  stocks-refuse : (code : ℕ) → code ≡ askStocks k a first second 0 → ¬ (code ≡ 0) → (rest : ℕ) → askStocks k a first second rest ≡ code
   unfolding askStocks
   stocks-refuse code e h rest = refused-of _ _ _ rest (λ z. h (e ∙ z)) ∙ sym e
 
   -- set and count are as asked
-  pub stocks-ok : askStocks k set kind n first second 0 ≡ 0 → (set < 2) × (n ≤ 8)
+  pub stocks-ok : askStocks k a first second 0 ≡ 0 → (set < 2) × (n ≤ 8)
   unfolding askStocks
   stocks-ok e =
       let q1 = passed (isBit set && isBit kind) 0 _ e in
@@ -46,28 +47,28 @@ module _ (k set kind n : ℕ) (first second : List ℕ) where
 
   module _ (last : ℕ) where
     abbrev above : Bool
-    above = someOf (isAbove last) (bothStocks (bookSize k set kind n) first second)
+    above = someOf (isAbove last) (bothStocks (stockedSize k a) first second)
 
-    pub no-stocks : (code : ℕ) → code ≡ askStocks k set kind n first second 0 → ¬ (code ≡ 0) → code ≡ chooseNo k set kind n first second last
+    pub no-stocks : (code : ℕ) → code ≡ askStocks k a first second 0 → ¬ (code ≡ 0) → code ≡ chooseNo k a first second last
     unfolding chooseNo
     no-stocks code e h = sym (stocks-refuse code e h _)
 
-    pub no-above : askStocks k set kind n first second 0 ≡ 0 → above ≡ false → 14 ≡ chooseNo k set kind n first second last
+    pub no-above : askStocks k a first second 0 ≡ 0 → above ≡ false → 14 ≡ chooseNo k a first second last
     unfolding chooseNo ask
     no-above e f = sym (stocks-go e _ ∙ rw f)
 
-    pub all-yes : askStocks k set kind n first second 0 ≡ 0 → above ≡ true → 0 ≡ chooseNo k set kind n first second last
+    pub all-yes : askStocks k a first second 0 ≡ 0 → above ≡ true → 0 ≡ chooseNo k a first second last
     unfolding chooseNo ask
     all-yes e f = sym (stocks-go e _ ∙ rw f)
 
-    pub empty-part : (code : ℕ) → code ≡ askStocks k set kind n first second 0 → ¬ (code ≡ 0) → [] ≡ chosen k set kind n first second last
+    pub empty-part : (code : ℕ) → code ≡ askStocks k a first second 0 → ¬ (code ≡ 0) → [] ≡ chosen k a first second last
     unfolding chosen
     empty-part code e h = rw (← no-stocks code e h, ne-eqb code 0 h)
 
-    pub best-part : askStocks k set kind n first second 0 ≡ 0 → bestOf last (bookSize k set kind n) first second ≡ chosen k set kind n first second last
+    pub best-part : askStocks k a first second 0 ≡ 0 → bestOf last (stockedSize k a) first second ≡ chosen k a first second last
     unfolding chosen
     best-part e = by above refl
       where
-        by : (b : Bool) → above ≡ b → bestOf last (bookSize k set kind n) first second ≡ chosen k set kind n first second last
+        by : (b : Bool) → above ≡ b → bestOf last (stockedSize k a) first second ≡ chosen k a first second last
         by true f = rw (← all-yes e f)
-        by false f = rw (← no-above e f) (none-best last (bookSize k set kind n) first second f)
+        by false f = rw (← no-above e f) (none-best last (stockedSize k a) first second f)

@@ -9,7 +9,8 @@ use borrow.Author.Tests.{le-ltb, ne-eqb}
 use lib.ListN.{length, getD, take, drop, length-drop}
 use lib.Seq.{length-take-le}
 use Rattle.lists.proofs.Questions.{passed}
-use Rattle.stock.specs.Stock.{bookSize, bothStocks, serialOf, isAbove, someOf, bestOf, askStocks, chooseNo, chosen}
+use Rattle.settings.specs.declared.Shape.{Shape}
+use Rattle.stock.specs.Stock.{stockedSize, bothStocks, serialOf, isAbove, someOf, bestOf, askStocks, chooseNo, chosen}
 use Rattle.stock.specs.Scan.{Least}
 use Rattle.stock.specs.Theorems.{Choice}
 use Rattle.stock.specs.declared.Found.{Found}
@@ -47,9 +48,9 @@ both-length size pos s t m h = by (decLt m (length s / size))
         let b : m - length s / size < length t / size = omega (arith, length-both size 0 pos s t) in
         ap length (rw e at (both-right size 0 pos s t (m - length s / size)) ∙ book-is size 0 pos t _ b) ∙ book-length size t _ b
 
-module _ (k set kind n : ℕ) (first second : List ℕ) (last : ℕ) where
+module _ (k : ℕ) (a : Shape) (first second : List ℕ) (last : ℕ) where
   -- a choice that is not refused has a serial above the last
-  some-above : chooseNo k set kind n first second last ≡ 0 → someOf (isAbove last) (bothStocks (bookSize k set kind n) first second) ≡ true
+  some-above : chooseNo k a first second last ≡ 0 → someOf (isAbove last) (bothStocks (stockedSize k a) first second) ≡ true
   unfolding chooseNo askStocks
   some-above e =
       let q1 = passed _ 0 _ e in
@@ -57,15 +58,15 @@ module _ (k set kind n : ℕ) (first second : List ℕ) (last : ℕ) where
       let q5 = passed _ 4 _ (q2 .1) in
       passed _ 13 _ (q5 .1) .0
 
-  pub choice : Choice k set kind n first second last
+  pub choice : Choice k a first second last
   unfolding chosen bestOf
   choice =
       record {
-        refused = λ h. rw (ne-eqb (chooseNo k set kind n first second last) 0 h);
+        refused = λ h. rw (ne-eqb (chooseNo k a first second last) 0 h);
         chose = λ e.
-            let zs = bothStocks (bookSize k set kind n) first second in
+            let zs = bothStocks (stockedSize k a) first second in
             let b = best-some last zs (some-above e) in
-            let is : chosen k set kind n first second last ≡ getD zs (b .0) [] = rw e (best-first last zs (b .0) (b .1)) in
+            let is : chosen k a first second last ≡ getD zs (b .0) [] = rw e (best-first last zs (b .0) (b .1)) in
             record {
               m = b .0;
               inside = b .1 .inside;
@@ -73,6 +74,6 @@ module _ (k set kind n : ℕ) (first second : List ℕ) (last : ℕ) where
               above = b .1 .above;
               least = b .1 .least;
               earliest = b .1 .first;
-              size = ap length is ∙ both-length (bookSize k set kind n) (omega arith) first second (b .0) (b .1 .inside);
+              size = ap length is ∙ both-length (stockedSize k a) (omega arith) first second (b .0) (b .1 .inside);
             };
       }

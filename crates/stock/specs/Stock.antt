@@ -6,13 +6,14 @@ use lib.Dec.{eqb, leb, ltb}
 use lib.ListN.{length, getD, take, drop}
 use Rattle.lists.specs.Answers.{ask}
 use Rattle.lists.specs.Lists.{every, listTo}
-use Rattle.rounding.specs.Sets.{scaleOf}
-use Rattle.rounding.specs.Questions.{isBit, countOk}
-use Rattle.book.specs.Book.{shared, widthOf}
+use Rattle.settings.specs.declared.Shape.{Shape}
+use Rattle.settings.specs.Settings.{paramsOf}
+use Rattle.settings.specs.Sizes.{widthOf, shared}
+use Rattle.settings.specs.Questions.{askShape}
 
 -- "A stock is books one after another, each its serial and then its numbers", k keys a side
-abbrev pub bookSize : ℕ → ℕ → ℕ → ℕ → ℕ
-bookSize k set kind n = 1 + shared (scaleOf set) kind n * widthOf k
+abbrev pub stockedSize : ℕ → Shape → ℕ
+stockedSize k a = 1 + shared (paramsOf a) * widthOf k
 
 abbrev pub booksOf : ℕ → List ℕ → List (List ℕ)
 booksOf size stock = listTo (length stock / size) (λ (i : ℕ). take size (drop (i * size) stock))
@@ -49,24 +50,23 @@ unfoldable pub bestOf : ℕ → ℕ → List ℕ → List ℕ → List ℕ
 bestOf last size first second = firstOf (isLeast last (bothStocks size first second)) (bothStocks size first second)
 
 -- questions 1, 2 and 5 ("a stock is whole books, perhaps none"), and then the rest
-unfoldable pub askStocks : ℕ → ℕ → ℕ → ℕ → List ℕ → List ℕ → ℕ → ℕ
-askStocks k set kind n first second rest =
-    let size = bookSize k set kind n in
-    ask (isBit set && isBit kind) 1
-    (ask (countOk n) 2
+unfoldable pub askStocks : ℕ → Shape → List ℕ → List ℕ → ℕ → ℕ
+askStocks k a first second rest =
+    let size = stockedSize k a in
+    askShape a
     (ask (eqb (length first % size) 0 && eqb (length second % size) 0) 5
-    rest))
+    rest)
 
 -- "Choose: 1, 2, 5, 14"; "14. Has either stock a serial above the last?"
-unfoldable pub chooseNo : ℕ → ℕ → ℕ → ℕ → List ℕ → List ℕ → ℕ → ℕ
-chooseNo k set kind n first second last =
-    askStocks k set kind n first second
-    (ask (someOf (isAbove last) (bothStocks (bookSize k set kind n) first second)) 14
+unfoldable pub chooseNo : ℕ → Shape → List ℕ → List ℕ → ℕ → ℕ
+chooseNo k a first second last =
+    askStocks k a first second
+    (ask (someOf (isAbove last) (bothStocks (stockedSize k a) first second)) 14
     0)
 
 -- "The part starts at the book's serial"; "under any no the part is empty"
-unfoldable pub chosen : ℕ → ℕ → ℕ → ℕ → List ℕ → List ℕ → ℕ → List ℕ
-chosen k set kind n first second last =
-    cond (eqb (chooseNo k set kind n first second last) 0)
-    (bestOf last (bookSize k set kind n) first second)
+unfoldable pub chosen : ℕ → Shape → List ℕ → List ℕ → ℕ → List ℕ
+chosen k a first second last =
+    cond (eqb (chooseNo k a first second last) 0)
+    (bestOf last (stockedSize k a) first second)
     []

@@ -3,11 +3,12 @@ use mathlib.Core.Path.{_≡_}
 use mathlib.Core.List.{List, []}
 use Prim.Native.Nat.{ℕ, _≤_, _<_}
 use lib.ListN.{length, getD}
-use Rattle.stock.specs.Stock.{bookSize, bothStocks, serialOf, chooseNo, chosen}
+use Rattle.settings.specs.declared.Shape.{Shape}
+use Rattle.stock.specs.Stock.{stockedSize, bothStocks, serialOf, chooseNo, chosen}
 
-module _ (k set kind n : ℕ) (first second : List ℕ) (last : ℕ) where
+module _ (k : ℕ) (a : Shape) (first second : List ℕ) (last : ℕ) where
   abbrev books : List (List ℕ)
-  books = bothStocks (bookSize k set kind n) first second
+  books = bothStocks (stockedSize k a) first second
 
   abbrev serial : ℕ → ℕ
   serial j = serialOf (getD books j [])
@@ -20,8 +21,8 @@ module _ (k set kind n : ℕ) (first second : List ℕ) (last : ℕ) where
     pub above : last < serial m
     pub least : (j : ℕ) → j < length books → last < serial j → serial m ≤ serial j
     pub earliest : (j : ℕ) → j < m → last < serial j → serial m < serial j
-    pub size : length part ≡ bookSize k set kind n
+    pub size : length part ≡ stockedSize k a
 
   pub record Choice : Type 0 where
-    pub refused : ¬ (chooseNo k set kind n first second last ≡ 0) → chosen k set kind n first second last ≡ []
-    pub chose : chooseNo k set kind n first second last ≡ 0 → Chosen (chosen k set kind n first second last)
+    pub refused : ¬ (chooseNo k a first second last ≡ 0) → chosen k a first second last ≡ []
+    pub chose : chooseNo k a first second last ≡ 0 → Chosen (chosen k a first second last)

@@ -4,9 +4,15 @@ ghost use mathlib.Core.Bool.{_&&_};
 ghost use Prim.Native.Nat.{_+_, _*_, _/_, _%_, _≤_, _<_};
 ghost use lib.Dec.{eqb};
 ghost use lib.ListN.{length, take, drop};
-ghost use Rattle.stock.specs.Stock.{bookSize, bestOf, askStocks, chooseNo, chosen};
+ghost use Rattle.settings.specs.Sizes.{keyCount};
+ghost use Rattle.stock.specs.Stock.{stockedSize, bestOf, askStocks, chooseNo, chosen};
 ghost use Rattle.stock.specs.Scan.{Least, LeastOf, serialAt};
-use book::shared_of;
+use settings::LENGTH;
+use settings::NO_BOOK;
+use settings::Shape;
+use settings::shape_no;
+use settings::shared_of;
+use settings::WIDTH;
 
 // A book's place in its stock, and its serial; serial 0 for none.
 struct Found {
@@ -15,11 +21,11 @@ struct Found {
 }
 
 // How many numbers a book has in a stock. (Callers have asked questions 1 and 2.)
-fn book_size(set: usize, kind: u32, n: usize) -> usize
-    requires { ⌜ (set < 2) × (n ≤ 8) ⌝ }
-    ensures { λ r. ⌜ (r ≡ bookSize 1 set kind n) × (1 ≤ r) ⌝ }
+fn stocked_size(shape: Shape) -> usize
+    requires { ⌜ (shape .set < 2) × (shape .n ≤ 8) ⌝ }
+    ensures { λ r. ⌜ (r ≡ stockedSize keyCount shape) × (1 ≤ r) ⌝ }
 {
-    1 + shared_of(set, kind, n) * 3
+    1 + shared_of(shape) * WIDTH
 }
 
 // A book as a part of its stock.
@@ -99,37 +105,29 @@ fn whole_books(first: &[u32], second: &[u32], size: usize) -> bool
 }
 
 // Questions 1, 2 and 5: the first no, or 0.
-fn stocks_no(set: u32, kind: u32, n: u32, first: &[u32], second: &[u32]) -> u32
-    ensures { λ r. ⌜ r ≡ askStocks 1 set kind n (now (first .entry)) (now (second .entry)) 0 ⌝ }
+fn stocks_no(shape: Shape, first: &[u32], second: &[u32]) -> u32
+    ensures { λ r. ⌜ r ≡ askStocks keyCount shape (now (first .entry)) (now (second .entry)) 0 ⌝ }
 {
-    if set >= 2 {
-        return 1;
+    let no = shape_no(shape);
+    if no != 0 {
+        return no;
     }
-    if kind >= 2 {
-        return 1;
-    }
-    if n < 1 {
-        return 2;
-    }
-    if n > 8 {
-        return 2;
-    }
-    let size = book_size(set as usize, kind, n as usize);
+    let size = stocked_size(shape);
     if !whole_books(first, second, size) {
-        return 5;
+        return LENGTH;
     }
     0
 }
 
 // The refusal number of choose, or 0.
-pub fn choose_no(set: u32, kind: u32, n: u32, first: &[u32], second: &[u32], last: u32) -> u32
-    ensures { λ r. ⌜ r ≡ chooseNo 1 set kind n (now (first .entry)) (now (second .entry)) last ⌝ }
+pub fn choose_no(shape: Shape, first: &[u32], second: &[u32], last: u32) -> u32
+    ensures { λ r. ⌜ r ≡ chooseNo keyCount shape (now (first .entry)) (now (second .entry)) last ⌝ }
 {
-    let no = stocks_no(set, kind, n, first, second);
+    let no = stocks_no(shape, first, second);
     if no != 0 {
         return no;
     }
-    let size = book_size(set as usize, kind, n as usize);
+    let size = stocked_size(shape);
     let a = scan(first, size, last);
     if a.serial != 0 {
         return 0;
@@ -138,27 +136,25 @@ pub fn choose_no(set: u32, kind: u32, n: u32, first: &[u32], second: &[u32], las
     if b.serial != 0 {
         return 0;
     }
-    14
+    NO_BOOK
 }
 
 // The book with the least serial above the last, from its serial on; under any no the empty part.
 pub fn choose<'a>(
-    set: u32,
-    kind: u32,
-    n: u32,
+    shape: Shape,
     first: &'a [u32],
     second: &'a [u32],
     last: u32,
 ) -> &'a [u32]
-    ensures { λ r. ⌜ now r ≡ chosen 1 set kind n (now (first .entry)) (now (second .entry)) last ⌝ }
+    ensures { λ r. ⌜ now r ≡ chosen keyCount shape (now (first .entry)) (now (second .entry)) last ⌝ }
 {
-    if stocks_no(set, kind, n, first, second) != 0 {
+    if stocks_no(shape, first, second) != 0 {
         return &second[..0];
     }
     best_of(
         first,
         second,
-        book_size(set as usize, kind, n as usize),
+        stocked_size(shape),
         last,
     )
 }

@@ -1,5 +1,5 @@
 -- `dealer::deal` meets its contract. Assumes nothing.
-use mathlib.Core.List.{[], _∷_}
+use Rattle.settings.specs.Sizes.{keyCount}
 use mathlib.Core.Path.{sym, _∙_}
 use Rattle.dealer.proofs.Door.{refusal, ready, dealt}
 use borrow.Author.Needs.{needs}
@@ -7,13 +7,13 @@ use Rattle.dealer.proofs.deal.Statement.{statement}
 use Rattle.dealer.proofs.deal.Tie as tie
 
 returns : tie.Need-returns
-returns c = let a = c .before .before .before .before .before .before .before .args in refusal 1 (a .set) (a .kind) (a .n) (a .key0 ∷ []) (a .key1 ∷ []) (a .draw .now) (a .server .now) (a .phone .now) (c .before .deal-no .result) (c .before .deal-no .ensures) (c .if1 .taken)
+returns c = let a = c .before .before .before .before .before .before .before .args in refusal keyCount (a .shape) (a .keys0) (a .keys1) (a .draw .now) (a .server .now) (a .phone .now) (c .before .deal-no .result) (c .before .deal-no .ensures) (c .if1 .taken)
 
 deal-books-requires : tie.Need-deal-books-requires
-deal-books-requires c κs = let a = c .before .before .before .before .before .before .before .before .before .args in let e = sym (c .before .before .if1 .left) ∙ c .before .before .before .deal-no .ensures in ready (a .set) (a .kind) (a .n) (a .key0) (a .key1) (a .draw .now) (a .server .now) (a .phone .now) e
+deal-books-requires c κs = let a = c .before .before .before .before .before .before .before .before .before .before .args in ready (a .shape) (c .before .before .for-columns .result) (a .keys0) (a .keys1) (a .draw .now) (a .server .now) (a .phone .now) (sym (c .before .before .before .if1 .left) ∙ c .before .before .before .before .deal-no .ensures)
 
 returns-2 : tie.Need-returns-2
-returns-2 c = let a = c .before .before .before .before .before .before .before .before .before .before .before .before .before .before .args in let e = sym (c .before .before .before .before .before .before .before .if1 .left) ∙ c .before .before .before .before .before .before .before .before .deal-no .ensures in dealt (a .set) (a .kind) (a .n) (a .key0) (a .key1) (a .draw .now) (a .server .now) (a .phone .now) _ _ _ e (c .before .before .before .before .deal-books .ensures)
+returns-2 c = let a = c .before .before .before .before .before .before .before .before .before .before .before .before .before .before .before .args in dealt (a .shape) (c .before .before .before .before .before .before .before .for-columns .result) (a .keys0) (a .keys1) (a .draw .now) (a .server .now) (a .phone .now) (sym (c .before .before .before .before .before .before .before .before .if1 .left) ∙ c .before .before .before .before .before .before .before .before .before .deal-no .ensures) _ _ _ (c .before .before .before .before .before .before .before .for-columns .ensures) (c .before .before .before .before .deal-books .ensures)
 
 pub deal-spec : {M : Type 1} → statement M
 deal-spec =
@@ -23,6 +23,7 @@ deal-spec =
     (λ c. search needs)
     (λ c. search needs)
     returns
+    (λ c κs. search needs)
     deal-books-requires
     (λ c. search needs)
     (λ c. search needs)

@@ -7,23 +7,19 @@ use Rattle.dealer.proofs.deal_drawn.Tie as tie
 
 mul-value : tie.Need-mul-value
 mul-value c =
-    let entry = c .before .before .before in
-    omega (arith, drawn-room (entry .pre .1 .0) (entry .pre .1 .1) (entry .pre .0))
+    omega (arith, drawn-room (c .before .before .before .pre .1 .0) (c .before .before .before .pre .1 .1) (c .before .before .before .pre .0))
 
 shared-slice-read-value : tie.Need-shared-slice-read-value
 shared-slice-read-value c =
-    let entry = c .before .before .before .before in
-    omega (arith, drawn-room (entry .pre .1 .0) (entry .pre .1 .1) (entry .pre .0))
+    omega (arith, drawn-room (c .before .before .before .before .pre .1 .0) (c .before .before .before .before .pre .1 .1) (c .before .before .before .before .pre .0))
 
 add-deal-place : tie.Need-add-deal-place
 add-deal-place c =
-    let entry = c .before .before .before .before .before .before in
-    omega (arith, drawn-room (entry .pre .1 .0) (entry .pre .1 .1) (entry .pre .0))
+    omega (arith, drawn-room (c .before .before .before .before .before .before .pre .1 .0) (c .before .before .before .before .before .before .pre .1 .1) (c .before .before .before .before .before .before .pre .0))
 
 deal-place-requires : tie.Need-deal-place-requires
 deal-place-requires c κs =
-    let entry = c .before .before .before .before .before .before in
-    (entry .pre .0, next-drawn (entry .pre .1 .0) (entry .pre .1 .1))
+    (c .before .before .before .before .before .before .pre .0, next-drawn (c .before .before .before .before .before .before .pre .1 .0) (c .before .before .before .before .before .before .pre .1 .1))
 
 pub deal-drawn-spec : {M : Type 1} → statement M
 deal-drawn-spec =

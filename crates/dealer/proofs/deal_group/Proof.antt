@@ -10,29 +10,24 @@ use Rattle.dealer.proofs.deal_group.Tie as tie
 
 group-at-requires : tie.Need-group-at-requires
 group-at-requires c κs =
-    let entry = c .before .before .before in
-    let h = groups-few (entry .args .o) (entry .args .g) (entry .pre .1 .0) (entry .pre .0 .count-is) in omega arith
+    let h = groups-few (c .before .before .before .before .args .o) (c .before .before .before .before .args .g) (c .before .before .before .before .pre .1 .0) (c .before .before .before .before .pre .0 .ready .most) in omega arith
 
 mul-d : tie.Need-mul-d
 mul-d c =
-    let entry = c .before .before .before .before in
-    omega (arith, drawn-room (group-draws (entry .args .o) (entry .args .g) (c .group-at .result) (entry .pre .1 .0) (c .group-at .ensures .0)) (cursor-as (entry .args .o) (entry .pre .1 .1) (sym (c .group-at .ensures .0))) (entry .pre .0))
+    omega (arith, drawn-room (group-draws (c .before .before .before .before .before .args .o) (c .before .before .before .before .before .args .g) (c .group-at .result) (c .before .before .before .before .before .pre .1 .0) (c .group-at .ensures .0)) (cursor-as (c .before .before .before .before .before .args .o) (c .before .before .before .before .before .pre .1 .1) (sym (c .group-at .ensures .0))) (c .before .before .before .before .before .pre .0))
 
 shared-slice-read-d : tie.Need-shared-slice-read-d
 shared-slice-read-d c =
-    let entry = c .before .before .before .before .before in
-    omega (arith, drawn-room (group-draws (entry .args .o) (entry .args .g) (c .before .group-at .result) (entry .pre .1 .0) (c .before .group-at .ensures .0)) (cursor-as (entry .args .o) (entry .pre .1 .1) (sym (c .before .group-at .ensures .0))) (entry .pre .0))
+    omega (arith, drawn-room (group-draws (c .before .before .before .before .before .before .args .o) (c .before .before .before .before .before .before .args .g) (c .before .group-at .result) (c .before .before .before .before .before .before .pre .1 .0) (c .before .group-at .ensures .0)) (cursor-as (c .before .before .before .before .before .before .args .o) (c .before .before .before .before .before .before .pre .1 .1) (sym (c .before .group-at .ensures .0))) (c .before .before .before .before .before .before .pre .0))
 
 deal-drawn-requires : tie.Need-deal-drawn-requires
 deal-drawn-requires c κs =
-    let entry = c .before .before .before .before .before .before .before .before in
-    (entry .pre .0, (group-draws (entry .args .o) (entry .args .g) (c .before .before .before .before .group-at .result) (entry .pre .1 .0) (c .before .before .before .before .group-at .ensures .0), cursor-as (entry .args .o) (entry .pre .1 .1) (sym (c .before .before .before .before .group-at .ensures .0))))
+    (c .before .before .before .before .before .before .before .before .before .pre .0, (group-draws (c .before .before .before .before .before .before .before .before .before .args .o) (c .before .before .before .before .before .before .before .before .before .args .g) (c .before .before .before .before .group-at .result) (c .before .before .before .before .before .before .before .before .before .pre .1 .0) (c .before .before .before .before .group-at .ensures .0), cursor-as (c .before .before .before .before .before .before .before .before .before .args .o) (c .before .before .before .before .before .before .before .before .before .pre .1 .1) (sym (c .before .before .before .before .group-at .ensures .0))))
 
 deal-vector-requires : tie.Need-deal-vector-requires
 deal-vector-requires c κs =
-    let entry = c .before .before .before .before .before .before .before .before .before .before .before .before .before .before .before .before in
-    let a = entry .args in
-    (still-lent (entry .pre .0) (c .before .before .before .before .before .before .before .deal-drawn .ensures), (group-vector (a .o) (a .draw .now) (a .g) (c .before .before .before .before .before .before .before .before .before .before .before .before .group-at .result) (a .at) _ (c .before .before .group-k .result + 2) (entry .pre .1 .0) (c .before .before .before .before .before .before .before .before .before .before .before .before .group-at .ensures .0) (cursor-as (entry .args .o) (entry .pre .1 .1) (sym (c .before .before .before .before .before .before .before .before .before .before .before .before .group-at .ensures .0))) (rw (c .before .before .group-k .ensures .0)) (rw (c .before .before .before .before .before .before .before .before .before .before .group-gap .ensures .0)), c .before .before .before .before .before .before .before .deal-drawn .ensures .next))
+    let a = c .before .before .before .before .before .before .before .before .before .before .before .before .before .before .before .before .before .args in
+    (still-lent (c .before .before .before .before .before .before .before .before .before .before .before .before .before .before .before .before .before .pre .0) (c .before .before .before .before .before .before .before .deal-drawn .ensures), (group-vector (a .o) (a .draw .now) (a .g) (c .before .before .before .before .before .before .before .before .before .before .before .before .group-at .result) (a .at) _ (c .before .before .group-k .result + 2) (c .before .before .before .before .before .before .before .before .before .before .before .before .before .before .before .before .before .pre .1 .0) (c .before .before .before .before .before .before .before .before .before .before .before .before .group-at .ensures .0) (cursor-as (c .before .before .before .before .before .before .before .before .before .before .before .before .before .before .before .before .before .args .o) (c .before .before .before .before .before .before .before .before .before .before .before .before .before .before .before .before .before .pre .1 .1) (sym (c .before .before .before .before .before .before .before .before .before .before .before .before .group-at .ensures .0))) (rw (c .before .before .group-k .ensures .0)) (rw (c .before .before .before .before .before .before .before .before .before .before .group-gap .ensures .0)), c .before .before .before .before .before .before .before .deal-drawn .ensures .next))
 
 returns : tie.Need-returns
 returns c = wrote-as (wrote-join (c .before .before .before .before .before .before .before .before .before .before .before .before .deal-drawn .ensures) (c .before .before .before .before .deal-vector .ensures) refl) (c .before .before .before .before .before .before .before .before .before .before .before .before .before .before .before .before .before .group-at .ensures .0) (omega arith)
@@ -48,6 +43,7 @@ deal-group-spec =
     (λ c. search needs)
     deal-drawn-requires
     (λ c κs. search needs)
+    (λ c. search needs)
     (λ c. search needs)
     (λ c. search needs)
     deal-vector-requires

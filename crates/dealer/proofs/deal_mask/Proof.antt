@@ -10,36 +10,33 @@ use Rattle.dealer.proofs.deal_mask.Tie as tie
 
 mul-split-number : tie.Need-mul-split-number
 mul-split-number c =
-    let entry = c .before .before .before .before in
-    omega (arith, drawn-room (mask-draws (entry .args .o) (entry .args .c) (c .mask-at .result) (entry .pre .1 .0) (c .mask-at .ensures .0)) (cursor-as (entry .args .o) (entry .pre .1 .1) (sym (c .mask-at .ensures .0))) (entry .pre .0))
+    omega (arith, drawn-room (mask-draws (c .before .before .before .before .before .before .args .o) (c .before .before .before .before .before .before .args .c) (c .before .mask-at .result) (c .before .before .before .before .before .before .pre .1 .0) (c .before .mask-at .ensures .0)) (cursor-as (c .before .before .before .before .before .before .args .o) (c .before .before .before .before .before .before .pre .1 .1) (sym (c .before .mask-at .ensures .0))) (c .before .before .before .before .before .before .pre .0))
 
 shared-slice-read-split-number : tie.Need-shared-slice-read-split-number
 shared-slice-read-split-number c =
-    let entry = c .before .before .before .before .before in
-    omega (arith, drawn-room (mask-draws (entry .args .o) (entry .args .c) (c .before .mask-at .result) (entry .pre .1 .0) (c .before .mask-at .ensures .0)) (cursor-as (entry .args .o) (entry .pre .1 .1) (sym (c .before .mask-at .ensures .0))) (entry .pre .0))
+    omega (arith, drawn-room (mask-draws (c .before .before .before .before .before .before .before .args .o) (c .before .before .before .before .before .before .before .args .c) (c .before .before .mask-at .result) (c .before .before .before .before .before .before .before .pre .1 .0) (c .before .before .mask-at .ensures .0)) (cursor-as (c .before .before .before .before .before .before .before .args .o) (c .before .before .before .before .before .before .before .pre .1 .1) (sym (c .before .before .mask-at .ensures .0))) (c .before .before .before .before .before .before .before .pre .0))
 
 deal-drawn-requires : tie.Need-deal-drawn-requires
 deal-drawn-requires c κs =
-    let entry = c .before .before .before .before .before .before .before .before in
-    (entry .pre .0, (mask-draws (entry .args .o) (entry .args .c) (c .before .before .before .before .mask-at .result) (entry .pre .1 .0) (c .before .before .before .before .mask-at .ensures .0), cursor-as (entry .args .o) (entry .pre .1 .1) (sym (c .before .before .before .before .mask-at .ensures .0))))
+    (c .before .before .before .before .before .before .before .before .before .before .pre .0, (mask-draws (c .before .before .before .before .before .before .before .before .before .before .args .o) (c .before .before .before .before .before .before .before .before .before .before .args .c) (c .before .before .before .before .before .mask-at .result) (c .before .before .before .before .before .before .before .before .before .before .pre .1 .0) (c .before .before .before .before .before .mask-at .ensures .0), cursor-as (c .before .before .before .before .before .before .before .before .before .before .args .o) (c .before .before .before .before .before .before .before .before .before .before .pre .1 .1) (sym (c .before .before .before .before .before .mask-at .ensures .0))))
 
 deal-vectors-requires : tie.Need-deal-vectors-requires
 unfolding drawn
 deal-vectors-requires c κs =
-    let entry = c .before .before .before .before .before .before .before .before .before .before .before .before .before .before .before in
-    let a = entry .args in
-    (still-lent (entry .pre .0) (c .before .before .before .before .before .before .deal-drawn .ensures), (entry .pre .1 .0, cursor-as (a .o) (c .before .before .before .before .before .before .deal-drawn .ensures .next) (rw (c .before .before .before .before .before .before .before .before .before .before .before .mask-at .ensures .0) (sym (vector-first (a .o) (a .c)))), rw (← entry .pre .1 .1) (c .before .before .before .before .before .before .before .before .before .split-number .ensures)))
+    let a = c .before .before .before .before .before .before .before .before .before .before .before .before .before .before .before .before .before .args in
+    (still-lent (c .before .before .before .before .before .before .before .before .before .before .before .before .before .before .before .before .before .pre .0) (c .before .before .before .before .before .before .deal-drawn .ensures), (c .before .before .before .before .before .before .before .before .before .before .before .before .before .before .before .before .before .pre .1 .0, cursor-as (a .o) (c .before .before .before .before .before .before .deal-drawn .ensures .next) (rw (c .before .before .before .before .before .before .before .before .before .before .before .before .mask-at .ensures .0) (sym (vector-first (a .o) (a .c)))), rw (← c .before .before .before .before .before .before .before .before .before .before .before .before .before .before .before .before .before .pre .1 .1) (c .before .before .before .before .before .before .before .before .before .split-number .ensures)))
 
 returns : tie.Need-returns
 returns c =
-    let a = c .before .before .before .before .before .before .before .before .before .before .before .before .before .before .before .before .before .before .before .before .args in
-    wrote-as (wrote-join (c .before .before .before .before .before .before .before .before .before .before .before .deal-drawn .ensures) (c .before .before .before .before .deal-vectors .ensures) (rw (c .before .before .before .before .before .before .before .before .before .before .before .before .before .before .before .before .mask-at .ensures .0) (vector-first (a .o) (a .c)))) (c .before .before .before .before .before .before .before .before .before .before .before .before .before .before .before .before .mask-at .ensures .0) refl
+    let a = c .before .before .before .before .before .before .before .before .before .before .before .before .before .before .before .before .before .before .before .before .before .before .args in
+    wrote-as (wrote-join (c .before .before .before .before .before .before .before .before .before .before .before .deal-drawn .ensures) (c .before .before .before .before .deal-vectors .ensures) (rw (c .before .before .before .before .before .before .before .before .before .before .before .before .before .before .before .before .before .mask-at .ensures .0) (vector-first (a .o) (a .c)))) (c .before .before .before .before .before .before .before .before .before .before .before .before .before .before .before .before .before .mask-at .ensures .0) refl
 
 pub deal-mask-spec : {M : Type 1} → statement M
 deal-mask-spec =
     tie.close
     (tie.spec
     (λ c κs. search needs)
+    (λ c. search needs)
     mul-split-number
     shared-slice-read-split-number
     (λ c κs. search needs)

@@ -1,6 +1,6 @@
 -- `dealer::deal_place` meets its contract. Assumes nothing.
 use Rattle.dealer.proofs.Work.{stored}
-use Rattle.dealer.specs.Work.{serverFor, phoneFor}
+use Rattle.dealer.specs.Work.{width, serverFor, phoneFor}
 use Rattle.lists.proofs.Fill.{fill-none}
 use Rattle.lists.specs.Lists.{fill}
 use Rattle.dealer.proofs.Work.{room, wrote-place, phone-column, server-column}
@@ -13,28 +13,26 @@ use Rattle.dealer.proofs.deal_place.Statement.{statement}
 use Rattle.dealer.proofs.deal_place.Tie as tie
 
 abbrev Inv-loop : tie.InvT-loop
-Inv-loop draw server₀ phone₀ k at value o c₀ server phone c = (c ≤ 3) × (at + 3 ≤ length draw) × (3 * k + 3 ≤ length server₀) × (3 * k + 3 ≤ length phone₀) × (length server ≡ length server₀) × (length phone ≡ length phone₀) × (server ≡ fill server₀ (3 * k) c (λ (x : ℕ). serverFor o draw (3 * k + x))) × (phone ≡ fill phone₀ (3 * k) c (λ (x : ℕ). phoneFor o draw (3 * k + x)))
+Inv-loop draw server₀ phone₀ k at value o c₀ server phone c = (c ≤ width) × (at + width ≤ length draw) × (width * k + width ≤ length server₀) × (width * k + width ≤ length phone₀) × (length server ≡ length server₀) × (length phone ≡ length phone₀) × (server ≡ fill server₀ (width * k) c (λ (x : ℕ). serverFor o draw (width * k + x))) × (phone ≡ fill phone₀ (width * k) c (λ (x : ℕ). phoneFor o draw (width * k + x)))
 
 abbrev μ-loop : tie.MeasureT-loop
-μ-loop draw server₀ phone₀ k at value o c₀ server phone c = 3 - c
+μ-loop draw server₀ phone₀ k at value o c₀ server phone c = width - c
 
 loop-holds : tie.Need-loop-holds Inv-loop μ-loop
 loop-holds c =
-    let entry = c .before .before .before in
-    let r = room (entry .pre .0) (entry .pre .1) in (omega arith, r .0, r .1, r .2, refl, refl, sym (fill-none _ _ _), sym (fill-none _ _ _))
+    let r = room (c .before .before .before .pre .0) (c .before .before .before .pre .1) in (omega arith, r .0, r .1, r .2, refl, refl, sym (fill-none _ _ _), sym (fill-none _ _ _))
 
 loop-again : tie.Need-loop-again Inv-loop μ-loop
 loop-again c =
-    let entry = c .before .before .before .before .before .before .before .before .before in
-    let a = entry .args in
+    let a = c .before .before .before .before .before .before .before .before .before .args in
     let i = c .before .before .before .before .before .loop in
-    let l : i .c < 3 = omega arith in
-    let x : c .sub-mod .result ≡ serverFor (a .t1) (a .draw .now) (3 * a .k + i .c) = cc (server-column (a .t1) (a .draw .now) (a .k) (a .at) (a .value) (entry .pre .1) (i .c) l) in
-    (omega arith, omega arith, omega arith, omega arith, simp length-set (omega arith), simp length-set (omega arith), stored _ _ _ _ _ _ (i .inv .6) x, stored _ _ _ _ _ _ (i .inv .7) (phone-column (a .t1) (a .draw .now) (a .k) (a .at) (a .value) (entry .pre .1) (i .c) l))
+    let l : i .c < width = omega arith in
+    let x : c .sub-mod .result ≡ serverFor (a .t1) (a .draw .now) (width * a .k + i .c) = cc (server-column (a .t1) (a .draw .now) (a .k) (a .at) (a .value) (c .before .before .before .before .before .before .before .before .before .pre .1) (i .c) l) in
+    (omega arith, omega arith, omega arith, omega arith, simp length-set (omega arith), simp length-set (omega arith), stored _ _ _ _ _ _ (i .inv .6) x, stored _ _ _ _ _ _ (i .inv .7) (phone-column (a .t1) (a .draw .now) (a .k) (a .at) (a .value) (c .before .before .before .before .before .before .before .before .before .pre .1) (i .c) l))
 
 returns : tie.Need-returns Inv-loop μ-loop
 returns c =
-    let e : c .before .loop .c ≡ 3 = omega arith in
+    let e : c .before .loop .c ≡ width = omega arith in
     wrote-place (c .before .before .before .before .before .pre .1) (rw e at (c .before .loop .inv .6)) (rw e at (c .before .loop .inv .7))
 
 pub deal-place-spec : {M : Type 1} → statement M

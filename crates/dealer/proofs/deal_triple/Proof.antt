@@ -9,39 +9,32 @@ use Rattle.dealer.proofs.deal_triple.Tie as tie
 
 deal-drawn-requires : tie.Need-deal-drawn-requires
 deal-drawn-requires c κs =
-    let entry = c .before .before .before .before .before .before in
-    (entry .pre .0, (left-draws (entry .args .o) (entry .args .c) (entry .args .t) (c .before .before .triple-at .result) (entry .pre .1 .0) (entry .pre .1 .1) (c .before .before .triple-at .ensures .0), cursor-as (entry .args .o) (entry .pre .1 .2) (sym (c .before .before .triple-at .ensures .0))))
+    (c .before .before .before .before .before .before .before .pre .0, (left-draws (c .before .before .before .before .before .before .before .args .o) (c .before .before .before .before .before .before .before .args .c) (c .before .before .before .before .before .before .before .args .t) (c .before .before .triple-at .result) (c .before .before .before .before .before .before .before .pre .1 .0) (c .before .before .before .before .before .before .before .pre .1 .1) (c .before .before .triple-at .ensures .0), cursor-as (c .before .before .before .before .before .before .before .args .o) (c .before .before .before .before .before .before .before .pre .1 .2) (sym (c .before .before .triple-at .ensures .0))))
 
 deal-drawn-requires-2 : tie.Need-deal-drawn-requires-2
 deal-drawn-requires-2 c κs =
-    let entry = c .before .before .before .before .before .before .before .before .before .before .before .before .before in
-    (still-lent (entry .pre .0) (c .before .before .before .before .before .before .deal-drawn .ensures), (right-draws (entry .args .o) (entry .args .c) (entry .args .t) (c .before .before .before .before .before .before .before .before .before .triple-at .result) (entry .pre .1 .0) (entry .pre .1 .1) (c .before .before .before .before .before .before .before .before .before .triple-at .ensures .0), c .before .before .before .before .before .before .deal-drawn .ensures .next))
+    (still-lent (c .before .before .before .before .before .before .before .before .before .before .before .before .before .before .pre .0) (c .before .before .before .before .before .before .deal-drawn .ensures), (right-draws (c .before .before .before .before .before .before .before .before .before .before .before .before .before .before .args .o) (c .before .before .before .before .before .before .before .before .before .before .before .before .before .before .args .c) (c .before .before .before .before .before .before .before .before .before .before .before .before .before .before .args .t) (c .before .before .before .before .before .before .before .before .before .triple-at .result) (c .before .before .before .before .before .before .before .before .before .before .before .before .before .before .pre .1 .0) (c .before .before .before .before .before .before .before .before .before .before .before .before .before .before .pre .1 .1) (c .before .before .before .before .before .before .before .before .before .triple-at .ensures .0), c .before .before .before .before .before .before .deal-drawn .ensures .next))
 
 mul-mul-mod : tie.Need-mul-mul-mod
 mul-mul-mod c =
-    let entry = c .before .before .before .before .before .before .before .before .before .before .before .before .before .before .before .before .before .before in
-    omega (arith, drawn-room (left-draws (entry .args .o) (entry .args .c) (entry .args .t) (c .before .before .before .before .before .before .before .before .before .before .before .before .before .before .triple-at .result) (entry .pre .1 .0) (entry .pre .1 .1) (c .before .before .before .before .before .before .before .before .before .before .before .before .before .before .triple-at .ensures .0)) (cursor-as (entry .args .o) (entry .pre .1 .2) (sym (c .before .before .before .before .before .before .before .before .before .before .before .before .before .before .triple-at .ensures .0))) (entry .pre .0))
+    omega (arith, drawn-room (left-draws (c .before .before .before .before .before .before .before .before .before .before .before .before .before .before .before .before .before .before .before .args .o) (c .before .before .before .before .before .before .before .before .before .before .before .before .before .before .before .before .before .before .before .args .c) (c .before .before .before .before .before .before .before .before .before .before .before .before .before .before .before .before .before .before .before .args .t) (c .before .before .before .before .before .before .before .before .before .before .before .before .before .before .triple-at .result) (c .before .before .before .before .before .before .before .before .before .before .before .before .before .before .before .before .before .before .before .pre .1 .0) (c .before .before .before .before .before .before .before .before .before .before .before .before .before .before .before .before .before .before .before .pre .1 .1) (c .before .before .before .before .before .before .before .before .before .before .before .before .before .before .triple-at .ensures .0)) (cursor-as (c .before .before .before .before .before .before .before .before .before .before .before .before .before .before .before .before .before .before .before .args .o) (c .before .before .before .before .before .before .before .before .before .before .before .before .before .before .before .before .before .before .before .pre .1 .2) (sym (c .before .before .before .before .before .before .before .before .before .before .before .before .before .before .triple-at .ensures .0))) (c .before .before .before .before .before .before .before .before .before .before .before .before .before .before .before .before .before .before .before .pre .0))
 
 shared-slice-read-mul-mod : tie.Need-shared-slice-read-mul-mod
 shared-slice-read-mul-mod c =
-    let entry = c .before .before .before .before .before .before .before .before .before .before .before .before .before .before .before .before .before .before .before in
-    omega (arith, drawn-room (left-draws (entry .args .o) (entry .args .c) (entry .args .t) (c .before .before .before .before .before .before .before .before .before .before .before .before .before .before .before .triple-at .result) (entry .pre .1 .0) (entry .pre .1 .1) (c .before .before .before .before .before .before .before .before .before .before .before .before .before .before .before .triple-at .ensures .0)) (cursor-as (entry .args .o) (entry .pre .1 .2) (sym (c .before .before .before .before .before .before .before .before .before .before .before .before .before .before .before .triple-at .ensures .0))) (entry .pre .0))
+    omega (arith, drawn-room (left-draws (c .before .before .before .before .before .before .before .before .before .before .before .before .before .before .before .before .before .before .before .before .args .o) (c .before .before .before .before .before .before .before .before .before .before .before .before .before .before .before .before .before .before .before .before .args .c) (c .before .before .before .before .before .before .before .before .before .before .before .before .before .before .before .before .before .before .before .before .args .t) (c .before .before .before .before .before .before .before .before .before .before .before .before .before .before .before .triple-at .result) (c .before .before .before .before .before .before .before .before .before .before .before .before .before .before .before .before .before .before .before .before .pre .1 .0) (c .before .before .before .before .before .before .before .before .before .before .before .before .before .before .before .before .before .before .before .before .pre .1 .1) (c .before .before .before .before .before .before .before .before .before .before .before .before .before .before .before .triple-at .ensures .0)) (cursor-as (c .before .before .before .before .before .before .before .before .before .before .before .before .before .before .before .before .before .before .before .before .args .o) (c .before .before .before .before .before .before .before .before .before .before .before .before .before .before .before .before .before .before .before .before .pre .1 .2) (sym (c .before .before .before .before .before .before .before .before .before .before .before .before .before .before .before .triple-at .ensures .0))) (c .before .before .before .before .before .before .before .before .before .before .before .before .before .before .before .before .before .before .before .before .pre .0))
 
 mul-mul-mod-2 : tie.Need-mul-mul-mod-2
 mul-mul-mod-2 c =
-    let entry = c .before .before .before .before .before .before .before .before .before .before .before .before .before .before .before .before .before .before .before in
-    omega (arith, drawn-room (right-draws (entry .args .o) (entry .args .c) (entry .args .t) (c .before .before .before .before .before .before .before .before .before .before .before .before .before .before .before .triple-at .result) (entry .pre .1 .0) (entry .pre .1 .1) (c .before .before .before .before .before .before .before .before .before .before .before .before .before .before .before .triple-at .ensures .0)) (c .before .before .before .before .before .before .before .before .before .before .before .before .deal-drawn .ensures .next) (entry .pre .0))
+    omega (arith, drawn-room (right-draws (c .before .before .before .before .before .before .before .before .before .before .before .before .before .before .before .before .before .before .before .before .args .o) (c .before .before .before .before .before .before .before .before .before .before .before .before .before .before .before .before .before .before .before .before .args .c) (c .before .before .before .before .before .before .before .before .before .before .before .before .before .before .before .before .before .before .before .before .args .t) (c .before .before .before .before .before .before .before .before .before .before .before .before .before .before .before .triple-at .result) (c .before .before .before .before .before .before .before .before .before .before .before .before .before .before .before .before .before .before .before .before .pre .1 .0) (c .before .before .before .before .before .before .before .before .before .before .before .before .before .before .before .before .before .before .before .before .pre .1 .1) (c .before .before .before .before .before .before .before .before .before .before .before .before .before .before .before .triple-at .ensures .0)) (c .before .before .before .before .before .before .before .before .before .before .before .before .deal-drawn .ensures .next) (c .before .before .before .before .before .before .before .before .before .before .before .before .before .before .before .before .before .before .before .before .pre .0))
 
 shared-slice-read-mul-mod-2 : tie.Need-shared-slice-read-mul-mod-2
 shared-slice-read-mul-mod-2 c =
-    let entry = c .before .before .before .before .before .before .before .before .before .before .before .before .before .before .before .before .before .before .before .before in
-    omega (arith, drawn-room (right-draws (entry .args .o) (entry .args .c) (entry .args .t) (c .before .before .before .before .before .before .before .before .before .before .before .before .before .before .before .before .triple-at .result) (entry .pre .1 .0) (entry .pre .1 .1) (c .before .before .before .before .before .before .before .before .before .before .before .before .before .before .before .before .triple-at .ensures .0)) (c .before .before .before .before .before .before .before .before .before .before .before .before .before .deal-drawn .ensures .next) (entry .pre .0))
+    omega (arith, drawn-room (right-draws (c .before .before .before .before .before .before .before .before .before .before .before .before .before .before .before .before .before .before .before .before .before .args .o) (c .before .before .before .before .before .before .before .before .before .before .before .before .before .before .before .before .before .before .before .before .before .args .c) (c .before .before .before .before .before .before .before .before .before .before .before .before .before .before .before .before .before .before .before .before .before .args .t) (c .before .before .before .before .before .before .before .before .before .before .before .before .before .before .before .before .triple-at .result) (c .before .before .before .before .before .before .before .before .before .before .before .before .before .before .before .before .before .before .before .before .before .pre .1 .0) (c .before .before .before .before .before .before .before .before .before .before .before .before .before .before .before .before .before .before .before .before .before .pre .1 .1) (c .before .before .before .before .before .before .before .before .before .before .before .before .before .before .before .before .triple-at .ensures .0)) (c .before .before .before .before .before .before .before .before .before .before .before .before .before .deal-drawn .ensures .next) (c .before .before .before .before .before .before .before .before .before .before .before .before .before .before .before .before .before .before .before .before .before .pre .0))
 
 deal-place-requires : tie.Need-deal-place-requires
 deal-place-requires c κs =
-    let entry = c .before .before .before .before .before .before .before .before .before .before .before .before .before .before .before .before .before .before .before .before .before .before .before in
     let two = wrote-join (c .before .before .before .before .before .before .before .before .before .before .before .before .before .before .before .before .deal-drawn .ensures) (c .before .before .before .before .before .before .before .before .before .deal-drawn2 .ensures) refl in
-    (still-lent (entry .pre .0) two, next-product (entry .args .o) (entry .args .c) (entry .args .t) (c .before .before .before .before .before .before .before .before .before .before .before .before .before .before .before .before .before .before .before .triple-at .result) (entry .pre .1 .0) (entry .pre .1 .1) (c .before .before .before .before .before .before .before .before .before .before .before .before .before .before .before .before .before .before .before .triple-at .ensures .0) (entry .args .draw .now) (entry .args .at) (c .before .before .before .before .before .before .before .before .before .before .before .before .before .before .before .before .deal-drawn .result) (c .before .before .before .before .before .before .before .before .before .deal-drawn2 .result) (c .before .before .mul-mod .result) (cursor-as (entry .args .o) (entry .pre .1 .2) (sym (c .before .before .before .before .before .before .before .before .before .before .before .before .before .before .before .before .before .before .before .triple-at .ensures .0))) (c .before .before .before .before .before .before .before .before .before .before .before .before .before .before .before .before .deal-drawn .ensures .next) (two .next) (c .before .before .mul-mod .ensures))
+    (still-lent (c .before .before .before .before .before .before .before .before .before .before .before .before .before .before .before .before .before .before .before .before .before .before .before .before .pre .0) two, next-product (c .before .before .before .before .before .before .before .before .before .before .before .before .before .before .before .before .before .before .before .before .before .before .before .before .args .o) (c .before .before .before .before .before .before .before .before .before .before .before .before .before .before .before .before .before .before .before .before .before .before .before .before .args .c) (c .before .before .before .before .before .before .before .before .before .before .before .before .before .before .before .before .before .before .before .before .before .before .before .before .args .t) (c .before .before .before .before .before .before .before .before .before .before .before .before .before .before .before .before .before .before .before .triple-at .result) (c .before .before .before .before .before .before .before .before .before .before .before .before .before .before .before .before .before .before .before .before .before .before .before .before .pre .1 .0) (c .before .before .before .before .before .before .before .before .before .before .before .before .before .before .before .before .before .before .before .before .before .before .before .before .pre .1 .1) (c .before .before .before .before .before .before .before .before .before .before .before .before .before .before .before .before .before .before .before .triple-at .ensures .0) (c .before .before .before .before .before .before .before .before .before .before .before .before .before .before .before .before .before .before .before .before .before .before .before .before .args .draw .now) (c .before .before .before .before .before .before .before .before .before .before .before .before .before .before .before .before .before .before .before .before .before .before .before .before .args .at) (c .before .before .before .before .before .before .before .before .before .before .before .before .before .before .before .before .deal-drawn .result) (c .before .before .before .before .before .before .before .before .before .deal-drawn2 .result) (c .before .before .mul-mod .result) (cursor-as (c .before .before .before .before .before .before .before .before .before .before .before .before .before .before .before .before .before .before .before .before .before .before .before .before .args .o) (c .before .before .before .before .before .before .before .before .before .before .before .before .before .before .before .before .before .before .before .before .before .before .before .before .pre .1 .2) (sym (c .before .before .before .before .before .before .before .before .before .before .before .before .before .before .before .before .before .before .before .triple-at .ensures .0))) (c .before .before .before .before .before .before .before .before .before .before .before .before .before .before .before .before .deal-drawn .ensures .next) (two .next) (c .before .before .mul-mod .ensures))
 
 returns : tie.Need-returns
 returns c =

@@ -1,8 +1,8 @@
 -- `dealer::deal_triples` meets its contract. Assumes nothing.
 use Rattle.book.specs.Book.{tripleAt}
-use Rattle.rounding.specs.Sets.{scaleOf}
+use Rattle.settings.specs.Sets.{scaleOf}
 use Rattle.dealer.proofs.Steps.{triple-step}
-use Rattle.dealer.specs.Work.{Lent, Wrote}
+use Rattle.dealer.specs.Work.{paramsFor, Lent, Wrote}
 use Rattle.dealer.proofs.Work.{wrote-none, wrote-join, wrote-as, still-lent, cursor-as}
 use Prim.Native.Nat.{_≤_, _-_, _*_}
 use mathlib.Core.Path.{_≡_, refl, sym}
@@ -13,25 +13,22 @@ use Rattle.dealer.proofs.deal_triples.Statement.{statement}
 use Rattle.dealer.proofs.deal_triples.Tie as tie
 
 abbrev Inv-loop : tie.InvT-loop
-Inv-loop o draw server₀ phone₀ c at next₀ t₀ server phone next t = (t ≤ 8) × Lent o draw server phone × Wrote o draw server₀ phone₀ (tripleAt (scaleOf (o .set)) (o .kind) c 0) (3 * t) server phone next
+Inv-loop o draw server₀ phone₀ c at next₀ t₀ server phone next t = (t ≤ 8) × Lent o draw server phone × Wrote o draw server₀ phone₀ (tripleAt (paramsFor o) c 0) (3 * t) server phone next
 
 abbrev μ-loop : tie.MeasureT-loop
 μ-loop o draw server₀ phone₀ c at next₀ t₀ server phone next t = 8 - t
 
 loop-holds : tie.Need-loop-holds Inv-loop μ-loop
 loop-holds c =
-    let entry = c .before .before .before in
-    (omega arith, entry .pre .0, wrote-none (entry .pre .1 .1))
+    (omega arith, c .before .before .before .pre .0, wrote-none (c .before .before .before .pre .1 .1))
 
 deal-triple-requires : tie.Need-deal-triple-requires Inv-loop μ-loop
 deal-triple-requires c κs =
-    let entry = c .before .before .before .before .before .before .before in
-    let i = c .before .before .before .loop in (i .inv .1, (entry .pre .1 .0, omega arith, cursor-as (entry .args .o) (i .inv .2 .next) (sym (triple-step (entry .args .o) (entry .args .c) (i .t)))))
+    let i = c .before .before .before .loop in (i .inv .1, (c .before .before .before .before .before .before .before .pre .1 .0, omega arith, cursor-as (c .before .before .before .before .before .before .before .args .o) (i .inv .2 .next) (sym (triple-step (c .before .before .before .before .before .before .before .args .o) (c .before .before .before .before .before .before .before .args .c) (i .t)))))
 
 loop-again : tie.Need-loop-again Inv-loop μ-loop
 loop-again c =
-    let entry = c .before .before .before .before .before .before .before .before .before .before .before .before in
-    let i = c .before .before .before .before .before .before .before .before .loop in (omega arith, still-lent (i .inv .1) (c .before .before .before .before .deal-triple .ensures), wrote-as (wrote-join (i .inv .2) (c .before .before .before .before .deal-triple .ensures) (triple-step (entry .args .o) (entry .args .c) (i .t))) refl (omega arith))
+    let i = c .before .before .before .before .before .before .before .before .loop in (omega arith, still-lent (i .inv .1) (c .before .before .before .before .deal-triple .ensures), wrote-as (wrote-join (i .inv .2) (c .before .before .before .before .deal-triple .ensures) (triple-step (c .before .before .before .before .before .before .before .before .before .before .before .before .args .o) (c .before .before .before .before .before .before .before .before .before .before .before .before .args .c) (i .t))) refl (omega arith))
 
 returns : tie.Need-returns Inv-loop μ-loop
 returns c = let e : c .before .loop .t ≡ 8 = omega arith in wrote-as (c .before .loop .inv .2) refl (omega arith)

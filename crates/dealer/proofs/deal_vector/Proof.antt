@@ -17,8 +17,7 @@ abbrev μ-loop : tie.MeasureT-loop
 
 loop-holds : tie.Need-loop-holds Inv-loop μ-loop
 loop-holds c =
-    let entry = c .before .before .before in
-    (omega arith, entry .pre .0, wrote-none (entry .pre .1 .1))
+    (omega arith, c .before .before .before .pre .0, wrote-none (c .before .before .before .pre .1 .1))
 
 deal-place-requires : tie.Need-deal-place-requires Inv-loop μ-loop
 deal-place-requires c κs = let i = c .before .before .before .before .loop in (i .inv .1, next-vector (c .before .before .before .before .before .before .before .before .pre .1 .0) (i .j) (i .next) (c .before .before .vector-entry .result) (c .before .before .before .loop-test .taken) (i .inv .2 .next) (c .before .before .vector-entry .ensures))

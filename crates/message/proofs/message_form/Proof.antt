@@ -1,11 +1,11 @@
 -- `message::message_form` meets its contract.
-use Rattle.message.proofs.Form.{settings-stop, settings-skip, other-fits}
+use Rattle.message.proofs.Form.{other-fits}
 use Rattle.message.specs.Message.{formNo}
 use Rattle.lists.proofs.Questions.{walk, skip, and-yes}
 use borrow.Author.Tests.{le-leb}
 use mathlib.Core.Path.{sym, _∙_}
 use native.Mathlib.Omega.{arith}
-use Rattle.settings.proofs.Ready.{settings-ready}
+use Rattle.settings.proofs.Ready.{settings-ready, settings-stop, settings-skip}
 use borrow.Author.Needs.{needs}
 use Rattle.message.proofs.message_form.Statement.{statement}
 use Rattle.message.proofs.message_form.Tie as tie
