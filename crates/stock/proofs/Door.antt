@@ -2,48 +2,44 @@
 use mathlib.Core.Path.{_≡_, refl, sym, _∙_}
 use mathlib.Core.Bool.{Bool, true, false, _&&_}
 use mathlib.Core.List.{List, []}
-use Prim.Native.Nat.{ℕ, _≤_, _<_}
-use native.Mathlib.Omega.{arith}
-use lib.Dec.{leb}
-use borrow.Author.Tests.{ltb-true, leb-true, ne-eqb}
+use Prim.Native.Nat.{ℕ, _%_, _≤_, _<_}
+use lib.Dec.{eqb}
+use lib.ListN.{length}
+use borrow.Author.Tests.{ne-eqb}
 use Rattle.lists.specs.Answers.{ask}
-use Rattle.lists.proofs.Questions.{both-yes, passed}
-use Rattle.settings.specs.Questions.{isBit, countOk}
+use Rattle.lists.proofs.Questions.{passed}
+use Rattle.settings.specs.Questions.{askShape}
+use Rattle.settings.proofs.Ready.{shape-ready, shape-rest, shape-pass, shape-refuse}
 use Rattle.settings.specs.declared.Shape.{Shape}
 use Rattle.stock.specs.Stock.{stockedSize, isAbove, bothStocks, someOf, bestOf, askStocks, chooseNo, chosen}
 use Rattle.stock.proofs.Choice.{none-best}
 
--- three questions and the rest
-rest-of : (a b c : Bool) (rest : ℕ) → ask a 1 (ask b 2 (ask c 5 0)) ≡ 0 → ask a 1 (ask b 2 (ask c 5 rest)) ≡ rest
-unfolding ask
-rest-of true true true rest e = refl
-rest-of true true false rest e = absurd (omega arith)
-rest-of true false c rest e = absurd (omega arith)
-rest-of false b c rest e = absurd (omega arith)
-
-refused-of : (a b c : Bool) (rest : ℕ) → ¬ (ask a 1 (ask b 2 (ask c 5 0)) ≡ 0) → ask a 1 (ask b 2 (ask c 5 rest)) ≡ ask a 1 (ask b 2 (ask c 5 0))
-unfolding ask
-refused-of true true true rest e = absurd (e refl)
-refused-of true true false rest e = refl
-refused-of true false c rest e = refl
-refused-of false b c rest e = refl
-
 module _ (k : ℕ) (a : Shape) (first second : List ℕ) where
+  -- question 5
+  abbrev whole-stocks : Bool
+  whole-stocks = eqb (length first % stockedSize k a) 0 && eqb (length second % stockedSize k a) 0
+
+  -- the rest is asked just if these are answered yes
   stocks-go : askStocks k a first second 0 ≡ 0 → (rest : ℕ) → askStocks k a first second rest ≡ rest
-  unfolding askStocks
-  stocks-go e rest = rest-of _ _ _ rest e
+  unfolding askStocks ask
+  stocks-go e rest =
+      let five = passed whole-stocks 4 0 (shape-rest a _ e) .0 in
+      rw five (shape-pass a rest (rw five at e))
 
   stocks-refuse : (code : ℕ) → code ≡ askStocks k a first second 0 → ¬ (code ≡ 0) → (rest : ℕ) → askStocks k a first second rest ≡ code
-  unfolding askStocks
-  stocks-refuse code e h rest = refused-of _ _ _ rest (λ z. h (e ∙ z)) ∙ sym e
+  unfolding askStocks ask
+  stocks-refuse code e h rest = by whole-stocks refl
+    where
+      by : (b : Bool) → whole-stocks ≡ b → askShape a (ask whole-stocks 5 rest) ≡ code
+      by true f = rw f (shape-refuse a rest (λ z. h (e ∙ rw f z)) ∙ sym (e ∙ rw f))
+      by false f = rw f (sym (e ∙ rw f))
 
   -- set and count are as asked
-  pub stocks-ok : askStocks k a first second 0 ≡ 0 → (set < 2) × (n ≤ 8)
+  pub stocks-ok : askStocks k a first second 0 ≡ 0 → (a .set < 2) × (a .n ≤ 8)
   unfolding askStocks
   stocks-ok e =
-      let q1 = passed (isBit set && isBit kind) 0 _ e in
-      let q2 = passed (countOk n) 1 _ (q1 .1) in
-      (ltb-true set 2 (both-yes (isBit set) (isBit kind) (q1 .0) .0), leb-true n 8 (both-yes (leb 1 n) (leb n 8) (q2 .0) .1))
+      let ready = shape-ready a _ e in
+      (ready .sets, ready .most)
 
   module _ (last : ℕ) where
     abbrev above : Bool

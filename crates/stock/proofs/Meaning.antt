@@ -10,6 +10,7 @@ use lib.ListN.{length, getD, take, drop, length-drop}
 use lib.Seq.{length-take-le}
 use Rattle.lists.proofs.Questions.{passed}
 use Rattle.settings.specs.declared.Shape.{Shape}
+use Rattle.settings.proofs.Ready.{shape-rest}
 use Rattle.stock.specs.Stock.{stockedSize, bothStocks, serialOf, isAbove, someOf, bestOf, askStocks, chooseNo, chosen}
 use Rattle.stock.specs.Scan.{Least}
 use Rattle.stock.specs.Theorems.{Choice}
@@ -53,9 +54,7 @@ module _ (k : ℕ) (a : Shape) (first second : List ℕ) (last : ℕ) where
   some-above : chooseNo k a first second last ≡ 0 → someOf (isAbove last) (bothStocks (stockedSize k a) first second) ≡ true
   unfolding chooseNo askStocks
   some-above e =
-      let q1 = passed _ 0 _ e in
-      let q2 = passed _ 1 _ (q1 .1) in
-      let q5 = passed _ 4 _ (q2 .1) in
+      let q5 = passed _ 4 _ (shape-rest a _ e) in
       passed _ 13 _ (q5 .1) .0
 
   pub choice : Choice k a first second last
