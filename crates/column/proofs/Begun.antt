@@ -6,9 +6,9 @@ use native.Mathlib.Omega.{arith}
 use lib.ListN.{length, getD}
 use Rattle.lists.specs.Lists.{listTo}
 use Rattle.lists.proofs.Lists.{length-listFrom, getD-listTo, ahead, ahead-fixed, join-at}
-use Rattle.rounding.specs.Sets.{Scale}
-use Rattle.book.specs.Book.{shared}
-use Rattle.slice.specs.Layout.{places, begunPlace, begunWork}
+use Rattle.settings.specs.Sets.{Scale}
+use Rattle.settings.specs.Sizes.{shared, places}
+use Rattle.slice.specs.Layout.{begunPlace, begunWork}
 
 module _ (p : Scale) (kind n width : ℕ) (inputs book : List ℕ) where
   abbrev begunColumn : ℕ → List ℕ

@@ -14,12 +14,12 @@ use Rattle.field.specs.Field.{sub}
 use Rattle.field.specs.Sums.{sumTo}
 use Rattle.field.specs.Forms.{Registers, value}
 use Rattle.field.proofs.Division.{mod-sub}
-use Rattle.rounding.specs.Sets.{Scale}
+use Rattle.settings.specs.Sets.{Scale}
 use Rattle.rounding.specs.Rounds.{missing, gap, checkOpens, checkResult, insideResult}
-use Rattle.rounding.specs.Theorems.{Lawful}
+use Rattle.settings.specs.Theorems.{Lawful}
 use Rattle.rounding.proofs.ZeroCheck.{index-below}
 use Rattle.book.specs.Book.{groupK, groupGap, groupAt}
-use Rattle.book.specs.Theorems.{groups}
+use Rattle.settings.specs.Sizes.{groups}
 use Rattle.slice.specs.Layout.{runningAt}
 use Rattle.steps.specs.Steps.{Public, publicOf, insideForm, insides, checked, openCheck, checkEntry}
 use Rattle.column.specs.Clear.{clearRunning, clearChecked}

@@ -12,10 +12,10 @@ use Rattle.lists.proofs.Indicators.{bit-le, lt-zero, off, on, bit-view}
 use Rattle.field.specs.Field.{sub}
 use Rattle.field.specs.Sums.{sumTo}
 use Rattle.field.proofs.Solve.{at, _⊕_, _⊖_, _⊗_, red, solve}
-use Rattle.rounding.specs.Sets.{Scale, base}
+use Rattle.settings.specs.Sets.{Scale, base}
 use Rattle.rounding.specs.Digits.{digit}
 use Rattle.rounding.specs.Rounds.{top, over, unit, carryInto, zeroDigit, topSum, threshold}
-use Rattle.rounding.specs.Theorems.{Lawful}
+use Rattle.settings.specs.Theorems.{Lawful}
 use Rattle.rounding.proofs.Radix.{carry-le, carry-none, carry-next, zero-is, digit-below}
 use Rattle.rounding.proofs.BoundResult.{compare-is}
 use Rattle.slice.specs.Weights.{weigh, ruleOf}

@@ -11,9 +11,9 @@ use lib.ListN.{length, getD}
 use Rattle.lists.specs.Lists.{fill}
 use Rattle.lists.proofs.Fill.{fill-at, fill-before, fill-behind, length-fill}
 use Rattle.field.specs.Forms.{Registers, put}
-use Rattle.rounding.specs.Sets.{Scale}
-use Rattle.message.specs.Lengths.{openings}
-use Rattle.slice.specs.Layout.{places, runningAt, ownAt, column, ownIn}
+use Rattle.settings.specs.Sets.{Scale}
+use Rattle.settings.specs.Sizes.{openings, places}
+use Rattle.slice.specs.Layout.{runningAt, ownAt, column, ownIn}
 use Rattle.steps.specs.Steps.{Public, publicOf}
 use Rattle.steps.specs.Work.{openingOn, runningOn, takenColumn}
 

@@ -13,13 +13,13 @@ use Rattle.field.specs.Forms.{Registers, reg, sum, _⊞_, _⊟_, value}
 use Rattle.field.proofs.Congruence.{≈-eq, ≈-trans, ≈-mod}
 use Rattle.field.proofs.Solve.{at, _⊕_, _⊖_, _⊗_, red, solve-by}
 use Rattle.field.proofs.Sums.{select}
-use Rattle.rounding.specs.Sets.{Scale, base}
+use Rattle.settings.specs.Sets.{Scale, base}
 use Rattle.rounding.specs.Digits.{digit}
-use Rattle.rounding.specs.Theorems.{Lawful}
+use Rattle.settings.specs.Theorems.{Lawful}
 use Rattle.rounding.proofs.Radix.{digit-below}
-use Rattle.book.specs.Book.{groupK, groupGap, shared, maskAt, vectorAt, tripleAt, groupAt, drawn}
+use Rattle.book.specs.Book.{groupK, groupGap, maskAt, vectorAt, tripleAt, groupAt, drawn}
+use Rattle.settings.specs.Sizes.{shared, groups}
 use Rattle.book.specs.Book as Book
-use Rattle.book.specs.Theorems.{groups}
 use Rattle.book.proofs.Places.{places}
 use Rattle.book.proofs.Books.{values}
 use Rattle.slice.specs.Layout.{inputAt, runningAt}

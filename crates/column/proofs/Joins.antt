@@ -11,10 +11,10 @@ use Rattle.lists.specs.Lists.{fill}
 use Rattle.field.specs.Forms.{Registers, Form, num, reg, sum, _⊞_, _⊟_, _⊠_, value, Adds, Join}
 use Rattle.field.proofs.Congruence.{≈-eq}
 use Rattle.field.proofs.Forms.{join-value, join-put}
-use Rattle.rounding.specs.Sets.{Scale}
-use Rattle.message.specs.Lengths.{openings}
+use Rattle.settings.specs.Sets.{Scale}
+use Rattle.settings.specs.Sizes.{openings, places}
 use Rattle.book.specs.Deal.{multipliers}
-use Rattle.slice.specs.Layout.{places, column, maskedIn, weights}
+use Rattle.slice.specs.Layout.{column, maskedIn, weights}
 use Rattle.steps.specs.Steps.{Public, publicOf, opening, running}
 use Rattle.steps.specs.Work.{openingOn, takenColumn, takenColumns, takenWork}
 use Rattle.column.specs.Theorems.{T1, JoinedWork, T1Work}

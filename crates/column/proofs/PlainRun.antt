@@ -18,15 +18,14 @@ use Rattle.field.specs.Sums.{sumTo}
 use Rattle.field.specs.Forms.{Registers, value}
 use Rattle.field.proofs.Division.{split}
 use Rattle.field.proofs.Sums.{sum-cong}
-use Rattle.rounding.specs.Sets.{Scale}
+use Rattle.settings.specs.Sets.{Scale}
 use Rattle.rounding.specs.Plain.{shifted, highPart, inside, verdict}
 use Rattle.rounding.specs.Rounds.{gap, top, topSum, checkOpens, checkResult, wrapOf, highResult, insideResult}
 use Rattle.rounding.proofs.ZeroCheck.{gap-pos, check-is}
 use Rattle.rounding.proofs.HighResult.{result-is}
 use Rattle.rounding.proofs.BoundResult.{inside-is}
-use Rattle.message.specs.Lengths.{openings}
-use Rattle.book.specs.Book.{groupK, widthOf, groupAt}
-use Rattle.book.specs.Theorems.{groups}
+use Rattle.settings.specs.Sizes.{openings, widthOf, groups}
+use Rattle.book.specs.Book.{groupK, groupAt}
 use Rattle.slice.specs.Layout.{runningAt}
 use Rattle.steps.specs.Steps.{Public, publicOf, shiftOf, opening, checked, openCheck, checkEntry, groupOf, afterCheck, running}
 use Rattle.column.specs.Run.{openedFrom, plainOpened}

@@ -10,9 +10,9 @@ use borrow.Author.Tests.{lt-ltb, le-leb, ne-eqb}
 use lib.ListN.{getD}
 use Rattle.field.specs.Field.{sub}
 use Rattle.field.specs.Forms.{Registers, value}
-use Rattle.rounding.specs.Sets.{Scale}
-use Rattle.message.specs.Lengths.{openings}
-use Rattle.book.specs.Book.{widthOf, maskAt, tripleAt, drawn}
+use Rattle.settings.specs.Sets.{Scale}
+use Rattle.settings.specs.Sizes.{openings, widthOf}
+use Rattle.book.specs.Book.{maskAt, tripleAt, drawn}
 use Rattle.slice.specs.Layout.{runningAt}
 use Rattle.steps.specs.Steps.{Public, publicOf, shiftOf, opening, openFactor, running}
 use Rattle.steps.specs.Work.{openingOn}

@@ -12,9 +12,9 @@ use lib.ListN.{length, getD}
 use Rattle.lists.specs.Lists.{fill}
 use Rattle.lists.proofs.Fill.{fill-at, fill-before, fill-behind, length-fill}
 use Rattle.field.specs.Forms.{Registers, value}
-use Rattle.rounding.specs.Sets.{Scale}
-use Rattle.message.specs.Lengths.{openings}
-use Rattle.slice.specs.Layout.{places, ownAt, column, ownIn, maskedIn}
+use Rattle.settings.specs.Sets.{Scale}
+use Rattle.settings.specs.Sizes.{openings, places}
+use Rattle.slice.specs.Layout.{ownAt, column, ownIn, maskedIn}
 use Rattle.steps.specs.Steps.{Public, publicOf, openInput, opening}
 use Rattle.steps.specs.Work.{openingOn, takenColumn, takenColumns, takenWork}
 use Rattle.column.proofs.Columns.{stepped, taking, maskedAfter, openings-most, column-same, length-taken, taken-before, taken-behind, column-taken, own-taken}

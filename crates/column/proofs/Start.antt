@@ -9,11 +9,11 @@ use lib.ListN.{length, getD}
 use Rattle.lists.proofs.Questions.{both-yes}
 use Rattle.lists.proofs.Lists.{getD-listTo}
 use Rattle.field.specs.Forms.{Registers, put}
-use Rattle.rounding.specs.Sets.{Scale}
-use Rattle.message.specs.Lengths.{openings}
-use Rattle.book.specs.Book.{shared, widthOf, drawn}
+use Rattle.settings.specs.Sets.{Scale}
+use Rattle.settings.specs.Sizes.{openings, shared, widthOf, places}
+use Rattle.book.specs.Book.{drawn}
 use Rattle.book.specs.Book as Book
-use Rattle.slice.specs.Layout.{places, inputAt, runningAt, column, maskedIn, begunPlace, begunWork}
+use Rattle.slice.specs.Layout.{inputAt, runningAt, column, maskedIn, begunPlace, begunWork}
 use Rattle.steps.specs.Steps.{publicOf}
 use Rattle.steps.specs.Work.{openingOn, runningOn}
 use Rattle.column.specs.Run.{plainBook, plainStart, openedFrom, plainAfter}

@@ -14,13 +14,13 @@ use borrow.Author.Tests.{lt-ltb, le-ltb, eq-eqb, ne-eqb}
 use Rattle.lists.specs.Lists.{fill}
 use Rattle.lists.proofs.Fill.{length-fill, front-at, fill-same, fill-behind, copy-two}
 use Rattle.field.specs.Forms.{value}
-use Rattle.rounding.specs.Sets.{Scale}
-use Rattle.message.specs.Lengths.{openings}
-use Rattle.slice.specs.Layout.{places, runningAt, ownAt, column, maskedIn}
+use Rattle.settings.specs.Sets.{Scale}
+use Rattle.settings.specs.Sizes.{openings, places}
+use Rattle.slice.specs.Layout.{runningAt, ownAt, column, maskedIn}
 use Rattle.steps.specs.Steps.{Public, publicOf, openInput, opening, vectorSum, running}
 use Rattle.steps.specs.Work.{openingOn, runningOn, takenColumn, takenColumns, takenWork}
 use Rattle.steps.specs.Calls.{Held, HeldAll}
-use Rattle.steps.proofs.Bounds.{openings-most}
+use Rattle.settings.proofs.Sizes.{openings-most}
 
 -- ---- The masked numbers
 

@@ -8,7 +8,7 @@ use lib.ListN.{getD}
 use Rattle.lists.specs.Answers.{bit}
 use Rattle.field.specs.Field.{add, sub}
 use Rattle.field.specs.Sums.{sumTo}
-use Rattle.rounding.specs.Sets.{Scale}
+use Rattle.settings.specs.Sets.{Scale}
 use Rattle.rounding.specs.Digits.{digit}
 use Rattle.rounding.specs.Rounds.{carryInto, zeroDigit, topSum, top, over, missing, threshold, belowUpTo, insideResult}
 use Rattle.book.specs.Book.{groupGap, maskAt, tripleAt, groupAt, drawn}

@@ -3,9 +3,9 @@ use Prim.Native.Nat.{ℕ, zero, suc}
 use mathlib.Core.List.{List, [], _∷_}
 use lib.ListN.{getD}
 use Rattle.lists.specs.Lists.{listTo}
-use Rattle.rounding.specs.Sets.{Scale}
-use Rattle.message.specs.Lengths.{openings}
-use Rattle.book.specs.Book.{shared, value}
+use Rattle.settings.specs.Sets.{Scale}
+use Rattle.settings.specs.Sizes.{openings, shared}
+use Rattle.book.specs.Book.{value}
 use Rattle.slice.specs.Layout.{column, maskedIn, begunWork}
 use Rattle.steps.specs.Steps.{publicOf}
 use Rattle.steps.specs.Work.{openingOn, takenWork}

@@ -7,15 +7,14 @@ use lib.Dec.{eqb, ltb}
 use lib.ListN.{length, getD}
 use Rattle.lists.specs.Lists.{listTo}
 use Rattle.field.specs.Forms.{Registers, Adds, Join}
-use Rattle.rounding.specs.Sets.{Scale}
-use Rattle.rounding.specs.Questions.{countOk}
+use Rattle.settings.specs.Sets.{Scale}
+use Rattle.settings.specs.Questions.{countOk}
 use Rattle.rounding.specs.Plain.{highPart, verdict}
 use Rattle.rounding.specs.Rounds.{gap}
-use Rattle.rounding.specs.Theorems.{Lawful}
-use Rattle.message.specs.Lengths.{openings}
-use Rattle.book.specs.Book.{shared, widthOf, drawLength}
+use Rattle.settings.specs.Theorems.{Lawful}
+use Rattle.settings.specs.Sizes.{openings, shared, widthOf, drawLength, places}
 use Rattle.book.specs.Deal.{multipliers}
-use Rattle.slice.specs.Layout.{places, inputAt, runningAt, column, ownIn, maskedIn, weights}
+use Rattle.slice.specs.Layout.{inputAt, runningAt, column, ownIn, maskedIn, weights}
 use Rattle.steps.specs.Steps.{Public, publicOf}
 use Rattle.steps.specs.Work.{openingOn, runningOn, takenWork}
 use Rattle.column.specs.Run.{plainAfter, plainOpened}

@@ -4,19 +4,22 @@ ghost use Prim.Native.Nat.{ℕ, _+_, _*_, _/_, _≤_, _<_};
 ghost use lib.ListN.{length, getD};
 ghost use Rattle.lists.specs.Lists.{fill};
 ghost use Rattle.field.specs.Field.{q};
-ghost use Rattle.rounding.specs.Sets.{scaleOf};
-ghost use Rattle.message.specs.Lengths.{openings};
-ghost use Rattle.slice.specs.Layout.{places, ownAt, runningAt, column, maskedIn};
+ghost use Rattle.settings.specs.Sets.{scaleOf};
+ghost use Rattle.settings.specs.Sizes.{openings, places};
+ghost use Rattle.slice.specs.Layout.{ownAt, runningAt, column, maskedIn};
 ghost use Rattle.steps.specs.Steps.{publicOf, running};
 ghost use Rattle.steps.specs.Work.{openingOn, runningOn, takenColumn, takenColumns, takenWork};
-ghost use Rattle.steps.specs.Calls.{publicBy, Ready, Held, HeldAll};
-use message::openings_in;
+ghost use Rattle.steps.specs.Calls.{publicIn, Held, HeldAll};
+ghost use Rattle.settings.specs.Questions.{Ready};
+use settings::openings_in;
 use slice::FIRST;
 use slice::MASKED;
 use slice::OWN;
-use slice::PLACES;
+use settings::PLACES;
 use slice::SECOND;
-use steps::Settings;
+use steps::Column;
+use steps::Known;
+use settings::Settings;
 use steps::opening_value;
 use steps::running_value;
 
@@ -32,50 +35,32 @@ fn openings_of(settings: Settings, round: u32) -> usize
     openings_in(settings.kind, settings.n as u32, round) as usize
 }
 
-// This side's numbers in one column for a round's openings, in front of `out`; ys are the masked numbers. Crate side has asked.
-pub fn prepare(
-    out: &mut [u32],
-    work: &[u32],
-    col: usize,
-    settings: Settings,
-    ys: [u32; 8],
-    round: u32,
-    weight: u32,
-)
-    requires { ⌜ Ready settings ⌝ }
-    requires { ⌜ (1 ≤ round) × (round ≤ 7) × ((col + 1) * places ≤ length (now work)) × (openings (settings .kind) (settings .n) round ≤ length (now out)) ⌝ }
-    ensures { λ _. ⌜ now (out .exit) ≡ fill (now (out .entry)) 0 (openings (settings .kind) (settings .n) round) (openingOn (publicBy settings ys) round weight (column (now (work .entry)) col)) ⌝ }
+// This side's numbers in one column for the round's openings, in front of `out`. Crate side has asked.
+pub fn prepare(out: &mut [u32], work: &[u32], col: Column, known: Known)
+    requires { ⌜ Ready (known .settings) ⌝ }
+    requires { ⌜ (1 ≤ known .round) × (known .round ≤ 7) × ((col .index + 1) * places ≤ length (now work)) × (openings (known .settings .kind) (known .settings .n) (known .round) ≤ length (now out)) ⌝ }
+    ensures { λ _. ⌜ now (out .exit) ≡ fill (now (out .entry)) 0 (openings (known .settings .kind) (known .settings .n) (known .round)) (openingOn (publicIn known) (known .round) (col .weight) (column (now (work .entry)) (col .index))) ⌝ }
 {
-    let count = openings_of(settings, round);
+    let count = openings_of(known.settings, known.round);
     let mut o = 0;
     while o < count {
-        let x = opening_value(work, col, settings, ys, round, o, weight);
+        let x = opening_value(work, col, known, o);
         out[o] = x;
         o += 1;
     }
 }
 
-// Running registers k of all coefficients after a round, in front of `out`.
-fn running_into(
-    out: &mut [u32],
-    work: &[u32],
-    col: usize,
-    settings: Settings,
-    ys: [u32; 8],
-    round: u32,
-    opened: &[u32],
-    k: usize,
-    weight: u32,
-)
-    requires { ⌜ Ready settings ⌝ }
-    requires { ⌜ ((col + 1) * places ≤ length (now work)) × (1 ≤ round) × (k < 2) × (settings .n ≤ length (now out)) ⌝ }
-    requires { ⌜ (openings (settings .kind) (settings .n) round ≤ length (now opened)) × ((o : ℕ) → getD (now opened) o 0 < q) ⌝ }
-    ensures { λ _. ⌜ now (out .exit) ≡ fill (now (out .entry)) 0 (settings .n) (runningOn (publicBy settings ys) round (λ (o : ℕ). getD (now (opened .entry)) o 0) weight (column (now (work .entry)) col) k) ⌝ }
+// Running registers k of all coefficients after the round, in front of `out`.
+fn running_into(out: &mut [u32], work: &[u32], col: Column, known: Known, opened: &[u32], k: usize)
+    requires { ⌜ Ready (known .settings) ⌝ }
+    requires { ⌜ ((col .index + 1) * places ≤ length (now work)) × (1 ≤ known .round) × (k < 2) × (known .settings .n ≤ length (now out)) ⌝ }
+    requires { ⌜ (openings (known .settings .kind) (known .settings .n) (known .round) ≤ length (now opened)) × ((o : ℕ) → getD (now opened) o 0 < q) ⌝ }
+    ensures { λ _. ⌜ now (out .exit) ≡ fill (now (out .entry)) 0 (known .settings .n) (runningOn (publicIn known) (known .round) (λ (o : ℕ). getD (now (opened .entry)) o 0) (col .weight) (column (now (work .entry)) (col .index)) k) ⌝ }
 {
-    let n = settings.n;
+    let n = known.settings.n;
     let mut c = 0;
     while c < n {
-        let x = running_value(work, col, settings, ys, round, opened, k, c, weight);
+        let x = running_value(work, col, known, opened, k, c);
         out[c] = x;
         c += 1;
     }
@@ -113,93 +98,61 @@ fn masked_opened(opened: &[u32], n: usize) -> [u32; 8]
     ys
 }
 
-// Writes one column: the own numbers for `count` openings, then the first and second registers of n coefficients.
+// Writes one column after the round: its own numbers for the openings, then the first and second registers.
 fn put_column(
     work: &mut [u32],
     col: usize,
+    known: Known,
     own: &[u32],
-    count: usize,
     first: &[u32],
     second: &[u32],
-    n: usize,
 )
-    requires { ⌜ ((col + 1) * places ≤ length (now work)) × (32 * (col + 1) ≤ length (now own)) × (count ≤ 32) × (n ≤ 8) × (n ≤ length (now first)) × (n ≤ length (now second)) ⌝ }
-    ensures { λ _. ⌜ now (work .exit) ≡ fill (fill (fill (now (work .entry)) (col * places + ownAt 0) count (λ (o : ℕ). getD (now (own .entry)) (32 * col + o) 0))
-        (col * places + runningAt 0 0) n (λ (c : ℕ). getD (now (first .entry)) c 0))
-        (col * places + runningAt 1 0) n (λ (c : ℕ). getD (now (second .entry)) c 0) ⌝ }
+    requires { ⌜ Ready (known .settings) ⌝ }
+    requires { ⌜ ((col + 1) * places ≤ length (now work)) × (32 * (col + 1) ≤ length (now own)) × (known .settings .n ≤ length (now first)) × (known .settings .n ≤ length (now second)) ⌝ }
+    ensures { λ _. ⌜ now (work .exit) ≡ fill (fill (fill (now (work .entry)) (col * places + ownAt 0) (openings (known .settings .kind) (known .settings .n) (known .round)) (λ (o : ℕ). getD (now (own .entry)) (32 * col + o) 0))
+        (col * places + runningAt 0 0) (known .settings .n) (λ (c : ℕ). getD (now (first .entry)) c 0))
+        (col * places + runningAt 1 0) (known .settings .n) (λ (c : ℕ). getD (now (second .entry)) c 0) ⌝ }
 {
     let start = col * PLACES;
+    let n = known.settings.n;
+    let count = openings_of(known.settings, known.round);
     copy(work, start + OWN, own, OWN_ROOM * col, count);
     copy(work, start + FIRST, first, 0, n);
     copy(work, start + SECOND, second, 0, n);
 }
 
-// One column after a round. `own` holds its own numbers for the openings. The running registers are worked out before
+// One column after the round. `own` holds its own numbers for the openings. The running registers are worked out before
 // any is written: all read the column as it was.
-fn take_column(
-    work: &mut [u32],
-    col: usize,
-    settings: Settings,
-    ys: [u32; 8],
-    round: u32,
-    opened: &[u32],
-    own: &[u32],
-    weight: u32,
-)
-    requires { ⌜ Ready settings ⌝ }
-    requires { ⌜ ((col + 1) * places ≤ length (now work)) × (1 ≤ round) × (32 * (col + 1) ≤ length (now own)) ⌝ }
-    requires { ⌜ (openings (settings .kind) (settings .n) round ≤ length (now opened)) × ((o : ℕ) → getD (now opened) o 0 < q) ⌝ }
-    requires { ⌜ Held (publicBy settings ys) round weight (column (now work) col) (now own) col ⌝ }
-    ensures { λ _. ⌜ now (work .exit) ≡ takenColumn (publicBy settings ys) round (λ (o : ℕ). getD (now (opened .entry)) o 0) col weight (now (work .entry)) ⌝ }
+fn take_column(work: &mut [u32], col: Column, known: Known, opened: &[u32], own: &[u32])
+    requires { ⌜ Ready (known .settings) ⌝ }
+    requires { ⌜ ((col .index + 1) * places ≤ length (now work)) × (1 ≤ known .round) × (32 * (col .index + 1) ≤ length (now own)) ⌝ }
+    requires { ⌜ (openings (known .settings .kind) (known .settings .n) (known .round) ≤ length (now opened)) × ((o : ℕ) → getD (now opened) o 0 < q) ⌝ }
+    requires { ⌜ Held (publicIn known) (known .round) (col .weight) (column (now work) (col .index)) (now own) (col .index) ⌝ }
+    ensures { λ _. ⌜ now (work .exit) ≡ takenColumn (publicIn known) (known .round) (λ (o : ℕ). getD (now (opened .entry)) o 0) (col .index) (col .weight) (now (work .entry)) ⌝ }
 {
     let mut first = [0u32; 8];
     let mut second = [0u32; 8];
-    running_into(
-        &mut first,
-        work,
-        col,
-        settings,
-        ys,
-        round,
-        opened,
-        0,
-        weight,
-    );
-    running_into(
-        &mut second,
-        work,
-        col,
-        settings,
-        ys,
-        round,
-        opened,
-        1,
-        weight,
-    );
-    let count = openings_of(settings, round);
-    put_column(work, col, own, count, &first, &second, settings.n);
+    running_into(&mut first, work, col, known, opened, 0);
+    running_into(&mut second, work, col, known, opened, 1);
+    put_column(work, col.index, known, own, &first, &second);
 }
 
-// All columns after a round, by their weights.
-fn take_columns(
-    work: &mut [u32],
-    settings: Settings,
-    ys: [u32; 8],
-    round: u32,
-    opened: &[u32],
-    own: &[u32],
-    weights: &[u32],
-)
-    requires { ⌜ Ready settings ⌝ }
-    requires { ⌜ (1 ≤ round) × (length (now work) ≡ length (now weights) * places) × (32 * length (now weights) ≤ length (now own)) ⌝ }
-    requires { ⌜ (openings (settings .kind) (settings .n) round ≤ length (now opened)) × ((o : ℕ) → getD (now opened) o 0 < q) ⌝ }
-    requires { ⌜ HeldAll (publicBy settings ys) round (now weights) (now work) (now own) ⌝ }
-    ensures { λ _. ⌜ now (work .exit) ≡ takenColumns (publicBy settings ys) round (λ (o : ℕ). getD (now (opened .entry)) o 0) (now (weights .entry)) (now (work .entry)) (length (now (weights .entry))) ⌝ }
+// All columns after the round, by their weights.
+fn take_columns(work: &mut [u32], known: Known, opened: &[u32], own: &[u32], weights: &[u32])
+    requires { ⌜ Ready (known .settings) ⌝ }
+    requires { ⌜ (1 ≤ known .round) × (length (now work) ≡ length (now weights) * places) × (32 * length (now weights) ≤ length (now own)) ⌝ }
+    requires { ⌜ (openings (known .settings .kind) (known .settings .n) (known .round) ≤ length (now opened)) × ((o : ℕ) → getD (now opened) o 0 < q) ⌝ }
+    requires { ⌜ HeldAll (publicIn known) (known .round) (now weights) (now work) (now own) ⌝ }
+    ensures { λ _. ⌜ now (work .exit) ≡ takenColumns (publicIn known) (known .round) (λ (o : ℕ). getD (now (opened .entry)) o 0) (now (weights .entry)) (now (work .entry)) (length (now (weights .entry))) ⌝ }
 {
-    let mut col = 0;
-    while col < weights.len() {
-        take_column(work, col, settings, ys, round, opened, own, weights[col]);
-        col += 1;
+    let mut i = 0;
+    while i < weights.len() {
+        let col = Column {
+            index: i,
+            weight: weights[i],
+        };
+        take_column(work, col, known, opened, own);
+        i += 1;
     }
 }
 
@@ -220,11 +173,19 @@ pub fn take_work(
     ensures { λ _. ⌜ now (work .exit) ≡ takenWork (scaleOf (settings .set)) (settings .kind) (settings .n) (settings .bound) round (λ (o : ℕ). getD (now (opened .entry)) o 0) (now (weights .entry)) (now (work .entry)) ⌝ }
 {
     if round == 1 {
-        let ys = masked_opened(opened, settings.n);
-        take_columns(work, settings, ys, round, opened, own, weights);
+        let known = Known {
+            settings: settings,
+            round: round,
+            masked: masked_opened(opened, settings.n),
+        };
+        take_columns(work, known, opened, own, weights);
         copy(work, MASKED, opened, 0, settings.n);
     } else {
-        let ys = masked_in(work);
-        take_columns(work, settings, ys, round, opened, own, weights);
+        let known = Known {
+            settings: settings,
+            round: round,
+            masked: masked_in(work),
+        };
+        take_columns(work, known, opened, own, weights);
     }
 }

@@ -7,15 +7,8 @@ use lib.Dec.{eqb, leb, ltb}
 use lib.ListN.{getD, replicate}
 use Rattle.lists.specs.Lists.{listTo, joinTo}
 use Rattle.field.specs.Forms.{Registers}
-use Rattle.rounding.specs.Sets.{Scale}
-use Rattle.book.specs.Book.{shared, widthOf}
-
-abbrev pub places : ℕ
-places = 1536
-
--- "working slice 4,608 numbers", with k keys a side
-abbrev pub workLength : ℕ → ℕ
-workLength k = widthOf k * places
+use Rattle.settings.specs.Settings.{Params}
+use Rattle.settings.specs.Sizes.{places, shared}
 
 -- the input of coefficient c
 abbrev pub inputAt : ℕ → ℕ
@@ -55,9 +48,9 @@ begunPlace count n width inputs book c i =
     (cond (leb (inputAt 0) i && ltb i (inputAt n)) (getD inputs ((i - inputAt 0) * width + c) 0)
     0)
 
-unfoldable pub begunWork : Scale → ℕ → ℕ → ℕ → List ℕ → List ℕ → List ℕ
-begunWork p kind n width inputs book =
-    joinTo width (λ (c : ℕ). listTo places (begunPlace (shared p kind n) n width inputs book c))
+unfoldable pub begunWork : Params → ℕ → List ℕ → List ℕ → List ℕ
+begunWork p width inputs book =
+    joinTo width (λ (c : ℕ). listTo places (begunPlace (shared p) (p .n) width inputs book c))
 
 -- "Adding a public k: the server adds k to its share, and each side adds own key × k to its part under its own key":
 -- what a public 1 adds to each column on side `number`, with k keys a side

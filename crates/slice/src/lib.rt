@@ -10,18 +10,18 @@ ghost use Rattle.field.specs.Field.{q};
 ghost use Rattle.field.specs.Forms.{value, sum, _⊟_};
 ghost use Rattle.field.specs.Sums.{sumTo};
 ghost use Rattle.rounding.specs.Rounds.{top};
-ghost use Rattle.slice.specs.Layout.{places, ownAt, column};
+ghost use Rattle.settings.specs.Sizes.{places};
+ghost use Rattle.slice.specs.Layout.{ownAt, column};
 ghost use Rattle.slice.specs.Weights.{weigh};
 ghost use Rattle.slice.specs.declared.Rule.the-variants.{Zero};
 use field::Q;
 use field::Q64;
 use field::mul_mod;
 use field::sub_mod;
+use settings::PLACES;
 
-// The places of a column, and where in it stand the inputs, the two running registers of each coefficient, this side's
+// Where in a column stand the inputs, the two running registers of each coefficient, this side's
 // own numbers for the openings, and (in column 0 alone) the masked numbers.
-pub const PLACES: usize = 1536;
-
 pub const INPUT: usize = 1320;
 
 pub const FIRST: usize = 1328;
@@ -39,6 +39,15 @@ pub enum Rule {
     Top,
     Over,
     Below,
+}
+
+// A weighted sum over the n entries of a digit's vector at a place: their weights are by the rule, its limit and the public digit.
+pub struct Weighted {
+    pub place: usize,
+    pub n: usize,
+    pub rule: Rule,
+    pub limit: u32,
+    pub digit: u32,
 }
 
 // ---- Sums over a digit's vector
@@ -124,21 +133,18 @@ fn zero_entry(b: u32, d: u32) -> usize
     (b - d) as usize
 }
 
-// The n entries of the vector at a place, each times its weight by the rule. But for Top's, weights are 0 or 1: the sum goes through
-// the entries of weight 1 alone.
-pub fn weighted_sum(
-    work: &[u32],
-    col: usize,
-    place: usize,
-    n: usize,
-    rule: Rule,
-    b: u32,
-    d: u32,
-) -> u32
-    requires { ⌜ ((col + 1) * places ≤ length (now work)) × (place + n ≤ ownAt 0) × (n ≤ 64) × (1 ≤ b) × (b ≤ 45) × (d ≤ 65536) ⌝ }
-    requires { ⌜ (rule ≡ Zero → (n ≡ b) × (d ≤ b)) ⌝ }
-    ensures { λ r. ⌜ ((κ : ℕ) → r ≡ value q κ (column (now (work .entry)) col) (sum n place (weigh rule b d))) ⌝ }
+// The entries of the vector, each times its weight by the rule. But for Top's, weights are 0 or 1: the sum goes through the entries
+// of weight 1 alone.
+pub fn weighted_sum(work: &[u32], col: usize, sum: Weighted) -> u32
+    requires { ⌜ ((col + 1) * places ≤ length (now work)) × (terms .place + terms .n ≤ ownAt 0) × (terms .n ≤ 64) × (1 ≤ terms .limit) × (terms .limit ≤ 45) × (terms .digit ≤ 65536) ⌝ }
+    requires { ⌜ (terms .rule ≡ Zero → (terms .n ≡ terms .limit) × (terms .digit ≤ terms .limit)) ⌝ }
+    ensures { λ r. ⌜ ((κ : ℕ) → r ≡ value q κ (column (now (work .entry)) col) (sum (terms .n) (terms .place) (weigh (terms .rule) (terms .limit) (terms .digit)))) ⌝ }
 {
+    let rule = terms.rule;
+    let place = terms.place;
+    let n = terms.n;
+    let b = terms.limit;
+    let d = terms.digit;
     match rule {
         Rule::Carry => part_sum(work, col, place, less_by(b, d) as usize, n),
         Rule::Zero => register(work, col, place + zero_entry(b, d)) % Q,
@@ -171,19 +177,16 @@ fn back_from(b: u32, d: u32, n: usize) -> usize
 
 // What the weighted sum grows by where the digit is one higher: one weight becomes 1, for Zero one becomes 0 too. For Top all grow by
 // 1, but for the one that falls from s - 1 to 0.
-pub fn raised_by(
-    work: &[u32],
-    col: usize,
-    place: usize,
-    n: usize,
-    rule: Rule,
-    b: u32,
-    d: u32,
-) -> u32
-    requires { ⌜ ((col + 1) * places ≤ length (now work)) × (place + n ≤ ownAt 0) × (n ≤ 64) × (1 ≤ b) × (b ≤ 45) × (d < 65536) ⌝ }
-    requires { ⌜ (rule ≡ Zero → (n ≡ b) × (d + 1 ≤ b)) ⌝ }
-    ensures { λ r. ⌜ ((κ : ℕ) → r ≡ value q κ (column (now (work .entry)) col) (sum n place (weigh rule b (d + 1)) ⊟ sum n place (weigh rule b d))) ⌝ }
+pub fn raised_by(work: &[u32], col: usize, sum: Weighted) -> u32
+    requires { ⌜ ((col + 1) * places ≤ length (now work)) × (terms .place + terms .n ≤ ownAt 0) × (terms .n ≤ 64) × (1 ≤ terms .limit) × (terms .limit ≤ 45) × (terms .digit < 65536) ⌝ }
+    requires { ⌜ (terms .rule ≡ Zero → (terms .n ≡ terms .limit) × (terms .digit + 1 ≤ terms .limit)) ⌝ }
+    ensures { λ r. ⌜ ((κ : ℕ) → r ≡ value q κ (column (now (work .entry)) col) (sum (terms .n) (terms .place) (weigh (terms .rule) (terms .limit) (terms .digit + 1)) ⊟ sum (terms .n) (terms .place) (weigh (terms .rule) (terms .limit) (terms .digit)))) ⌝ }
 {
+    let rule = terms.rule;
+    let place = terms.place;
+    let n = terms.n;
+    let b = terms.limit;
+    let d = terms.digit;
     match rule {
         Rule::Carry => entry_at(work, col, place, n, back_from(b, d + 1, n)),
         Rule::Zero => sub_mod(

@@ -13,13 +13,13 @@ use Rattle.lists.proofs.Every.{allTo-at}
 use Rattle.field.specs.Field.{q}
 use Rattle.field.specs.Sums.{sumTo}
 use Rattle.field.proofs.Division.{Split, split}
-use Rattle.rounding.specs.Sets.{scaleOf, base}
+use Rattle.settings.specs.Sets.{scaleOf, base}
 use Rattle.rounding.specs.Digits.{digit}
 use Rattle.rounding.specs.Rounds.{gap, threshold, unit}
-use Rattle.rounding.proofs.Sets.{lawful, base-range}
+use Rattle.settings.proofs.Sets.{lawful, base-range}
 use Rattle.rounding.proofs.Radix.{low-digit, top-digit, unit-alpha, digit-below}
-use Rattle.message.specs.Lengths.{openings}
-use Rattle.book.specs.Book.{groupK, stride, vectorAt}
+use Rattle.settings.specs.Sizes.{openings, stride}
+use Rattle.book.specs.Book.{groupK, vectorAt}
 use Rattle.steps.specs.Steps.{lookedAt, limitOf, groupOf}
 use Rattle.slice.specs.Weights.{ruleOf}
 use Rattle.slice.specs.declared.Rule.{Rule}

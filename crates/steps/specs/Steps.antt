@@ -5,7 +5,8 @@ use mathlib.Core.Bool.{cond, _&&_}
 use lib.Dec.{eqb, leb, ltb}
 use Rattle.lists.specs.Answers.{bit}
 use Rattle.field.specs.Forms.{Form, num, reg, sum, _⊞_, _⊟_, _⊠_}
-use Rattle.rounding.specs.Sets.{Scale, base}
+use Rattle.settings.specs.Sets.{Scale, base}
+use Rattle.settings.specs.Settings.{Params, Terms}
 use Rattle.rounding.specs.Digits.{digit}
 use Rattle.rounding.specs.Rounds.{threshold}
 use Rattle.book.specs.Book.{groupK, groupGap, maskAt, vectorAt, tripleAt, groupAt}
@@ -14,14 +15,12 @@ use Rattle.slice.specs.Weights.{weigh, ruleOf}
 
 -- what both sides know of a run: scale, kind, N, B, and the y that round 1 opened
 pub record Public : Type 0 where
-  pub scale : Scale
-  pub kind : ℕ
-  pub n : ℕ
+  pub params : Params
   pub bound : ℕ
   pub masked : ℕ → ℕ
 
-abbrev pub publicOf : Scale → ℕ → ℕ → ℕ → (ℕ → ℕ) → Public
-publicOf p kind n bound masked = record { scale = p; kind = kind; n = n; bound = bound; masked = masked }
+abbrev pub publicOf : Terms → (ℕ → ℕ) → Public
+publicOf t masked = record { params = t .params; bound = t .bound; masked = masked }
 
 -- the number whose digits gate k looks at: y for HIGH; for BOUND the threshold hi (k = 0) or lo
 unfoldable pub lookedAt : ℕ → ℕ → ℕ → ℕ → ℕ → ℕ
@@ -29,7 +28,7 @@ lookedAt m kind bound k y = cond (eqb kind 0) y (threshold m bound k y)
 
 -- its digit i
 abbrev pub digitOf : Public → ℕ → ℕ → ℕ → ℕ
-digitOf w c i k = digit (w .scale) (lookedAt (w .scale .modulus) (w .kind) (w .bound) k (w .masked c)) i
+digitOf w c i k = digit (w .params .scale) (lookedAt (w .params .scale .modulus) (w .params .kind) (w .bound) k (w .masked c)) i
 
 -- the limit of a rule: the digit's base, for digit 4 s
 unfoldable pub limitOf : Scale → ℕ → ℕ
@@ -40,23 +39,23 @@ limitOf p i = cond (ltb i 4) (base p i) (p .parts)
 -- A, Z, F, G, or the sum below Ti; with up = 1 "the same with yi + 1"
 unfoldable pub vectorSum : Public → ℕ → ℕ → ℕ → ℕ → Form
 vectorSum w c i k up =
-    sum (base (w .scale) i) (vectorAt (w .scale) (w .kind) c i)
-    (weigh (ruleOf (w .kind) i k) (limitOf (w .scale) i) (digitOf w c i k + up))
+    sum (base (w .params .scale) i) (vectorAt (w .params) c i)
+    (weigh (ruleOf (w .params .kind) i k) (limitOf (w .params .scale) i) (digitOf w c i k + up))
 
 -- HIGH: "Next carry = A + ci × (A′ − A); zi = Z + ci × (Z′ − Z)", F and G "chosen by c4 in the same way"; the z's and G are
 -- added up in the second register. BOUND: "(sum of digit i's vector below Ti) + (entry at Ti) × (result so far), the entry as u"
 unfoldable pub addend : Public → ℕ → ℕ → ℕ → Form
-addend w c i k = cond (eqb (w .kind) 0 && eqb k 1) (reg (runningAt 1 c) ⊞ vectorSum w c i k 0) (vectorSum w c i k 0)
+addend w c i k = cond (eqb (w .params .kind) 0 && eqb k 1) (reg (runningAt 1 c) ⊞ vectorSum w c i k 0) (vectorSum w c i k 0)
 
 unfoldable pub factorU : Public → ℕ → ℕ → ℕ → Form
-factorU w c i k = cond (eqb (w .kind) 0) (reg (runningAt 0 c)) (reg (vectorAt (w .scale) (w .kind) c i + digitOf w c i k))
+factorU w c i k = cond (eqb (w .params .kind) 0) (reg (runningAt 0 c)) (reg (vectorAt (w .params) c i + digitOf w c i k))
 
 unfoldable pub factorV : Public → ℕ → ℕ → ℕ → Form
-factorV w c i k = cond (eqb (w .kind) 0) (vectorSum w c i k 1 ⊟ vectorSum w c i k 0) (reg (runningAt k c))
+factorV w c i k = cond (eqb (w .params .kind) 0) (vectorSum w c i k 1 ⊟ vectorSum w c i k 0) (reg (runningAt k c))
 
 -- "Products use triples in the order named": the place of a; b and c follow
 abbrev pub tripleOf : Public → ℕ → ℕ → ℕ → ℕ
-tripleOf w c i k = tripleAt (w .scale) (w .kind) c (2 * (i - 1) + k)
+tripleOf w c i k = tripleAt (w .params) c (2 * (i - 1) + k)
 
 -- ---- What is opened
 
@@ -66,7 +65,7 @@ shiftOf alpha kind bound = cond (eqb kind 0) (alpha / 2 - 1) (bound - 1)
 
 -- "Round 1 opens y = (w′ − r), or (v + B − 1 − r) for BOUND"
 unfoldable pub openInput : Public → ℕ → Form
-openInput w c = reg (inputAt c) ⊞ num (shiftOf (w .scale .alpha) (w .kind) (w .bound)) ⊟ reg (maskAt (w .scale) (w .kind) c)
+openInput w c = reg (inputAt c) ⊞ num (shiftOf (w .params .scale .alpha) (w .params .kind) (w .bound)) ⊟ reg (maskAt (w .params) c)
 
 -- "Product of u and v: open u − a, then v − b": part 0, part 1
 unfoldable pub openFactor : Public → ℕ → ℕ → ℕ → ℕ → Form
@@ -79,16 +78,16 @@ insideForm m bound y c = reg (runningAt 0 c) ⊟ reg (runningAt 1 c) ⊞ num (bi
 -- the sum of the insides of the first coefficients
 unfoldable pub insides : Public → ℕ → Form
 insides w zero = num 0
-insides w (suc c) = insides w c ⊞ insideForm (w .scale .modulus) (w .bound) (w .masked c) c
+insides w (suc c) = insides w c ⊞ insideForm (w .params .scale .modulus) (w .bound) (w .masked c) c
 
 -- "Round 6 zero-checks 5 − (z0 + z1 + z2 + z3 + G)", or "N − the sum of insides"
 unfoldable pub checked : Public → ℕ → Form
-checked w g = num (groupK (w .kind) (w .n)) ⊟ cond (eqb (w .kind) 0) (reg (runningAt 1 g)) (insides w (w .n))
+checked w g = num (groupK (w .params)) ⊟ cond (eqb (w .params .kind) 0) (reg (runningAt 1 g)) (insides w (w .params .n))
 
 -- "Zero check of n, 0 to K: open ρ + g × n", of group g
 unfoldable pub openCheck : Public → ℕ → Form
 openCheck w g =
-    reg (groupAt (w .scale) (w .kind) (w .n) g) ⊞ groupGap (w .scale) (w .kind) (w .n) ⊠ checked w g
+    reg (groupAt (w .params) g) ⊞ groupGap (w .params) ⊠ checked w g
 
 -- opening o of a round. Rounds 2 to 5: "coefficient by coefficient", two gates each, u then v. "Round 7 opens F − C", or the check's result
 unfoldable pub opening : Public → ℕ → ℕ → Form
@@ -103,11 +102,11 @@ opening w round o =
 -- addend + u × v: "result e × v + f × u + c − e × f"
 unfoldable pub gateResult : Public → ℕ → ℕ → ℕ → ℕ → ℕ → Form
 gateResult w c i k e f =
-    addend w c i k ⊞ e ⊠ factorV w c i k ⊞ f ⊠ factorU w c i k ⊞ reg (tripleOf w c i k + 2) ⊟ num (e * f % w .scale .modulus)
+    addend w c i k ⊞ e ⊠ factorV w c i k ⊞ f ⊠ factorU w c i k ⊞ reg (tripleOf w c i k + 2) ⊟ num (e * f % w .params .scale .modulus)
 
 -- "the result is the vector's entry at the opened number divided by g, rounded down", of group g
 unfoldable pub checkEntry : Public → ℕ → ℕ → Form
-checkEntry w g x = reg (groupAt (w .scale) (w .kind) (w .n) g + 1 + x / groupGap (w .scale) (w .kind) (w .n))
+checkEntry w g x = reg (groupAt (w .params) g + 1 + x / groupGap (w .params))
 
 -- the group of coefficient c: its own for HIGH, the one of all for BOUND
 unfoldable pub groupOf : ℕ → ℕ → ℕ
@@ -117,7 +116,7 @@ groupOf kind c = cond (eqb kind 0) c 0
 unfoldable pub afterCheck : Public → ℕ → ℕ → ℕ → Form
 afterCheck w c k x =
     cond (eqb k 0)
-    (cond (eqb (w .kind) 0) (reg (runningAt 0 c) ⊟ checkEntry w c x)
+    (cond (eqb (w .params .kind) 0) (reg (runningAt 0 c) ⊟ checkEntry w c x)
     (cond (eqb c 0) (checkEntry w 0 x) (reg (runningAt 0 c))))
     (reg (runningAt k c))
 
@@ -126,5 +125,5 @@ unfoldable pub running : Public → ℕ → (ℕ → ℕ) → ℕ → ℕ → Fo
 running w round opened k c =
     cond (eqb round 1) (vectorSum w c 0 k 0)
     (cond (leb round 5) (gateResult w c (round - 1) k (opened (4 * c + 2 * k)) (opened (4 * c + 2 * k + 1)))
-    (cond (eqb round 6) (afterCheck w c k (opened (groupOf (w .kind) c)))
+    (cond (eqb round 6) (afterCheck w c k (opened (groupOf (w .params .kind) c)))
     (reg (runningAt k c))))

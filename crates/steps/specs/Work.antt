@@ -6,26 +6,26 @@ use lib.Dec.{eqb}
 use lib.ListN.{length, getD}
 use Rattle.lists.specs.Lists.{fill}
 use Rattle.field.specs.Forms.{Registers, value}
-use Rattle.rounding.specs.Sets.{Scale}
-use Rattle.message.specs.Lengths.{openings}
-use Rattle.slice.specs.Layout.{places, runningAt, ownAt, maskedAt, column, maskedIn}
+use Rattle.settings.specs.Settings.{Terms}
+use Rattle.settings.specs.Sizes.{openings, places}
+use Rattle.slice.specs.Layout.{runningAt, ownAt, maskedAt, column, maskedIn}
 use Rattle.steps.specs.Steps.{Public, publicOf, opening, running}
 
 -- on a column of weight κ
 abbrev pub openingOn : Public → ℕ → ℕ → Registers → ℕ → ℕ
-openingOn w round κ r o = value (w .scale .modulus) κ r (opening w round o)
+openingOn w round κ r o = value (w .params .scale .modulus) κ r (opening w round o)
 
 abbrev pub runningOn : Public → ℕ → (ℕ → ℕ) → ℕ → Registers → ℕ → ℕ → ℕ
-runningOn w round opened κ r k c = value (w .scale .modulus) κ r (running w round opened k c)
+runningOn w round opened κ r k c = value (w .params .scale .modulus) κ r (running w round opened k c)
 
 -- column c, of weight κ, after a round: own openings, then first and second registers; all read the column as it was
 unfoldable pub takenColumn : Public → ℕ → (ℕ → ℕ) → ℕ → ℕ → List ℕ → List ℕ
 takenColumn w round opened c κ work =
     fill
     (fill
-    (fill work (c * places + ownAt 0) (openings (w .kind) (w .n) round) (openingOn w round κ (column work c)))
-    (c * places + runningAt 0 0) (w .n) (runningOn w round opened κ (column work c) 0))
-    (c * places + runningAt 1 0) (w .n) (runningOn w round opened κ (column work c) 1)
+    (fill work (c * places + ownAt 0) (openings (w .params) round) (openingOn w round κ (column work c)))
+    (c * places + runningAt 0 0) (w .params .n) (runningOn w round opened κ (column work c) 0))
+    (c * places + runningAt 1 0) (w .params .n) (runningOn w round opened κ (column work c) 1)
 
 -- the first columns, by their weights
 unfoldable pub takenColumns : Public → ℕ → (ℕ → ℕ) → List ℕ → List ℕ → ℕ → List ℕ
@@ -34,8 +34,8 @@ takenColumns w round opened κs work (suc c) = takenColumn w round opened c (get
 
 -- the whole slice: all columns, and in column 0 the masked numbers. In round 1 these are the numbers just opened, later those
 -- that the slice holds
-unfoldable pub takenWork : Scale → ℕ → ℕ → ℕ → ℕ → (ℕ → ℕ) → List ℕ → List ℕ → List ℕ
-takenWork p kind n bound round opened κs work =
-    let w = publicOf p kind n bound (cond (eqb round 1) opened (maskedIn work)) in
+unfoldable pub takenWork : Terms → ℕ → (ℕ → ℕ) → List ℕ → List ℕ → List ℕ
+takenWork t round opened κs work =
+    let w = publicOf t (cond (eqb round 1) opened (maskedIn work)) in
     let after = takenColumns w round opened κs work (length κs) in
-    cond (eqb round 1) (fill after (maskedAt 0) n opened) after
+    cond (eqb round 1) (fill after (maskedAt 0) (t .params .n) opened) after

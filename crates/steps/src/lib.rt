@@ -2,23 +2,23 @@
 // a linear form with public coefficients, the same in every column.
 ghost use mathlib.Core.Path.{_≡_};
 ghost use mathlib.Core.Logic.{_≢_};
-ghost use mathlib.Core.List.{List};
 ghost use Prim.Native.Nat.{ℕ, _+_, _*_, _/_, _≤_, _<_};
 ghost use lib.Dec.{ltb};
 ghost use lib.ListN.{length, getD};
 ghost use Rattle.lists.specs.Answers.{bit};
-ghost use Rattle.field.specs.Field.{q, add, sub, mul};
-ghost use Rattle.field.specs.Forms.{value, _⊟_};
-ghost use Rattle.rounding.specs.Sets.{scaleOf};
-ghost use Rattle.rounding.specs.Digits.{digit};
+ghost use Rattle.field.specs.Field.{q, add, mul};
+ghost use Rattle.field.specs.Forms.{value, sum, _⊟_};
+ghost use Rattle.settings.specs.Sets.{scaleOf};
 ghost use Rattle.rounding.specs.Rounds.{threshold, gap};
-ghost use Rattle.message.specs.Lengths.{openings};
+ghost use Rattle.settings.specs.Sizes.{openings, places};
 ghost use Rattle.book.specs.Book.{groupK};
-ghost use Rattle.slice.specs.Layout.{places, column};
-ghost use Rattle.slice.specs.Weights.{ruleOf};
-ghost use Rattle.steps.specs.Steps.{lookedAt, limitOf, vectorSum, addend, factorU, factorV, tripleOf, shiftOf, openInput, openFactor, insideForm, insides, checked, openCheck, gateResult, groupOf, checkEntry, afterCheck, running};
+ghost use Rattle.slice.specs.Layout.{ownAt, column};
+ghost use Rattle.slice.specs.declared.Rule.the-variants.{Zero};
+ghost use Rattle.slice.specs.Weights.{weigh, ruleOf};
+ghost use Rattle.steps.specs.Steps.{lookedAt, digitOf, limitOf, vectorSum, addend, factorU, factorV, tripleOf, shiftOf, openInput, openFactor, insideForm, insides, checked, openCheck, gateResult, groupOf, checkEntry, afterCheck, running};
 ghost use Rattle.steps.specs.Work.{openingOn, runningOn};
-ghost use Rattle.steps.specs.Calls.{publicBy, Ready};
+ghost use Rattle.steps.specs.Calls.{publicIn};
+ghost use Rattle.settings.specs.Questions.{Ready};
 use book::group_at;
 use book::group_gap;
 use book::group_k;
@@ -29,14 +29,15 @@ use field::add_mod;
 use field::mul_mod;
 use field::sub_mod;
 use rounding::Split;
-use rounding::alpha_of;
-use rounding::base_of;
-use rounding::parts_of;
+use settings::alpha_of;
+use settings::base_of;
+use settings::parts_of;
 use rounding::split_number;
 use slice::FIRST;
 use slice::INPUT;
 use slice::Rule;
 use slice::SECOND;
+use slice::Weighted;
 use slice::raised_by;
 use slice::register;
 use slice::weighted_sum;
@@ -48,6 +49,26 @@ pub struct Settings {
     pub kind: u32,
     pub n: usize,
     pub bound: u32,
+}
+
+// What both sides know in a round: the settings, the round's number, and the masked numbers, which round 1 opens.
+pub struct Known {
+    pub settings: Settings,
+    pub round: u32,
+    pub masked: [u32; 8],
+}
+
+// A column of the working slice, and what a public 1 adds to it.
+pub struct Column {
+    pub index: usize,
+    pub weight: u32,
+}
+
+// The first (k = 0) or second (1) gate of digit i of coefficient c.
+struct Gate {
+    c: usize,
+    i: usize,
+    k: usize,
 }
 
 // ---- Numbers
@@ -91,15 +112,17 @@ fn entry(split: Split, i: usize) -> u32
     split.digits[i]
 }
 
-// Digit i of the number that gate k looks at, y being the coefficient's masked number.
-fn digit_of(settings: Settings, y: u32, i: usize, k: usize) -> u32
-    requires { ⌜ Ready settings ⌝ }
-    requires { ⌜ i < 5 ⌝ }
-    ensures { λ r. ⌜ (r ≡ digit (scaleOf (settings .set)) (lookedAt q (settings .kind) (settings .bound) k y) i) × (r < 65536) ⌝ }
+// The digit of the number that a gate looks at.
+fn digit_of(known: Known, gate: Gate) -> u32
+    requires { ⌜ Ready (known .settings) ⌝ }
+    requires { ⌜ (gate .c < known .settings .n) × (gate .i < 5) ⌝ }
+    ensures { λ r. ⌜ (r ≡ digitOf (publicIn known) (gate .c) (gate .i) (gate .k)) × (r < 65536) ⌝ }
 {
-    let x = looked_at(settings.kind, settings.bound, k, y);
+    let settings = known.settings;
+    let c = gate.c;
+    let x = looked_at(settings.kind, settings.bound, gate.k, known.masked[c]);
     let split = split_number(settings.set, x);
-    entry(split, i)
+    entry(split, gate.i)
 }
 
 fn rule_of(kind: u32, i: usize, k: usize) -> Rule
@@ -132,114 +155,83 @@ fn limit_of(set: usize, i: usize) -> u32
 
 // ---- Gates: addend + u × v, of digit i of coefficient c. No public number is added: the weight does not matter.
 
-// A, Z, F, G, or the sum below Ti.
-fn vector_sum(
-    work: &[u32],
-    col: usize,
-    settings: Settings,
-    ys: [u32; 8],
-    c: usize,
-    i: usize,
-    k: usize,
-) -> u32
-    requires { ⌜ Ready settings ⌝ }
-    requires { ⌜ ((col + 1) * places ≤ length (now work)) × (c < settings .n) × (i < 5) ⌝ }
-    ensures { λ r. ⌜ ((κ : ℕ) → r ≡ value q κ (column (now (work .entry)) col) (vectorSum (publicBy settings ys) c i k 0)) ⌝ }
+// The terms of A, Z, F, G, or the sum below Ti.
+fn weighted_of(known: Known, gate: Gate) -> Weighted
+    requires { ⌜ Ready (known .settings) ⌝ }
+    requires { ⌜ (gate .c < known .settings .n) × (gate .i < 5) ⌝ }
+    ensures { λ r. ⌜ (r .place + r .n ≤ ownAt 0) × (r .n ≤ 64) × (1 ≤ r .limit) × (r .limit ≤ 45) × (r .digit < 65536) ⌝ }
+    ensures { λ r. ⌜ (r .rule ≡ Zero → (r .n ≡ r .limit) × (r .digit + 1 ≤ r .limit)) ⌝ }
+    ensures { λ r. ⌜ ((up : ℕ) → sum (r .n) (r .place) (weigh (r .rule) (r .limit) (r .digit + up)) ≡ vectorSum (publicIn known) (gate .c) (gate .i) (gate .k) up) ⌝ }
 {
-    let d = digit_of(settings, ys[c], i, k);
-    let place = vector_at(settings.set, settings.kind, c, i);
-    let b = base_of(settings.set, i) as usize;
-    let limit = limit_of(settings.set, i);
-    let rule = rule_of(settings.kind, i, k);
-    weighted_sum(work, col, place, b, rule, limit, d)
+    let settings = known.settings;
+    Weighted {
+        place: vector_at(settings.set, settings.kind, gate.c, gate.i),
+        n: base_of(settings.set, gate.i) as usize,
+        rule: rule_of(settings.kind, gate.i, gate.k),
+        limit: limit_of(settings.set, gate.i),
+        digit: digit_of(known, gate),
+    }
+}
+
+// A, Z, F, G, or the sum below Ti.
+fn vector_sum(work: &[u32], col: usize, known: Known, gate: Gate) -> u32
+    requires { ⌜ Ready (known .settings) ⌝ }
+    requires { ⌜ ((col + 1) * places ≤ length (now work)) × (gate .c < known .settings .n) × (gate .i < 5) ⌝ }
+    ensures { λ r. ⌜ ((κ : ℕ) → r ≡ value q κ (column (now (work .entry)) col) (vectorSum (publicIn known) (gate .c) (gate .i) (gate .k) 0)) ⌝ }
+{
+    weighted_sum(work, col, weighted_of(known, gate))
 }
 
 // A′ − A, Z′ − Z, F′ − F or G′ − G.
-fn vector_raise(
-    work: &[u32],
-    col: usize,
-    settings: Settings,
-    ys: [u32; 8],
-    c: usize,
-    i: usize,
-    k: usize,
-) -> u32
-    requires { ⌜ Ready settings ⌝ }
-    requires { ⌜ ((col + 1) * places ≤ length (now work)) × (c < settings .n) × (i < 5) ⌝ }
-    ensures { λ r. ⌜ ((κ : ℕ) → r ≡ value q κ (column (now (work .entry)) col) (vectorSum (publicBy settings ys) c i k 1 ⊟ vectorSum (publicBy settings ys) c i k 0)) ⌝ }
+fn vector_raise(work: &[u32], col: usize, known: Known, gate: Gate) -> u32
+    requires { ⌜ Ready (known .settings) ⌝ }
+    requires { ⌜ ((col + 1) * places ≤ length (now work)) × (gate .c < known .settings .n) × (gate .i < 5) ⌝ }
+    ensures { λ r. ⌜ ((κ : ℕ) → r ≡ value q κ (column (now (work .entry)) col) (vectorSum (publicIn known) (gate .c) (gate .i) (gate .k) 1 ⊟ vectorSum (publicIn known) (gate .c) (gate .i) (gate .k) 0)) ⌝ }
 {
-    let d = digit_of(settings, ys[c], i, k);
-    let place = vector_at(settings.set, settings.kind, c, i);
-    let b = base_of(settings.set, i) as usize;
-    let limit = limit_of(settings.set, i);
-    let rule = rule_of(settings.kind, i, k);
-    raised_by(work, col, place, b, rule, limit, d)
+    raised_by(work, col, weighted_of(known, gate))
 }
 
-fn addend_value(
-    work: &[u32],
-    col: usize,
-    settings: Settings,
-    ys: [u32; 8],
-    c: usize,
-    i: usize,
-    k: usize,
-) -> u32
-    requires { ⌜ Ready settings ⌝ }
-    requires { ⌜ ((col + 1) * places ≤ length (now work)) × (c < settings .n) × (i < 5) × (k < 2) ⌝ }
-    ensures { λ r. ⌜ ((κ : ℕ) → r ≡ value q κ (column (now (work .entry)) col) (addend (publicBy settings ys) c i k)) ⌝ }
+fn addend_value(work: &[u32], col: usize, known: Known, gate: Gate) -> u32
+    requires { ⌜ Ready (known .settings) ⌝ }
+    requires { ⌜ ((col + 1) * places ≤ length (now work)) × (gate .c < known .settings .n) × (gate .i < 5) × (gate .k < 2) ⌝ }
+    ensures { λ r. ⌜ ((κ : ℕ) → r ≡ value q κ (column (now (work .entry)) col) (addend (publicIn known) (gate .c) (gate .i) (gate .k))) ⌝ }
 {
-    let a = vector_sum(work, col, settings, ys, c, i, k);
-    if settings.kind == 0 {
-        if k == 1 {
-            return add_mod(register(work, col, SECOND + c), a);
+    let a = vector_sum(work, col, known, gate);
+    if known.settings.kind == 0 {
+        if gate.k == 1 {
+            return add_mod(register(work, col, SECOND + gate.c), a);
         }
         return a;
     }
     a
 }
 
-fn u_value(
-    work: &[u32],
-    col: usize,
-    settings: Settings,
-    ys: [u32; 8],
-    c: usize,
-    i: usize,
-    k: usize,
-) -> u32
-    requires { ⌜ Ready settings ⌝ }
-    requires { ⌜ ((col + 1) * places ≤ length (now work)) × (c < settings .n) × (i < 5) × (k < 2) ⌝ }
-    ensures { λ r. ⌜ ((κ : ℕ) → r ≡ value q κ (column (now (work .entry)) col) (factorU (publicBy settings ys) c i k)) ⌝ }
+fn u_value(work: &[u32], col: usize, known: Known, gate: Gate) -> u32
+    requires { ⌜ Ready (known .settings) ⌝ }
+    requires { ⌜ ((col + 1) * places ≤ length (now work)) × (gate .c < known .settings .n) × (gate .i < 5) × (gate .k < 2) ⌝ }
+    ensures { λ r. ⌜ ((κ : ℕ) → r ≡ value q κ (column (now (work .entry)) col) (factorU (publicIn known) (gate .c) (gate .i) (gate .k))) ⌝ }
 {
+    let settings = known.settings;
     if settings.kind == 0 {
-        return register(work, col, FIRST + c);
+        return register(work, col, FIRST + gate.c);
     }
-    let t = digit_of(settings, ys[c], i, k) as usize;
-    let place = vector_at(settings.set, settings.kind, c, i);
+    let t = digit_of(known, gate) as usize;
+    let place = vector_at(settings.set, settings.kind, gate.c, gate.i);
     register(work, col, place + t)
 }
 
-fn v_value(
-    work: &[u32],
-    col: usize,
-    settings: Settings,
-    ys: [u32; 8],
-    c: usize,
-    i: usize,
-    k: usize,
-) -> u32
-    requires { ⌜ Ready settings ⌝ }
-    requires { ⌜ ((col + 1) * places ≤ length (now work)) × (c < settings .n) × (i < 5) × (k < 2) ⌝ }
-    ensures { λ r. ⌜ ((κ : ℕ) → r ≡ value q κ (column (now (work .entry)) col) (factorV (publicBy settings ys) c i k)) ⌝ }
+fn v_value(work: &[u32], col: usize, known: Known, gate: Gate) -> u32
+    requires { ⌜ Ready (known .settings) ⌝ }
+    requires { ⌜ ((col + 1) * places ≤ length (now work)) × (gate .c < known .settings .n) × (gate .i < 5) × (gate .k < 2) ⌝ }
+    ensures { λ r. ⌜ ((κ : ℕ) → r ≡ value q κ (column (now (work .entry)) col) (factorV (publicIn known) (gate .c) (gate .i) (gate .k))) ⌝ }
 {
-    if settings.kind == 0 {
-        return vector_raise(work, col, settings, ys, c, i, k);
+    if known.settings.kind == 0 {
+        return vector_raise(work, col, known, gate);
     }
-    register(work, col, FIRST + 8 * k + c)
+    register(work, col, FIRST + 8 * gate.k + gate.c)
 }
 
-// ---- What is opened. `weight` is what a public 1 adds to the column.
+// ---- What is opened
 
 fn shift_of(set: usize, kind: u32, bound: u32) -> u32
     requires { ⌜ (set < 2) × (kind ≢ 0 → 1 ≤ bound) ⌝ }
@@ -251,82 +243,76 @@ fn shift_of(set: usize, kind: u32, bound: u32) -> u32
     bound - 1
 }
 
-// Round 1: y. What was masked before does not matter.
-fn open_input(work: &[u32], col: usize, settings: Settings, c: usize, weight: u32) -> u32
-    requires { ⌜ Ready settings ⌝ }
-    requires { ⌜ ((col + 1) * places ≤ length (now work)) × (c < settings .n) ⌝ }
-    ensures { λ r. ⌜ ((ys : List ℕ) → r ≡ value q weight (column (now (work .entry)) col) (openInput (publicBy settings ys) c)) ⌝ }
+// Round 1: y.
+fn open_input(work: &[u32], col: Column, known: Known, c: usize) -> u32
+    requires { ⌜ Ready (known .settings) ⌝ }
+    requires { ⌜ ((col .index + 1) * places ≤ length (now work)) × (c < known .settings .n) ⌝ }
+    ensures { λ r. ⌜ r ≡ value q (col .weight) (column (now (work .entry)) (col .index)) (openInput (publicIn known) c) ⌝ }
 {
+    let settings = known.settings;
     let shift = shift_of(settings.set, settings.kind, settings.bound);
     let place = mask_at(settings.set, settings.kind, c);
-    let a = add_mod(register(work, col, INPUT + c), mul_mod(weight, shift));
-    sub_mod(a, register(work, col, place))
+    let a = add_mod(
+        register(work, col.index, INPUT + c),
+        mul_mod(col.weight, shift),
+    );
+    sub_mod(a, register(work, col.index, place))
 }
 
-// The triple of gate k of digit i.
-fn triple_of(settings: Settings, c: usize, i: usize, k: usize) -> usize
-    requires { ⌜ Ready settings ⌝ }
-    requires { ⌜ (c < settings .n) × (1 ≤ i) × (i < 5) × (k < 2) ⌝ }
-    ensures { λ r. ⌜ ((ys : List ℕ) → r ≡ tripleOf (publicBy settings ys) c i k) × (r ≤ 1320) ⌝ }
+// The place of a gate's triple.
+fn triple_of(known: Known, gate: Gate) -> usize
+    requires { ⌜ Ready (known .settings) ⌝ }
+    requires { ⌜ (gate .c < known .settings .n) × (1 ≤ gate .i) × (gate .i < 5) × (gate .k < 2) ⌝ }
+    ensures { λ r. ⌜ (r ≡ tripleOf (publicIn known) (gate .c) (gate .i) (gate .k)) × (r ≤ 1320) ⌝ }
 {
-    triple_at(settings.set, settings.kind, c, 2 * (i - 1) + k)
+    let settings = known.settings;
+    triple_at(
+        settings.set,
+        settings.kind,
+        gate.c,
+        2 * (gate.i - 1) + gate.k,
+    )
 }
 
 // Rounds 2 to 5: u − a (part 0), v − b (part 1).
-fn open_factor(
-    work: &[u32],
-    col: usize,
-    settings: Settings,
-    ys: [u32; 8],
-    c: usize,
-    i: usize,
-    k: usize,
-    part: usize,
-) -> u32
-    requires { ⌜ Ready settings ⌝ }
-    requires { ⌜ ((col + 1) * places ≤ length (now work)) × (c < settings .n) × (1 ≤ i) × (i < 5) × (k < 2) × (part < 2) ⌝ }
-    ensures { λ r. ⌜ ((κ : ℕ) → r ≡ value q κ (column (now (work .entry)) col) (openFactor (publicBy settings ys) c i k part)) ⌝ }
+fn open_factor(work: &[u32], col: usize, known: Known, gate: Gate, part: usize) -> u32
+    requires { ⌜ Ready (known .settings) ⌝ }
+    requires { ⌜ ((col + 1) * places ≤ length (now work)) × (gate .c < known .settings .n) × (1 ≤ gate .i) × (gate .i < 5) × (gate .k < 2) × (part < 2) ⌝ }
+    ensures { λ r. ⌜ ((κ : ℕ) → r ≡ value q κ (column (now (work .entry)) col) (openFactor (publicIn known) (gate .c) (gate .i) (gate .k) part)) ⌝ }
 {
-    let place = triple_of(settings, c, i, k);
+    let place = triple_of(known, gate);
     if part == 0 {
-        let u = u_value(work, col, settings, ys, c, i, k);
+        let u = u_value(work, col, known, gate);
         return sub_mod(u, register(work, col, place + part));
     }
-    let v = v_value(work, col, settings, ys, c, i, k);
+    let v = v_value(work, col, known, gate);
     sub_mod(v, register(work, col, place + part))
 }
 
 // BOUND: is the coefficient with the masked number y inside?
-fn inside_value(work: &[u32], col: usize, bound: u32, y: u32, c: usize, weight: u32) -> u32
-    requires { ⌜ (bound ≤ 4190208) × (1 ≤ bound) × ((col + 1) * places ≤ length (now work)) × (c < 8) ⌝ }
-    ensures { λ r. ⌜ r ≡ value q weight (column (now (work .entry)) col) (insideForm q bound y c) ⌝ }
+fn inside_value(work: &[u32], col: Column, bound: u32, y: u32, c: usize) -> u32
+    requires { ⌜ (bound ≤ 4190208) × (1 ≤ bound) × ((col .index + 1) * places ≤ length (now work)) × (c < 8) ⌝ }
+    ensures { λ r. ⌜ r ≡ value q (col .weight) (column (now (work .entry)) (col .index)) (insideForm q bound y c) ⌝ }
 {
     let hi = threshold_of(bound, 0, y);
     let lo = threshold_of(bound, 1, y);
     let d = sub_mod(
-        register(work, col, FIRST + c),
-        register(work, col, SECOND + c),
+        register(work, col.index, FIRST + c),
+        register(work, col.index, SECOND + c),
     );
-    add_mod(d, mul_mod(weight, less(hi, lo)))
+    add_mod(d, mul_mod(col.weight, less(hi, lo)))
 }
 
 // BOUND: the sum of the insides of the first m coefficients.
-fn insides_value(
-    work: &[u32],
-    col: usize,
-    settings: Settings,
-    ys: [u32; 8],
-    m: usize,
-    weight: u32,
-) -> u32
-    requires { ⌜ Ready settings ⌝ }
-    requires { ⌜ ((col + 1) * places ≤ length (now work)) × (m ≤ settings .n) × (1 ≤ settings .bound) ⌝ }
-    ensures { λ r. ⌜ r ≡ value q weight (column (now (work .entry)) col) (insides (publicBy settings ys) m) ⌝ }
+fn insides_value(work: &[u32], col: Column, known: Known, m: usize) -> u32
+    requires { ⌜ Ready (known .settings) ⌝ }
+    requires { ⌜ ((col .index + 1) * places ≤ length (now work)) × (m ≤ known .settings .n) × (1 ≤ known .settings .bound) ⌝ }
+    ensures { λ r. ⌜ r ≡ value q (col .weight) (column (now (work .entry)) (col .index)) (insides (publicIn known) m) ⌝ }
 {
-    let mut total = mul_mod(weight, 0);
+    let mut total = mul_mod(col.weight, 0);
     let mut c = 0;
     while c < m {
-        let one = inside_value(work, col, settings.bound, ys[c], c, weight);
+        let one = inside_value(work, col, known.settings.bound, known.masked[c], c);
         total = add_mod(total, one);
         c += 1;
     }
@@ -334,106 +320,81 @@ fn insides_value(
 }
 
 // The number that group g checks for zero.
-fn checked_value(
-    work: &[u32],
-    col: usize,
-    settings: Settings,
-    ys: [u32; 8],
-    g: usize,
-    weight: u32,
-) -> u32
-    requires { ⌜ Ready settings ⌝ }
-    requires { ⌜ ((col + 1) * places ≤ length (now work)) × (g < settings .n) ⌝ }
-    ensures { λ r. ⌜ r ≡ value q weight (column (now (work .entry)) col) (checked (publicBy settings ys) g) ⌝ }
+fn checked_value(work: &[u32], col: Column, known: Known, g: usize) -> u32
+    requires { ⌜ Ready (known .settings) ⌝ }
+    requires { ⌜ ((col .index + 1) * places ≤ length (now work)) × (g < known .settings .n) ⌝ }
+    ensures { λ r. ⌜ r ≡ value q (col .weight) (column (now (work .entry)) (col .index)) (checked (publicIn known) g) ⌝ }
 {
-    let most = mul_mod(weight, group_k(settings.kind, settings.n) as u32);
+    let settings = known.settings;
+    let most = mul_mod(col.weight, group_k(settings.kind, settings.n) as u32);
     if settings.kind == 0 {
-        return sub_mod(most, register(work, col, SECOND + g));
+        return sub_mod(most, register(work, col.index, SECOND + g));
     }
-    let inside = insides_value(work, col, settings, ys, settings.n, weight);
+    let inside = insides_value(work, col, known, settings.n);
     sub_mod(most, inside)
 }
 
 // Round 6: ρ + g × n.
-fn open_check(
-    work: &[u32],
-    col: usize,
-    settings: Settings,
-    ys: [u32; 8],
-    g: usize,
-    weight: u32,
-) -> u32
-    requires { ⌜ Ready settings ⌝ }
-    requires { ⌜ ((col + 1) * places ≤ length (now work)) × (g < settings .n) ⌝ }
-    ensures { λ r. ⌜ r ≡ value q weight (column (now (work .entry)) col) (openCheck (publicBy settings ys) g) ⌝ }
+fn open_check(work: &[u32], col: Column, known: Known, g: usize) -> u32
+    requires { ⌜ Ready (known .settings) ⌝ }
+    requires { ⌜ ((col .index + 1) * places ≤ length (now work)) × (g < known .settings .n) ⌝ }
+    ensures { λ r. ⌜ r ≡ value q (col .weight) (column (now (work .entry)) (col .index)) (openCheck (publicIn known) g) ⌝ }
 {
-    let n = checked_value(work, col, settings, ys, g, weight);
+    let settings = known.settings;
+    let n = checked_value(work, col, known, g);
     let place = group_at(settings.set, settings.kind, settings.n, g);
     let gap = group_gap(settings.kind, settings.n);
-    add_mod(register(work, col, place), mul_mod(gap, n))
+    add_mod(register(work, col.index, place), mul_mod(gap, n))
 }
 
-// Opening o of a round.
-pub fn opening_value(
-    work: &[u32],
-    col: usize,
-    settings: Settings,
-    ys: [u32; 8],
-    round: u32,
-    o: usize,
-    weight: u32,
-) -> u32
-    requires { ⌜ Ready settings ⌝ }
-    requires { ⌜ ((col + 1) * places ≤ length (now work)) × (1 ≤ round) × (o < openings (settings .kind) (settings .n) round) ⌝ }
-    ensures { λ r. ⌜ r ≡ openingOn (publicBy settings ys) round weight (column (now (work .entry)) col) o ⌝ }
+// Opening o of the round.
+pub fn opening_value(work: &[u32], col: Column, known: Known, o: usize) -> u32
+    requires { ⌜ Ready (known .settings) ⌝ }
+    requires { ⌜ ((col .index + 1) * places ≤ length (now work)) × (1 ≤ known .round) × (o < openings (known .settings .kind) (known .settings .n) (known .round)) ⌝ }
+    ensures { λ r. ⌜ r ≡ openingOn (publicIn known) (known .round) (col .weight) (column (now (work .entry)) (col .index)) o ⌝ }
 {
+    let round = known.round;
     if round == 1 {
-        return open_input(work, col, settings, o, weight);
+        return open_input(work, col, known, o);
     }
     if round <= 5 {
-        let i = (round - 1) as usize;
-        return open_factor(work, col, settings, ys, o / 4, i, o / 2 % 2, o % 2);
+        let gate = Gate {
+            c: o / 4,
+            i: (round - 1) as usize,
+            k: o / 2 % 2,
+        };
+        return open_factor(work, col.index, known, gate, o % 2);
     }
     if round == 6 {
-        return open_check(work, col, settings, ys, o, weight);
+        return open_check(work, col, known, o);
     }
-    register(work, col, FIRST + o)
+    register(work, col.index, FIRST + o)
 }
 
 // ---- What the opened numbers make of the running registers
 
-// addend + e × v + f × u + third − e × f.
-fn combine(addend: u32, v: u32, u: u32, third: u32, e: u32, f: u32, weight: u32) -> u32
-    ensures { λ r. ⌜ r ≡ sub q (add q (add q (add q addend (mul q e v)) (mul q f u)) third) (mul q weight (mul q e f)) ⌝ }
+// addend + e × v + f × u + third.
+fn combine(addend: u32, v: u32, u: u32, third: u32, e: u32, f: u32) -> u32
+    ensures { λ r. ⌜ r ≡ add q (add q (add q addend (mul q e v)) (mul q f u)) third ⌝ }
 {
     let with_v = add_mod(addend, mul_mod(e, v));
     let with_u = add_mod(with_v, mul_mod(f, u));
-    let with_third = add_mod(with_u, third);
-    sub_mod(with_third, mul_mod(weight, mul_mod(e, f)))
+    add_mod(with_u, third)
 }
 
-fn gate_value(
-    work: &[u32],
-    col: usize,
-    settings: Settings,
-    ys: [u32; 8],
-    c: usize,
-    i: usize,
-    k: usize,
-    e: u32,
-    f: u32,
-    weight: u32,
-) -> u32
-    requires { ⌜ Ready settings ⌝ }
-    requires { ⌜ ((col + 1) * places ≤ length (now work)) × (c < settings .n) × (1 ≤ i) × (i < 5) × (k < 2) ⌝ }
-    ensures { λ r. ⌜ r ≡ value q weight (column (now (work .entry)) col) (gateResult (publicBy settings ys) c i k e f) ⌝ }
+// addend + e × v + f × u + third − e × f.
+fn gate_value(work: &[u32], col: Column, known: Known, gate: Gate, e: u32, f: u32) -> u32
+    requires { ⌜ Ready (known .settings) ⌝ }
+    requires { ⌜ ((col .index + 1) * places ≤ length (now work)) × (gate .c < known .settings .n) × (1 ≤ gate .i) × (gate .i < 5) × (gate .k < 2) ⌝ }
+    ensures { λ r. ⌜ r ≡ value q (col .weight) (column (now (work .entry)) (col .index)) (gateResult (publicIn known) (gate .c) (gate .i) (gate .k) e f) ⌝ }
 {
-    let place = triple_of(settings, c, i, k);
-    let a = addend_value(work, col, settings, ys, c, i, k);
-    let v = v_value(work, col, settings, ys, c, i, k);
-    let u = u_value(work, col, settings, ys, c, i, k);
-    let third = register(work, col, place + 2);
-    combine(a, v, u, third, e, f, weight)
+    let place = triple_of(known, gate);
+    let a = addend_value(work, col.index, known, gate);
+    let v = v_value(work, col.index, known, gate);
+    let u = u_value(work, col.index, known, gate);
+    let third = register(work, col.index, place + 2);
+    let with_third = combine(a, v, u, third, e, f);
+    sub_mod(with_third, mul_mod(col.weight, mul_mod(e, f)))
 }
 
 // An opened number divided by the gap.
@@ -445,11 +406,12 @@ fn index_of(kind: u32, n: usize, x: u32) -> usize
 }
 
 // The entry of group g's vector for the opened number x: the zero check's result.
-fn check_entry(work: &[u32], col: usize, settings: Settings, g: usize, x: u32) -> u32
-    requires { ⌜ Ready settings ⌝ }
+fn check_entry(work: &[u32], col: usize, known: Known, g: usize, x: u32) -> u32
+    requires { ⌜ Ready (known .settings) ⌝ }
     requires { ⌜ ((col + 1) * places ≤ length (now work)) × (g < 8) × (x < q) ⌝ }
-    ensures { λ r. ⌜ ((κ : ℕ) (ys : List ℕ) → r ≡ value q κ (column (now (work .entry)) col) (checkEntry (publicBy settings ys) g x)) ⌝ }
+    ensures { λ r. ⌜ ((κ : ℕ) → r ≡ value q κ (column (now (work .entry)) col) (checkEntry (publicIn known) g x)) ⌝ }
 {
+    let settings = known.settings;
     let place = group_at(settings.set, settings.kind, settings.n, g);
     let index = index_of(settings.kind, settings.n, x);
     register(work, col, place + 1 + index)
@@ -466,53 +428,55 @@ fn group_of(kind: u32, c: usize) -> usize
 }
 
 // Round 6: HIGH's F − C; BOUND's result, for coefficient 0.
-fn after_check(work: &[u32], col: usize, settings: Settings, c: usize, k: usize, x: u32) -> u32
-    requires { ⌜ Ready settings ⌝ }
-    requires { ⌜ ((col + 1) * places ≤ length (now work)) × (c < settings .n) × (k < 2) × (x < q) ⌝ }
-    ensures { λ r. ⌜ ((κ : ℕ) (ys : List ℕ) → r ≡ value q κ (column (now (work .entry)) col) (afterCheck (publicBy settings ys) c k x)) ⌝ }
+fn after_check(work: &[u32], col: usize, known: Known, c: usize, k: usize, x: u32) -> u32
+    requires { ⌜ Ready (known .settings) ⌝ }
+    requires { ⌜ ((col + 1) * places ≤ length (now work)) × (c < known .settings .n) × (k < 2) × (x < q) ⌝ }
+    ensures { λ r. ⌜ ((κ : ℕ) → r ≡ value q κ (column (now (work .entry)) col) (afterCheck (publicIn known) c k x)) ⌝ }
 {
     if k == 0 {
-        if settings.kind == 0 {
-            let wrap = check_entry(work, col, settings, c, x);
+        if known.settings.kind == 0 {
+            let wrap = check_entry(work, col, known, c, x);
             return sub_mod(register(work, col, FIRST + c), wrap);
         }
         if c == 0 {
-            return check_entry(work, col, settings, 0, x);
+            return check_entry(work, col, known, 0, x);
         }
         return register(work, col, FIRST + c);
     }
     register(work, col, FIRST + 8 * k + c)
 }
 
-// Running register k of coefficient c after a round.
+// Running register k of coefficient c after the round.
 pub fn running_value(
     work: &[u32],
-    col: usize,
-    settings: Settings,
-    ys: [u32; 8],
-    round: u32,
+    col: Column,
+    known: Known,
     opened: &[u32],
     k: usize,
     c: usize,
-    weight: u32,
 ) -> u32
-    requires { ⌜ Ready settings ⌝ }
-    requires { ⌜ ((col + 1) * places ≤ length (now work)) × (1 ≤ round) × (k < 2) × (c < settings .n) ⌝ }
-    requires { ⌜ (openings (settings .kind) (settings .n) round ≤ length (now opened)) × ((o : ℕ) → getD (now opened) o 0 < q) ⌝ }
-    ensures { λ r. ⌜ r ≡ runningOn (publicBy settings ys) round (λ (o : ℕ). getD (now (opened .entry)) o 0) weight (column (now (work .entry)) col) k c ⌝ }
+    requires { ⌜ Ready (known .settings) ⌝ }
+    requires { ⌜ ((col .index + 1) * places ≤ length (now work)) × (1 ≤ known .round) × (k < 2) × (c < known .settings .n) ⌝ }
+    requires { ⌜ (openings (known .settings .kind) (known .settings .n) (known .round) ≤ length (now opened)) × ((o : ℕ) → getD (now opened) o 0 < q) ⌝ }
+    ensures { λ r. ⌜ r ≡ runningOn (publicIn known) (known .round) (λ (o : ℕ). getD (now (opened .entry)) o 0) (col .weight) (column (now (work .entry)) (col .index)) k c ⌝ }
 {
+    let round = known.round;
     if round == 1 {
-        return vector_sum(work, col, settings, ys, c, 0, k);
+        return vector_sum(work, col.index, known, Gate { c: c, i: 0, k: k });
     }
     if round <= 5 {
-        let i = (round - 1) as usize;
+        let gate = Gate {
+            c: c,
+            i: (round - 1) as usize,
+            k: k,
+        };
         let e = opened[4 * c + 2 * k];
         let f = opened[4 * c + 2 * k + 1];
-        return gate_value(work, col, settings, ys, c, i, k, e, f, weight);
+        return gate_value(work, col, known, gate, e, f);
     }
     if round == 6 {
-        let x = opened[group_of(settings.kind, c)];
-        return after_check(work, col, settings, c, k, x);
+        let x = opened[group_of(known.settings.kind, c)];
+        return after_check(work, col.index, known, c, k, x);
     }
-    register(work, col, FIRST + 8 * k + c)
+    register(work, col.index, FIRST + 8 * k + c)
 }

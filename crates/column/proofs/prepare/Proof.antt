@@ -1,6 +1,6 @@
 -- `column::prepare` meets its contract.
 use Rattle.column.proofs.Written.{fill-count}
-use Rattle.steps.specs.Calls.{publicBy}
+use Rattle.steps.specs.Calls.{publicIn}
 use Rattle.slice.specs.Layout.{column}
 use Rattle.steps.specs.Work.{openingOn}
 use Rattle.lists.specs.Lists.{fill}
@@ -14,10 +14,10 @@ use Rattle.column.proofs.prepare.Statement.{statement}
 use Rattle.column.proofs.prepare.Tie as tie
 
 abbrev Inv-loop : tie.InvT-loop
-Inv-loop out₀ work col settings ys round weight count o₀ out o = (o ≤ count) × (out ≡ fill out₀ 0 o (openingOn (publicBy settings ys) round weight (column work col))) × (length out ≡ length out₀)
+Inv-loop out₀ work col known count o₀ out o = (o ≤ count) × (out ≡ fill out₀ 0 o (openingOn (publicIn known) (known .round) (col .weight) (column work (col .index)))) × (length out ≡ length out₀)
 
 abbrev μ-loop : tie.MeasureT-loop
-μ-loop out₀ work col settings ys round weight count o₀ out o = count - o
+μ-loop out₀ work col known count o₀ out o = count - o
 
 openings-of-requires : tie.Need-openings-of-requires Inv-loop μ-loop
 openings-of-requires c κs = c .before .before .pre .0

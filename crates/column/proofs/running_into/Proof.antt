@@ -1,6 +1,6 @@
 -- `column::running_into` meets its contract.
 use Rattle.column.proofs.Written.{fill-count}
-use Rattle.steps.specs.Calls.{publicBy}
+use Rattle.steps.specs.Calls.{publicIn}
 use Rattle.slice.specs.Layout.{column}
 use Rattle.steps.specs.Work.{runningOn}
 use Rattle.lists.specs.Lists.{fill}
@@ -14,10 +14,10 @@ use Rattle.column.proofs.running_into.Statement.{statement}
 use Rattle.column.proofs.running_into.Tie as tie
 
 abbrev Inv-loop : tie.InvT-loop
-Inv-loop out₀ work col settings ys round opened k weight n c₀ out c = (c ≤ n) × (out ≡ fill out₀ 0 c (runningOn (publicBy settings ys) round (λ (o : ℕ). getD opened o 0) weight (column work col) k)) × (length out ≡ length out₀)
+Inv-loop out₀ work col known opened k n c₀ out c = (c ≤ n) × (out ≡ fill out₀ 0 c (runningOn (publicIn known) (known .round) (λ (o : ℕ). getD opened o 0) (col .weight) (column work (col .index)) k)) × (length out ≡ length out₀)
 
 abbrev μ-loop : tie.MeasureT-loop
-μ-loop out₀ work col settings ys round opened k weight n c₀ out c = n - c
+μ-loop out₀ work col known opened k n c₀ out c = n - c
 
 loop-holds : tie.Need-loop-holds Inv-loop μ-loop
 loop-holds c = (omega arith, sym (fill-none _ _ _), refl)
@@ -29,7 +29,7 @@ loop-again : tie.Need-loop-again Inv-loop μ-loop
 loop-again c = (omega arith, rw (front-more, ← c .before .before .loop .inv .1, ← c .running-value .ensures), simp length-set (omega arith))
 
 returns : tie.Need-returns Inv-loop μ-loop
-returns c = let e : c .before .loop .c ≡ (c .before .before .before .before .before .args .settings .n) = omega arith in fill-count _ _ _ _ _ _ (c .before .loop .inv .1) e
+returns c = let e : c .before .loop .c ≡ (c .before .before .before .before .before .args .known .settings .n) = omega arith in fill-count _ _ _ _ _ _ (c .before .loop .inv .1) e
 
 pub running-into-spec : {M : Type 1} → statement M
 running-into-spec =

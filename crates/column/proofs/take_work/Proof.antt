@@ -1,7 +1,7 @@
 -- `column::take_work` meets its contract.
 use lib.ListN.{getD}
 use Prim.Native.Nat.{ℕ}
-use Rattle.rounding.specs.Sets.{scaleOf}
+use Rattle.settings.specs.Sets.{scaleOf}
 use native.Mathlib.Omega.{arith}
 use Rattle.steps.proofs.Bounds.{open-first}
 use Rattle.slice.specs.Layout.{column, maskedIn}

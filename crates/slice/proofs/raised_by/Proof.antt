@@ -1,6 +1,6 @@
 -- `slice::raised_by` meets its contract: each rule's law.
 use Prim.Native.Nat.{ℕ, _+_, _%_}
-use mathlib.Core.Path.{_≡_, refl, sym, ap, ap₂, _∙_}
+use mathlib.Core.Path.{sym, ap, ap₂, _∙_}
 use native.Mathlib.Omega.{arith}
 use borrow.Author.Needs.{needs}
 use Rattle.field.specs.Field.{q, sub, mul}
@@ -14,7 +14,7 @@ returns : tie.Need-returns
 returns c κ =
     let a = c .before .before .before .before .before .args in
     rw (c .before .before .enum-told .given .1)
-    (c .entry-at .ensures ∙ carry-raised (a .n) (a .b) (a .d) (λ (j : ℕ). column (a .work .now) (a .col) (a .place + j)) _ (c .before .back-from .ensures))
+    (c .entry-at .ensures ∙ carry-raised (a .terms .n) (a .terms .limit) (a .terms .digit) (λ (j : ℕ). column (a .work .now) (a .col) (a .terms .place + j)) _ (c .before .back-from .ensures))
 
 returns-2 : tie.Need-returns-2
 returns-2 c κ =
@@ -29,8 +29,8 @@ returns-2 c κ =
     ∙ ap₂ (sub q) (c .before .before .before .register .ensures) (c .before .register2 .ensures)
     ∙ reduced-difference _ _
     ∙ ap₂ (λ (x y : ℕ). sub q (x % q) (y % q))
-    (sym (zero-sum (a .b) (a .d + 1) (above .result) (z .1) (above .ensures .0) (λ (j : ℕ). column (a .work .now) (a .col) (a .place + j)) (above .ensures .1)))
-    (sym (zero-sum (a .b) (a .d) (here .result) (omega (arith, z .1)) (here .ensures .0) (λ (j : ℕ). column (a .work .now) (a .col) (a .place + j)) (here .ensures .1))))
+    (sym (zero-sum (a .terms .limit) (a .terms .digit + 1) (above .result) (z .1) (above .ensures .0) (λ (j : ℕ). column (a .work .now) (a .col) (a .terms .place + j)) (above .ensures .1)))
+    (sym (zero-sum (a .terms .limit) (a .terms .digit) (here .result) (omega (arith, z .1)) (here .ensures .0) (λ (j : ℕ). column (a .work .now) (a .col) (a .terms .place + j)) (here .ensures .1))))
 
 returns-3 : tie.Need-returns-3
 unfolding weigh
@@ -38,20 +38,20 @@ returns-3 c κ =
     let a = c .before .before .before .before .before .before .before .before .args in
     rw (c .before .before .before .before .before .enum-told3 .given .1)
     (c .sub-mod2 .ensures
-    ∙ ap₂ (sub q) (c .before .before .part-sum .ensures) (c .before .mul-mod .ensures ∙ ap (mul q (a .b)) (c .before .before .before .entry-at2 .ensures))
-    ∙ top-raised (a .n) (a .b) (a .d) (λ (j : ℕ). column (a .work .now) (a .col) (a .place + j)) _ (c .before .before .before .before .back-from2 .ensures))
+    ∙ ap₂ (sub q) (c .before .before .part-sum .ensures) (c .before .mul-mod .ensures ∙ ap (mul q (a .terms .limit)) (c .before .before .before .entry-at2 .ensures))
+    ∙ top-raised (a .terms .n) (a .terms .limit) (a .terms .digit) (λ (j : ℕ). column (a .work .now) (a .col) (a .terms .place + j)) _ (c .before .before .before .before .back-from2 .ensures))
 
 returns-4 : tie.Need-returns-4
 returns-4 c κ =
     let a = c .before .before .before .before .before .args in
     rw (c .before .before .enum-told4 .given .1)
-    (c .entry-at3 .ensures ∙ over-raised (a .n) (a .b) (a .d) (λ (j : ℕ). column (a .work .now) (a .col) (a .place + j)) _ (c .before .back-from3 .ensures))
+    (c .entry-at3 .ensures ∙ over-raised (a .terms .n) (a .terms .limit) (a .terms .digit) (λ (j : ℕ). column (a .work .now) (a .col) (a .terms .place + j)) _ (c .before .back-from3 .ensures))
 
 returns-5 : tie.Need-returns-5
 returns-5 c κ =
     let a = c .before .before .before .before .args in
     rw (c .before .enum-told5 .given .1)
-    (c .entry-at4 .ensures ∙ below-raised (a .n) (a .b) (a .d) (λ (j : ℕ). column (a .work .now) (a .col) (a .place + j)))
+    (c .entry-at4 .ensures ∙ below-raised (a .terms .n) (a .terms .limit) (a .terms .digit) (λ (j : ℕ). column (a .work .now) (a .col) (a .terms .place + j)))
 
 pub raised-by-spec : {M : Type 1} → statement M
 raised-by-spec =
@@ -80,6 +80,7 @@ raised-by-spec =
     (λ c. search needs)
     (λ c κs. search needs)
     (λ c κs. search needs)
+    (λ c. search needs)
     (λ c. search needs)
     (λ c κs. search needs)
     returns

@@ -1,10 +1,9 @@
 -- `slice::weighted_sum` meets its contract: each rule's law.
-use Prim.Native.Nat.{ℕ, _+_, _*_, _%_}
-use mathlib.Core.Path.{_≡_, sym, ap, _∙_}
+use Prim.Native.Nat.{ℕ, _+_, _%_}
+use mathlib.Core.Path.{sym, ap, _∙_}
 use native.Mathlib.Omega.{arith}
 use borrow.Author.Needs.{needs}
 use Rattle.field.specs.Field.{q}
-use Rattle.field.specs.Sums.{sumTo}
 use Rattle.slice.specs.Layout.{column}
 use Rattle.slice.specs.Weights.{weigh}
 use Rattle.slice.proofs.Ranges.{carry-sum, zero-sum, over-sum, below-sum}
@@ -21,7 +20,7 @@ returns : tie.Need-returns
 returns c κ =
     let a = c .before .before .before .before .before .args in
     rw (c .before .before .enum-told .given .1)
-    (c .part-sum .ensures ∙ rw (c .before .less-by .ensures) (ap (λ (x : ℕ). x % q) (sym (carry-sum (a .n) (a .b) (a .d) (λ (j : ℕ). column (a .work .now) (a .col) (a .place + j))))))
+    (c .part-sum .ensures ∙ rw (c .before .less-by .ensures) (ap (λ (x : ℕ). x % q) (sym (carry-sum (a .terms .n) (a .terms .limit) (a .terms .digit) (λ (j : ℕ). column (a .work .now) (a .col) (a .terms .place + j))))))
 
 returns-2 : tie.Need-returns-2
 returns-2 c κ =
@@ -30,7 +29,7 @@ returns-2 c κ =
     let z = c .before .before .before .before .before .pre .1 told in
     let entry = c .before .zero-entry in
     rw (told, z .0)
-    (ap (λ (x : ℕ). x % q) (c .register .ensures ∙ sym (zero-sum (a .b) (a .d) (entry .result) (z .1) (entry .ensures .0) (λ (j : ℕ). column (a .work .now) (a .col) (a .place + j)) (entry .ensures .1))))
+    (ap (λ (x : ℕ). x % q) (c .register .ensures ∙ sym (zero-sum (a .terms .limit) (a .terms .digit) (entry .result) (z .1) (entry .ensures .0) (λ (j : ℕ). column (a .work .now) (a .col) (a .terms .place + j)) (entry .ensures .1))))
 
 returns-3 : tie.Need-returns-3
 unfolding weigh
@@ -40,13 +39,13 @@ returns-4 : tie.Need-returns-4
 returns-4 c κ =
     let a = c .before .before .before .before .before .args in
     rw (c .before .before .enum-told4 .given .1)
-    (c .part-sum2 .ensures ∙ rw (c .before .less-by2 .ensures) (ap (λ (x : ℕ). x % q) (sym (over-sum (a .n) (a .b) (a .d) (λ (j : ℕ). column (a .work .now) (a .col) (a .place + j))))))
+    (c .part-sum2 .ensures ∙ rw (c .before .less-by2 .ensures) (ap (λ (x : ℕ). x % q) (sym (over-sum (a .terms .n) (a .terms .limit) (a .terms .digit) (λ (j : ℕ). column (a .work .now) (a .col) (a .terms .place + j))))))
 
 returns-5 : tie.Need-returns-5
 returns-5 c κ =
     let a = c .before .before .before .before .before .args in
     rw (c .before .before .enum-told5 .given .1)
-    (c .part-sum3 .ensures ∙ rw (c .before .least .ensures .0) (ap (λ (x : ℕ). x % q) (sym (below-sum (a .n) (a .b) (a .d) (λ (j : ℕ). column (a .work .now) (a .col) (a .place + j))))))
+    (c .part-sum3 .ensures ∙ rw (c .before .least .ensures .0) (ap (λ (x : ℕ). x % q) (sym (below-sum (a .terms .n) (a .terms .limit) (a .terms .digit) (λ (j : ℕ). column (a .work .now) (a .col) (a .terms .place + j))))))
 
 pub weighted-sum-spec : {M : Type 1} → statement M
 weighted-sum-spec =

@@ -7,11 +7,11 @@ use Rattle.steps.proofs.addend_value.Tie as tie
 
 returns : tie.Need-returns
 unfolding addend
-returns c = λ κ. rw (eq-eqb _ _ (c .before .before .before .if1 .taken), eq-eqb _ _ (c .before .before .if2 .taken), ← c .before .before .before .before .before .vector-sum .ensures κ, ← c .before .register .ensures) (c .add-mod .ensures)
+returns c = λ κ. rw (eq-eqb _ _ (c .before .before .before .before .before .if1 .taken), eq-eqb _ _ (c .before .before .before .if2 .taken), ← c .before .before .before .before .before .before .before .vector-sum .ensures κ, ← c .before .register .ensures) (c .add-mod .ensures)
 
 returns-2 : tie.Need-returns-2
 unfolding addend
-returns-2 c = λ κ. rw (eq-eqb _ _ (c .before .if1 .taken), ne-eqb _ _ (c .if2 .left)) (c .before .before .before .vector-sum .ensures κ)
+returns-2 c = λ κ. rw (eq-eqb _ _ (c .before .before .if1 .taken), ne-eqb _ _ (c .if2 .left)) (c .before .before .before .before .vector-sum .ensures κ)
 
 returns-3 : tie.Need-returns-3
 unfolding addend

@@ -6,7 +6,7 @@ use Rattle.steps.proofs.check_entry.Tie as tie
 
 returns : tie.Need-returns
 unfolding checkEntry
-returns c = λ κ ys. rw (← c .before .before .group-at .ensures .0, ← c .before .index-of .ensures .0) (c .register .ensures)
+returns c = λ κ. rw (← c .before .before .group-at .ensures .0, ← c .before .index-of .ensures .0) (c .register .ensures)
 
 pub check-entry-spec : {M : Type 1} → statement M
 check-entry-spec =

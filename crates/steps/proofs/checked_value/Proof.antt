@@ -12,7 +12,7 @@ returns c = rw (← c .before .before .before .before .before .group-k .ensures 
 
 insides-value-requires : tie.Need-insides-value-requires
 insides-value-requires c κs =
-    let p = c .before .before .before .before .before .pre in
+    let p = c .before .before .before .before .before .before .pre in
     (p .0, (p .1 .0, omega arith, p .0 .bound-some (c .if1 .left)))
 
 returns-2 : tie.Need-returns-2

@@ -1,6 +1,6 @@
 -- `steps::insides_value` meets its contract.
 use native.Mathlib.Numerals.{add-one}
-use Rattle.steps.specs.Calls.{publicBy}
+use Rattle.steps.specs.Calls.{publicIn}
 use Rattle.slice.specs.Layout.{column}
 use Rattle.field.specs.Field.{q, add, mul}
 use Rattle.field.specs.Forms.{value}
@@ -8,15 +8,14 @@ use Rattle.steps.specs.Steps.{insides}
 use Prim.Native.Nat.{_≤_, _-_}
 use mathlib.Core.Path.{_≡_}
 use native.Mathlib.Omega.{arith}
-use lib.ListN.{set}
 use Rattle.steps.proofs.insides_value.Statement.{statement}
 use Rattle.steps.proofs.insides_value.Tie as tie
 
 abbrev Inv-loop : tie.InvT-loop
-Inv-loop work col settings m weight ys total₀ c₀ total c = (c ≤ m) × (total ≡ value q weight (column work col) (insides (publicBy settings ys) c))
+Inv-loop work col m known total₀ c₀ total c = (c ≤ m) × (total ≡ value q (col .weight) (column work (col .index)) (insides (publicIn known) c))
 
 abbrev μ-loop : tie.MeasureT-loop
-μ-loop work col settings m weight ys total₀ c₀ total c = m - c
+μ-loop work col m known total₀ c₀ total c = m - c
 
 loop-holds : tie.Need-loop-holds Inv-loop μ-loop
 unfolding insides
@@ -24,7 +23,7 @@ loop-holds c = (omega arith, c .mul-mod .ensures)
 
 loop-again : tie.Need-loop-again Inv-loop μ-loop
 unfolding insides
-loop-again c = (omega arith, rw (add-one, ← c .before .inside-value .ensures, ← c .before .before .before .loop .inv .1) (c .add-mod .ensures))
+loop-again c = (omega arith, rw (add-one, ← c .before .inside-value .ensures, ← c .before .before .before .before .loop .inv .1) (c .add-mod .ensures))
 
 returns : tie.Need-returns Inv-loop μ-loop
 returns c = let e : c .before .loop .c ≡ c .before .before .before .before .args .m = omega arith in rw (← e) (c .before .loop .inv .1)

@@ -9,12 +9,12 @@ use Rattle.steps.proofs.u_value.Tie as tie
 
 returns : tie.Need-returns
 unfolding factorU
-returns c = λ κ. rw (eq-eqb _ _ (c .before .if1 .taken)) (c .register .ensures)
+returns c = λ κ. rw (eq-eqb _ _ (c .before .before .if1 .taken)) (c .register .ensures)
 
 register-requires-2 : tie.Need-register-requires-2
 register-requires-2 c κs =
-    let a = c .before .before .before .before .before .args in
-    (c .before .before .before .before .before .pre .1 .0, omega (arith, vector-room (a .settings .set) (a .settings .kind) (a .c) (a .i) (omega arith) (omega arith) (omega arith) (omega arith), threshold-digit (a .settings .set) (a .settings .kind) (a .settings .bound) (a .k) _ (a .i) (c .before .digit-of .result) (omega arith) (omega arith) (c .before .before .if1 .left) (c .before .digit-of .ensures .0), c .vector-at .ensures))
+    let a = c .before .before .before .before .before .before .args in
+    (c .before .before .before .before .before .before .pre .1 .0, omega (arith, vector-room (a .known .settings .set) (a .known .settings .kind) (a .gate .c) (a .gate .i) (omega arith) (omega arith) (omega arith) (omega arith), threshold-digit (a .known .settings .set) (a .known .settings .kind) (a .known .settings .bound) (a .gate .k) _ (a .gate .i) (c .before .digit-of .result) (omega arith) (omega arith) (c .before .before .if1 .left) (c .before .digit-of .ensures .0), c .vector-at .ensures))
 
 returns-2 : tie.Need-returns-2
 unfolding factorU
@@ -27,8 +27,6 @@ u-value-spec =
     (λ c. search needs)
     (λ c κs. search needs)
     returns
-    (λ c. search needs)
-    (λ c. search needs)
     (λ c κs. search needs)
     (λ c. search needs)
     (λ c κs. search needs)

@@ -11,7 +11,7 @@ returns c = λ κ. rw (eq-eqb _ _ (c .before .if1 .taken)) (c .vector-raise .ens
 
 returns-2 : tie.Need-returns-2
 unfolding factorV
-returns-2 c = λ κ. rw (ne-eqb _ _ (c .before .if1 .left)) (c .register .ensures)
+returns-2 c = λ κ. rw (ne-eqb _ _ (c .before .before .before .if1 .left)) (c .register .ensures)
 
 pub v-value-spec : {M : Type 1} → statement M
 v-value-spec =
