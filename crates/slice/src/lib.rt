@@ -135,7 +135,7 @@ fn zero_entry(b: u32, d: u32) -> usize
 
 // The entries of the vector, each times its weight by the rule. But for Top's, weights are 0 or 1: the sum goes through the entries
 // of weight 1 alone.
-pub fn weighted_sum(work: &[u32], col: usize, sum: Weighted) -> u32
+pub fn weighted_sum(work: &[u32], col: usize, terms: Weighted) -> u32
     requires { ⌜ ((col + 1) * places ≤ length (now work)) × (terms .place + terms .n ≤ ownAt 0) × (terms .n ≤ 64) × (1 ≤ terms .limit) × (terms .limit ≤ 45) × (terms .digit ≤ 65536) ⌝ }
     requires { ⌜ (terms .rule ≡ Zero → (terms .n ≡ terms .limit) × (terms .digit ≤ terms .limit)) ⌝ }
     ensures { λ r. ⌜ ((κ : ℕ) → r ≡ value q κ (column (now (work .entry)) col) (sum (terms .n) (terms .place) (weigh (terms .rule) (terms .limit) (terms .digit)))) ⌝ }
@@ -177,7 +177,7 @@ fn back_from(b: u32, d: u32, n: usize) -> usize
 
 // What the weighted sum grows by where the digit is one higher: one weight becomes 1, for Zero one becomes 0 too. For Top all grow by
 // 1, but for the one that falls from s - 1 to 0.
-pub fn raised_by(work: &[u32], col: usize, sum: Weighted) -> u32
+pub fn raised_by(work: &[u32], col: usize, terms: Weighted) -> u32
     requires { ⌜ ((col + 1) * places ≤ length (now work)) × (terms .place + terms .n ≤ ownAt 0) × (terms .n ≤ 64) × (1 ≤ terms .limit) × (terms .limit ≤ 45) × (terms .digit < 65536) ⌝ }
     requires { ⌜ (terms .rule ≡ Zero → (terms .n ≡ terms .limit) × (terms .digit + 1 ≤ terms .limit)) ⌝ }
     ensures { λ r. ⌜ ((κ : ℕ) → r ≡ value q κ (column (now (work .entry)) col) (sum (terms .n) (terms .place) (weigh (terms .rule) (terms .limit) (terms .digit + 1)) ⊟ sum (terms .n) (terms .place) (weigh (terms .rule) (terms .limit) (terms .digit)))) ⌝ }

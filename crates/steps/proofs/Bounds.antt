@@ -13,6 +13,8 @@ use Rattle.lists.proofs.Every.{allTo-at}
 use Rattle.field.specs.Field.{q}
 use Rattle.field.specs.Sums.{sumTo}
 use Rattle.field.proofs.Division.{Split, split}
+use Rattle.settings.specs.declared.Shape.{Shape}
+use Rattle.settings.specs.Settings.{Params, paramsOf}
 use Rattle.settings.specs.Sets.{scaleOf, base}
 use Rattle.rounding.specs.Digits.{digit}
 use Rattle.rounding.specs.Rounds.{gap, threshold, unit}
@@ -27,19 +29,19 @@ use Rattle.slice.specs.declared.Rule.the-variants.{Carry, Zero, Top, Over, Belo
 
 -- ---- Places
 
--- a digit's vector ends within the book
+-- a digit's vector ends within the book (whatever N is)
 fits : ℕ → ℕ → ℕ → ℕ → Bool
-fits set kind c i = leb (vectorAt (scaleOf set) kind c i + base (scaleOf set) i) 1320
+fits set kind c i = leb (vectorAt (record { scale = scaleOf set; kind = kind; n = 0 }) c i + base (scaleOf set) i) 1320
 
 -- one test over all sets, kinds, coefficients and digits
-pub vector-room : (set kind c i : ℕ) → set < 2 → kind < 2 → c < 8 → i < 5 → vectorAt (scaleOf set) kind c i + base (scaleOf set) i ≤ 1320
+pub vector-room : (a : Shape) (c i : ℕ) → a .set < 2 → a .kind < 2 → c < 8 → i < 5 → vectorAt (paramsOf a) c i + base (scaleOf (a .set)) i ≤ 1320
 unfolding fits allTo vectorAt stride sumTo
-vector-room set kind c i hs hk hc hi =
+vector-room a c i hs hk hc hi =
     leb-true _ _
-    (allTo-at 5 (fits set kind c) i
-    (allTo-at 8 (λ (d : ℕ). allTo 5 (fits set kind d)) c
-    (allTo-at 2 (λ (k : ℕ). allTo 8 (λ (d : ℕ). allTo 5 (fits set k d))) kind
-    (allTo-at 2 (λ (s : ℕ). allTo 2 (λ (k : ℕ). allTo 8 (λ (d : ℕ). allTo 5 (fits s k d)))) set refl hs) hk) hc) hi)
+    (allTo-at 5 (fits (a .set) (a .kind) c) i
+    (allTo-at 8 (λ (d : ℕ). allTo 5 (fits (a .set) (a .kind) d)) c
+    (allTo-at 2 (λ (k : ℕ). allTo 8 (λ (d : ℕ). allTo 5 (fits (a .set) k d))) (a .kind)
+    (allTo-at 2 (λ (s : ℕ). allTo 2 (λ (k : ℕ). allTo 8 (λ (d : ℕ). allTo 5 (fits s k d)))) (a .set) refl hs) hk) hc) hi)
 
 -- ---- Digits
 
@@ -104,10 +106,10 @@ threshold-digit set kind bound k y i d hs hi h e =
 
 -- ---- The zero check's index
 
-pub group-k-most : (kind n : ℕ) → n ≤ 8 → groupK kind n ≤ 8
-group-k-most kind n h = go (eqb kind 0)
+pub group-k-most : (p : Params) → p .n ≤ 8 → groupK p ≤ 8
+group-k-most p h = go (eqb (p .kind) 0)
   where
-    go : (b : Bool) → cond b 5 n ≤ 8
+    go : (b : Bool) → cond b 5 (p .n) ≤ 8
     go true = omega arith
     go false = h
 
@@ -134,38 +136,28 @@ index-small x k h l =
 
 -- ---- How many openings a round has
 
-module _ (kind n round : ℕ) where
-  pub open-first : round ≡ 1 → openings kind n round ≡ n
+module _ (p : Params) (round : ℕ) where
+  pub open-first : round ≡ 1 → openings p round ≡ p .n
   unfolding openings
   open-first h = rw (eq-eqb round 1 h)
 
-  pub open-middle : round ≢ 1 → round ≤ 5 → openings kind n round ≡ 4 * n
+  pub open-middle : round ≢ 1 → round ≤ 5 → openings p round ≡ 4 * p .n
   unfolding openings
   open-middle h k = rw (ne-eqb round 1 h, le-leb round 5 k)
 
-  pub open-late : round ≢ 1 → 5 < round → 1 ≤ n → openings kind n round ≤ n
+  pub open-late : round ≢ 1 → 5 < round → 1 ≤ p .n → openings p round ≤ p .n
   unfolding openings
-  open-late h k l = rw (ne-eqb round 1 h, lt-leb round 5 k) (go (eqb kind 0))
+  open-late h k l = rw (ne-eqb round 1 h, lt-leb round 5 k) (go (eqb (p .kind) 0))
     where
-      go : (b : Bool) → cond b n 1 ≤ n
+      go : (b : Bool) → cond b (p .n) 1 ≤ p .n
       go true = omega arith
       go false = l
 
   -- a coefficient's zero check is one of the openings
-  pub check-in : (c : ℕ) → round ≢ 1 → 5 < round → c < n → groupOf kind c < openings kind n round
+  pub check-in : (c : ℕ) → round ≢ 1 → 5 < round → c < p .n → groupOf (p .kind) c < openings p round
   unfolding openings groupOf
-  check-in c h k l = rw (ne-eqb round 1 h, lt-leb round 5 k) (go (eqb kind 0))
+  check-in c h k l = rw (ne-eqb round 1 h, lt-leb round 5 k) (go (eqb (p .kind) 0))
     where
-      go : (b : Bool) → cond b c 0 < cond b n 1
+      go : (b : Bool) → cond b c 0 < cond b (p .n) 1
       go true = l
       go false = omega arith
-
-pub openings-most : (kind n round : ℕ) → n ≤ 8 → openings kind n round ≤ 32
-unfolding openings
-openings-most kind n round h = go (eqb round 1) (leb round 5) (eqb kind 0)
-  where
-    go : (a b c : Bool) → cond a n (cond b (4 * n) (cond c n 1)) ≤ 32
-    go true b c = omega arith
-    go false true c = omega arith
-    go false false true = omega arith
-    go false false false = omega arith

@@ -22,6 +22,10 @@ pub record Public : Type 0 where
 abbrev pub publicOf : Terms → (ℕ → ℕ) → Public
 publicOf t masked = record { params = t .params; bound = t .bound; masked = masked }
 
+-- its settings
+abbrev pub termsIn : Public → Terms
+termsIn w = record { params = w .params; bound = w .bound }
+
 -- the number whose digits gate k looks at: y for HIGH; for BOUND the threshold hi (k = 0) or lo
 unfoldable pub lookedAt : ℕ → ℕ → ℕ → ℕ → ℕ → ℕ
 lookedAt m kind bound k y = cond (eqb kind 0) y (threshold m bound k y)
@@ -60,12 +64,12 @@ tripleOf w c i k = tripleAt (w .params) c (2 * (i - 1) + k)
 -- ---- What is opened
 
 -- the public number that round 1 adds: α/2 − 1, or B − 1
-unfoldable pub shiftOf : ℕ → ℕ → ℕ → ℕ
-shiftOf alpha kind bound = cond (eqb kind 0) (alpha / 2 - 1) (bound - 1)
+unfoldable pub shiftOf : Terms → ℕ
+shiftOf t = cond (eqb (t .params .kind) 0) (t .params .scale .alpha / 2 - 1) (t .bound - 1)
 
 -- "Round 1 opens y = (w′ − r), or (v + B − 1 − r) for BOUND"
 unfoldable pub openInput : Public → ℕ → Form
-openInput w c = reg (inputAt c) ⊞ num (shiftOf (w .params .scale .alpha) (w .params .kind) (w .bound)) ⊟ reg (maskAt (w .params) c)
+openInput w c = reg (inputAt c) ⊞ num (shiftOf (termsIn w)) ⊟ reg (maskAt (w .params) c)
 
 -- "Product of u and v: open u − a, then v − b": part 0, part 1
 unfoldable pub openFactor : Public → ℕ → ℕ → ℕ → ℕ → Form

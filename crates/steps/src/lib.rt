@@ -9,9 +9,10 @@ ghost use Rattle.lists.specs.Answers.{bit};
 ghost use Rattle.field.specs.Field.{q, add, mul};
 ghost use Rattle.field.specs.Forms.{value, sum, _⊟_};
 ghost use Rattle.settings.specs.Sets.{scaleOf};
-ghost use Rattle.rounding.specs.Rounds.{threshold, gap};
+ghost use Rattle.settings.specs.Settings.{paramsOf, termsOf};
+ghost use Rattle.rounding.specs.Rounds.{threshold};
 ghost use Rattle.settings.specs.Sizes.{openings, places};
-ghost use Rattle.book.specs.Book.{groupK};
+ghost use Rattle.book.specs.Book.{groupGap};
 ghost use Rattle.slice.specs.Layout.{ownAt, column};
 ghost use Rattle.slice.specs.declared.Rule.the-variants.{Zero};
 ghost use Rattle.slice.specs.Weights.{weigh, ruleOf};
@@ -29,6 +30,8 @@ use field::add_mod;
 use field::mul_mod;
 use field::sub_mod;
 use rounding::Split;
+use settings::Settings;
+use settings::Shape;
 use settings::alpha_of;
 use settings::base_of;
 use settings::parts_of;
@@ -42,16 +45,9 @@ use slice::raised_by;
 use slice::register;
 use slice::weighted_sum;
 
-// What both sides know of a run, but for the opened numbers. Every function below asks that these have passed questions
-// 1 to 3, and that the lent slices have the room it needs: crate side calls them after its questions.
-pub struct Settings {
-    pub set: usize,
-    pub kind: u32,
-    pub n: usize,
-    pub bound: u32,
-}
-
-// What both sides know in a round: the settings, the round's number, and the masked numbers, which round 1 opens.
+// What both sides know in a round: the settings, the round's number, and the masked numbers, which round 1 opens. Every function below
+// asks that the settings have passed questions 1 to 3, and that the lent slices have the room it needs: crate side calls them after its
+// questions.
 pub struct Known {
     pub settings: Settings,
     pub round: u32,
@@ -115,13 +111,14 @@ fn entry(split: Split, i: usize) -> u32
 // The digit of the number that a gate looks at.
 fn digit_of(known: Known, gate: Gate) -> u32
     requires { ⌜ Ready (known .settings) ⌝ }
-    requires { ⌜ (gate .c < known .settings .n) × (gate .i < 5) ⌝ }
+    requires { ⌜ (gate .c < known .settings .shape .n) × (gate .i < 5) ⌝ }
     ensures { λ r. ⌜ (r ≡ digitOf (publicIn known) (gate .c) (gate .i) (gate .k)) × (r < 65536) ⌝ }
 {
     let settings = known.settings;
+    let shape = settings.shape;
     let c = gate.c;
-    let x = looked_at(settings.kind, settings.bound, gate.k, known.masked[c]);
-    let split = split_number(settings.set, x);
+    let x = looked_at(shape.kind, settings.bound, gate.k, known.masked[c]);
+    let split = split_number(shape.set as usize, x);
     entry(split, gate.i)
 }
 
@@ -158,17 +155,17 @@ fn limit_of(set: usize, i: usize) -> u32
 // The terms of A, Z, F, G, or the sum below Ti.
 fn weighted_of(known: Known, gate: Gate) -> Weighted
     requires { ⌜ Ready (known .settings) ⌝ }
-    requires { ⌜ (gate .c < known .settings .n) × (gate .i < 5) ⌝ }
+    requires { ⌜ (gate .c < known .settings .shape .n) × (gate .i < 5) ⌝ }
     ensures { λ r. ⌜ (r .place + r .n ≤ ownAt 0) × (r .n ≤ 64) × (1 ≤ r .limit) × (r .limit ≤ 45) × (r .digit < 65536) ⌝ }
     ensures { λ r. ⌜ (r .rule ≡ Zero → (r .n ≡ r .limit) × (r .digit + 1 ≤ r .limit)) ⌝ }
     ensures { λ r. ⌜ ((up : ℕ) → sum (r .n) (r .place) (weigh (r .rule) (r .limit) (r .digit + up)) ≡ vectorSum (publicIn known) (gate .c) (gate .i) (gate .k) up) ⌝ }
 {
-    let settings = known.settings;
+    let shape = known.settings.shape;
     Weighted {
-        place: vector_at(settings.set, settings.kind, gate.c, gate.i),
-        n: base_of(settings.set, gate.i) as usize,
-        rule: rule_of(settings.kind, gate.i, gate.k),
-        limit: limit_of(settings.set, gate.i),
+        place: vector_at(shape, gate.c, gate.i),
+        n: base_of(shape.set as usize, gate.i) as usize,
+        rule: rule_of(shape.kind, gate.i, gate.k),
+        limit: limit_of(shape.set as usize, gate.i),
         digit: digit_of(known, gate),
     }
 }
@@ -176,7 +173,7 @@ fn weighted_of(known: Known, gate: Gate) -> Weighted
 // A, Z, F, G, or the sum below Ti.
 fn vector_sum(work: &[u32], col: usize, known: Known, gate: Gate) -> u32
     requires { ⌜ Ready (known .settings) ⌝ }
-    requires { ⌜ ((col + 1) * places ≤ length (now work)) × (gate .c < known .settings .n) × (gate .i < 5) ⌝ }
+    requires { ⌜ ((col + 1) * places ≤ length (now work)) × (gate .c < known .settings .shape .n) × (gate .i < 5) ⌝ }
     ensures { λ r. ⌜ ((κ : ℕ) → r ≡ value q κ (column (now (work .entry)) col) (vectorSum (publicIn known) (gate .c) (gate .i) (gate .k) 0)) ⌝ }
 {
     weighted_sum(work, col, weighted_of(known, gate))
@@ -185,7 +182,7 @@ fn vector_sum(work: &[u32], col: usize, known: Known, gate: Gate) -> u32
 // A′ − A, Z′ − Z, F′ − F or G′ − G.
 fn vector_raise(work: &[u32], col: usize, known: Known, gate: Gate) -> u32
     requires { ⌜ Ready (known .settings) ⌝ }
-    requires { ⌜ ((col + 1) * places ≤ length (now work)) × (gate .c < known .settings .n) × (gate .i < 5) ⌝ }
+    requires { ⌜ ((col + 1) * places ≤ length (now work)) × (gate .c < known .settings .shape .n) × (gate .i < 5) ⌝ }
     ensures { λ r. ⌜ ((κ : ℕ) → r ≡ value q κ (column (now (work .entry)) col) (vectorSum (publicIn known) (gate .c) (gate .i) (gate .k) 1 ⊟ vectorSum (publicIn known) (gate .c) (gate .i) (gate .k) 0)) ⌝ }
 {
     raised_by(work, col, weighted_of(known, gate))
@@ -193,11 +190,11 @@ fn vector_raise(work: &[u32], col: usize, known: Known, gate: Gate) -> u32
 
 fn addend_value(work: &[u32], col: usize, known: Known, gate: Gate) -> u32
     requires { ⌜ Ready (known .settings) ⌝ }
-    requires { ⌜ ((col + 1) * places ≤ length (now work)) × (gate .c < known .settings .n) × (gate .i < 5) × (gate .k < 2) ⌝ }
+    requires { ⌜ ((col + 1) * places ≤ length (now work)) × (gate .c < known .settings .shape .n) × (gate .i < 5) × (gate .k < 2) ⌝ }
     ensures { λ r. ⌜ ((κ : ℕ) → r ≡ value q κ (column (now (work .entry)) col) (addend (publicIn known) (gate .c) (gate .i) (gate .k))) ⌝ }
 {
     let a = vector_sum(work, col, known, gate);
-    if known.settings.kind == 0 {
+    if known.settings.shape.kind == 0 {
         if gate.k == 1 {
             return add_mod(register(work, col, SECOND + gate.c), a);
         }
@@ -208,24 +205,24 @@ fn addend_value(work: &[u32], col: usize, known: Known, gate: Gate) -> u32
 
 fn u_value(work: &[u32], col: usize, known: Known, gate: Gate) -> u32
     requires { ⌜ Ready (known .settings) ⌝ }
-    requires { ⌜ ((col + 1) * places ≤ length (now work)) × (gate .c < known .settings .n) × (gate .i < 5) × (gate .k < 2) ⌝ }
+    requires { ⌜ ((col + 1) * places ≤ length (now work)) × (gate .c < known .settings .shape .n) × (gate .i < 5) × (gate .k < 2) ⌝ }
     ensures { λ r. ⌜ ((κ : ℕ) → r ≡ value q κ (column (now (work .entry)) col) (factorU (publicIn known) (gate .c) (gate .i) (gate .k))) ⌝ }
 {
-    let settings = known.settings;
-    if settings.kind == 0 {
+    let shape = known.settings.shape;
+    if shape.kind == 0 {
         return register(work, col, FIRST + gate.c);
     }
     let t = digit_of(known, gate) as usize;
-    let place = vector_at(settings.set, settings.kind, gate.c, gate.i);
+    let place = vector_at(shape, gate.c, gate.i);
     register(work, col, place + t)
 }
 
 fn v_value(work: &[u32], col: usize, known: Known, gate: Gate) -> u32
     requires { ⌜ Ready (known .settings) ⌝ }
-    requires { ⌜ ((col + 1) * places ≤ length (now work)) × (gate .c < known .settings .n) × (gate .i < 5) × (gate .k < 2) ⌝ }
+    requires { ⌜ ((col + 1) * places ≤ length (now work)) × (gate .c < known .settings .shape .n) × (gate .i < 5) × (gate .k < 2) ⌝ }
     ensures { λ r. ⌜ ((κ : ℕ) → r ≡ value q κ (column (now (work .entry)) col) (factorV (publicIn known) (gate .c) (gate .i) (gate .k))) ⌝ }
 {
-    if known.settings.kind == 0 {
+    if known.settings.shape.kind == 0 {
         return vector_raise(work, col, known, gate);
     }
     register(work, col, FIRST + 8 * gate.k + gate.c)
@@ -233,25 +230,27 @@ fn v_value(work: &[u32], col: usize, known: Known, gate: Gate) -> u32
 
 // ---- What is opened
 
-fn shift_of(set: usize, kind: u32, bound: u32) -> u32
-    requires { ⌜ (set < 2) × (kind ≢ 0 → 1 ≤ bound) ⌝ }
-    ensures { λ r. ⌜ r ≡ shiftOf (scaleOf set .alpha) kind bound ⌝ }
+fn shift_of(settings: Settings) -> u32
+    requires { ⌜ Ready settings ⌝ }
+    ensures { λ r. ⌜ r ≡ shiftOf (termsOf settings) ⌝ }
 {
-    if kind == 0 {
-        return alpha_of(set) / 2 - 1;
+    let shape = settings.shape;
+    if shape.kind == 0 {
+        return alpha_of(shape.set as usize) / 2 - 1;
     }
-    bound - 1
+    settings.bound - 1
 }
 
 // Round 1: y.
 fn open_input(work: &[u32], col: Column, known: Known, c: usize) -> u32
     requires { ⌜ Ready (known .settings) ⌝ }
-    requires { ⌜ ((col .index + 1) * places ≤ length (now work)) × (c < known .settings .n) ⌝ }
+    requires { ⌜ ((col .index + 1) * places ≤ length (now work)) × (c < known .settings .shape .n) ⌝ }
     ensures { λ r. ⌜ r ≡ value q (col .weight) (column (now (work .entry)) (col .index)) (openInput (publicIn known) c) ⌝ }
 {
     let settings = known.settings;
-    let shift = shift_of(settings.set, settings.kind, settings.bound);
-    let place = mask_at(settings.set, settings.kind, c);
+    let shape = settings.shape;
+    let shift = shift_of(settings);
+    let place = mask_at(shape, c);
     let a = add_mod(
         register(work, col.index, INPUT + c),
         mul_mod(col.weight, shift),
@@ -262,13 +261,12 @@ fn open_input(work: &[u32], col: Column, known: Known, c: usize) -> u32
 // The place of a gate's triple.
 fn triple_of(known: Known, gate: Gate) -> usize
     requires { ⌜ Ready (known .settings) ⌝ }
-    requires { ⌜ (gate .c < known .settings .n) × (1 ≤ gate .i) × (gate .i < 5) × (gate .k < 2) ⌝ }
+    requires { ⌜ (gate .c < known .settings .shape .n) × (1 ≤ gate .i) × (gate .i < 5) × (gate .k < 2) ⌝ }
     ensures { λ r. ⌜ (r ≡ tripleOf (publicIn known) (gate .c) (gate .i) (gate .k)) × (r ≤ 1320) ⌝ }
 {
-    let settings = known.settings;
+    let shape = known.settings.shape;
     triple_at(
-        settings.set,
-        settings.kind,
+        shape,
         gate.c,
         2 * (gate.i - 1) + gate.k,
     )
@@ -277,7 +275,7 @@ fn triple_of(known: Known, gate: Gate) -> usize
 // Rounds 2 to 5: u − a (part 0), v − b (part 1).
 fn open_factor(work: &[u32], col: usize, known: Known, gate: Gate, part: usize) -> u32
     requires { ⌜ Ready (known .settings) ⌝ }
-    requires { ⌜ ((col + 1) * places ≤ length (now work)) × (gate .c < known .settings .n) × (1 ≤ gate .i) × (gate .i < 5) × (gate .k < 2) × (part < 2) ⌝ }
+    requires { ⌜ ((col + 1) * places ≤ length (now work)) × (gate .c < known .settings .shape .n) × (1 ≤ gate .i) × (gate .i < 5) × (gate .k < 2) × (part < 2) ⌝ }
     ensures { λ r. ⌜ ((κ : ℕ) → r ≡ value q κ (column (now (work .entry)) col) (openFactor (publicIn known) (gate .c) (gate .i) (gate .k) part)) ⌝ }
 {
     let place = triple_of(known, gate);
@@ -306,7 +304,7 @@ fn inside_value(work: &[u32], col: Column, bound: u32, y: u32, c: usize) -> u32
 // BOUND: the sum of the insides of the first m coefficients.
 fn insides_value(work: &[u32], col: Column, known: Known, m: usize) -> u32
     requires { ⌜ Ready (known .settings) ⌝ }
-    requires { ⌜ ((col .index + 1) * places ≤ length (now work)) × (m ≤ known .settings .n) × (1 ≤ known .settings .bound) ⌝ }
+    requires { ⌜ ((col .index + 1) * places ≤ length (now work)) × (m ≤ known .settings .shape .n) × (1 ≤ known .settings .bound) ⌝ }
     ensures { λ r. ⌜ r ≡ value q (col .weight) (column (now (work .entry)) (col .index)) (insides (publicIn known) m) ⌝ }
 {
     let mut total = mul_mod(col.weight, 0);
@@ -322,35 +320,35 @@ fn insides_value(work: &[u32], col: Column, known: Known, m: usize) -> u32
 // The number that group g checks for zero.
 fn checked_value(work: &[u32], col: Column, known: Known, g: usize) -> u32
     requires { ⌜ Ready (known .settings) ⌝ }
-    requires { ⌜ ((col .index + 1) * places ≤ length (now work)) × (g < known .settings .n) ⌝ }
+    requires { ⌜ ((col .index + 1) * places ≤ length (now work)) × (g < known .settings .shape .n) ⌝ }
     ensures { λ r. ⌜ r ≡ value q (col .weight) (column (now (work .entry)) (col .index)) (checked (publicIn known) g) ⌝ }
 {
-    let settings = known.settings;
-    let most = mul_mod(col.weight, group_k(settings.kind, settings.n) as u32);
-    if settings.kind == 0 {
+    let shape = known.settings.shape;
+    let most = mul_mod(col.weight, group_k(shape));
+    if shape.kind == 0 {
         return sub_mod(most, register(work, col.index, SECOND + g));
     }
-    let inside = insides_value(work, col, known, settings.n);
+    let inside = insides_value(work, col, known, shape.n as usize);
     sub_mod(most, inside)
 }
 
 // Round 6: ρ + g × n.
 fn open_check(work: &[u32], col: Column, known: Known, g: usize) -> u32
     requires { ⌜ Ready (known .settings) ⌝ }
-    requires { ⌜ ((col .index + 1) * places ≤ length (now work)) × (g < known .settings .n) ⌝ }
+    requires { ⌜ ((col .index + 1) * places ≤ length (now work)) × (g < known .settings .shape .n) ⌝ }
     ensures { λ r. ⌜ r ≡ value q (col .weight) (column (now (work .entry)) (col .index)) (openCheck (publicIn known) g) ⌝ }
 {
-    let settings = known.settings;
+    let shape = known.settings.shape;
     let n = checked_value(work, col, known, g);
-    let place = group_at(settings.set, settings.kind, settings.n, g);
-    let gap = group_gap(settings.kind, settings.n);
+    let place = group_at(shape, g);
+    let gap = group_gap(shape);
     add_mod(register(work, col.index, place), mul_mod(gap, n))
 }
 
 // Opening o of the round.
 pub fn opening_value(work: &[u32], col: Column, known: Known, o: usize) -> u32
     requires { ⌜ Ready (known .settings) ⌝ }
-    requires { ⌜ ((col .index + 1) * places ≤ length (now work)) × (1 ≤ known .round) × (o < openings (known .settings .kind) (known .settings .n) (known .round)) ⌝ }
+    requires { ⌜ ((col .index + 1) * places ≤ length (now work)) × (1 ≤ known .round) × (o < openings (paramsOf (known .settings .shape)) (known .round)) ⌝ }
     ensures { λ r. ⌜ r ≡ openingOn (publicIn known) (known .round) (col .weight) (column (now (work .entry)) (col .index)) o ⌝ }
 {
     let round = known.round;
@@ -385,7 +383,7 @@ fn combine(addend: u32, v: u32, u: u32, third: u32, e: u32, f: u32) -> u32
 // addend + e × v + f × u + third − e × f.
 fn gate_value(work: &[u32], col: Column, known: Known, gate: Gate, e: u32, f: u32) -> u32
     requires { ⌜ Ready (known .settings) ⌝ }
-    requires { ⌜ ((col .index + 1) * places ≤ length (now work)) × (gate .c < known .settings .n) × (1 ≤ gate .i) × (gate .i < 5) × (gate .k < 2) ⌝ }
+    requires { ⌜ ((col .index + 1) * places ≤ length (now work)) × (gate .c < known .settings .shape .n) × (1 ≤ gate .i) × (gate .i < 5) × (gate .k < 2) ⌝ }
     ensures { λ r. ⌜ r ≡ value q (col .weight) (column (now (work .entry)) (col .index)) (gateResult (publicIn known) (gate .c) (gate .i) (gate .k) e f) ⌝ }
 {
     let place = triple_of(known, gate);
@@ -398,11 +396,11 @@ fn gate_value(work: &[u32], col: Column, known: Known, gate: Gate, e: u32, f: u3
 }
 
 // An opened number divided by the gap.
-fn index_of(kind: u32, n: usize, x: u32) -> usize
-    requires { ⌜ (n ≤ 8) × (x < q) ⌝ }
-    ensures { λ r. ⌜ (r ≡ x / gap q (groupK kind n)) × (r ≤ 9) ⌝ }
+fn index_of(shape: Shape, x: u32) -> usize
+    requires { ⌜ (shape .n ≤ 8) × (x < q) ⌝ }
+    ensures { λ r. ⌜ (r ≡ x / groupGap (paramsOf shape)) × (r ≤ 9) ⌝ }
 {
-    (x / group_gap(kind, n)) as usize
+    (x / group_gap(shape)) as usize
 }
 
 // The entry of group g's vector for the opened number x: the zero check's result.
@@ -411,9 +409,9 @@ fn check_entry(work: &[u32], col: usize, known: Known, g: usize, x: u32) -> u32
     requires { ⌜ ((col + 1) * places ≤ length (now work)) × (g < 8) × (x < q) ⌝ }
     ensures { λ r. ⌜ ((κ : ℕ) → r ≡ value q κ (column (now (work .entry)) col) (checkEntry (publicIn known) g x)) ⌝ }
 {
-    let settings = known.settings;
-    let place = group_at(settings.set, settings.kind, settings.n, g);
-    let index = index_of(settings.kind, settings.n, x);
+    let shape = known.settings.shape;
+    let place = group_at(shape, g);
+    let index = index_of(shape, x);
     register(work, col, place + 1 + index)
 }
 
@@ -430,11 +428,11 @@ fn group_of(kind: u32, c: usize) -> usize
 // Round 6: HIGH's F − C; BOUND's result, for coefficient 0.
 fn after_check(work: &[u32], col: usize, known: Known, c: usize, k: usize, x: u32) -> u32
     requires { ⌜ Ready (known .settings) ⌝ }
-    requires { ⌜ ((col + 1) * places ≤ length (now work)) × (c < known .settings .n) × (k < 2) × (x < q) ⌝ }
+    requires { ⌜ ((col + 1) * places ≤ length (now work)) × (c < known .settings .shape .n) × (k < 2) × (x < q) ⌝ }
     ensures { λ r. ⌜ ((κ : ℕ) → r ≡ value q κ (column (now (work .entry)) col) (afterCheck (publicIn known) c k x)) ⌝ }
 {
     if k == 0 {
-        if known.settings.kind == 0 {
+        if known.settings.shape.kind == 0 {
             let wrap = check_entry(work, col, known, c, x);
             return sub_mod(register(work, col, FIRST + c), wrap);
         }
@@ -456,8 +454,8 @@ pub fn running_value(
     c: usize,
 ) -> u32
     requires { ⌜ Ready (known .settings) ⌝ }
-    requires { ⌜ ((col .index + 1) * places ≤ length (now work)) × (1 ≤ known .round) × (k < 2) × (c < known .settings .n) ⌝ }
-    requires { ⌜ (openings (known .settings .kind) (known .settings .n) (known .round) ≤ length (now opened)) × ((o : ℕ) → getD (now opened) o 0 < q) ⌝ }
+    requires { ⌜ ((col .index + 1) * places ≤ length (now work)) × (1 ≤ known .round) × (k < 2) × (c < known .settings .shape .n) ⌝ }
+    requires { ⌜ (openings (paramsOf (known .settings .shape)) (known .round) ≤ length (now opened)) × ((o : ℕ) → getD (now opened) o 0 < q) ⌝ }
     ensures { λ r. ⌜ r ≡ runningOn (publicIn known) (known .round) (λ (o : ℕ). getD (now (opened .entry)) o 0) (col .weight) (column (now (work .entry)) (col .index)) k c ⌝ }
 {
     let round = known.round;
@@ -475,7 +473,7 @@ pub fn running_value(
         return gate_value(work, col, known, gate, e, f);
     }
     if round == 6 {
-        let x = opened[group_of(known.settings.kind, c)];
+        let x = opened[group_of(known.settings.shape.kind, c)];
         return after_check(work, col.index, known, c, k, x);
     }
     register(work, col.index, FIRST + 8 * k + c)

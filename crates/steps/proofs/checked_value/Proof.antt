@@ -12,24 +12,24 @@ returns c = rw (← c .before .before .before .before .before .group-k .ensures 
 
 insides-value-requires : tie.Need-insides-value-requires
 insides-value-requires c κs =
-    let p = c .before .before .before .before .before .before .pre in
-    (p .0, (p .1 .0, omega arith, p .0 .bound-some (c .if1 .left)))
+    let p = c .before .before .before .before .before .before .before .pre in
+    (p .0, (p .1 .0, omega arith, p .0 .bound-some (c .before .if1 .left)))
 
 returns-2 : tie.Need-returns-2
 unfolding checked
-returns-2 c = rw (← c .before .before .before .before .before .group-k .ensures .0, ne-eqb _ _ (c .before .before .if1 .left), ← c .before .before .before .before .mul-mod .ensures, ← c .before .insides-value .ensures) (c .sub-mod2 .ensures)
+returns-2 c = rw (← c .before .before .before .before .before .before .group-k .ensures .0, ne-eqb _ _ (c .before .before .before .if1 .left), ← c .before .before .before .before .before .mul-mod .ensures, ← c .before .insides-value .ensures) (c .sub-mod2 .ensures)
 
 pub checked-value-spec : {M : Type 1} → statement M
 checked-value-spec =
     tie.close
     (tie.spec
     (λ c κs. search needs)
-    (λ c. search needs)
     (λ c κs. search needs)
     (λ c. search needs)
     (λ c κs. search needs)
     (λ c κs. search needs)
     returns
+    (λ c. search needs)
     insides-value-requires
     (λ c κs. search needs)
     returns-2)

@@ -6,7 +6,7 @@ use Rattle.steps.proofs.digit_of.Statement.{statement}
 use Rattle.steps.proofs.digit_of.Tie as tie
 
 returns : tie.Need-returns
-returns c = (rw (c .entry .ensures, c .before .split-number .ensures, c .before .before .looked-at .ensures), rw (c .entry .ensures, c .before .split-number .ensures) (digit-small _ (c .before .before .looked-at .result) (c .before .before .before .before .before .args .gate .i) (c .before .before .before .before .before .pre .0 .sets) (omega arith) (omega arith)))
+returns c = (rw (c .entry .ensures, c .before .split-number .ensures, c .before .before .before .looked-at .ensures), rw (c .entry .ensures, c .before .split-number .ensures) (digit-small _ (c .before .before .before .looked-at .result) (c .before .before .before .before .before .before .before .args .gate .i) (c .before .before .before .before .before .before .before .pre .0 .sets) (omega arith) (omega arith)))
 
 pub digit-of-spec : {M : Type 1} → statement M
 digit-of-spec =
@@ -15,6 +15,7 @@ digit-of-spec =
     (λ c. search needs)
     (λ c. search needs)
     (λ c κs. search needs)
+    (λ c. search needs)
     (λ c κs. search needs)
     (λ c κs. search needs)
     returns)

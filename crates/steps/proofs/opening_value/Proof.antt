@@ -1,4 +1,5 @@
 -- `steps::opening_value` meets its contract.
+use Rattle.settings.specs.Settings.{paramsOf}
 use native.Mathlib.Omega.{arith}
 use Rattle.steps.proofs.Bounds.{open-first, open-middle, open-late}
 use borrow.Author.Tests.{le-leb, lt-leb, eq-eqb, ne-eqb}
@@ -10,7 +11,7 @@ use Rattle.steps.proofs.opening_value.Tie as tie
 open-input-requires : tie.Need-open-input-requires
 open-input-requires c κs =
     let a = c .before .before .args in
-    (c .before .before .pre .0, omega (arith, open-first (a .known .settings .kind) (a .known .settings .n) (a .known .round) (c .if1 .taken)))
+    (c .before .before .pre .0, omega (arith, open-first (paramsOf (a .known .settings .shape)) (a .known .round) (c .if1 .taken)))
 
 returns : tie.Need-returns
 unfolding opening
@@ -19,7 +20,7 @@ returns c = rw (eq-eqb _ _ (c .before .if1 .taken)) (c .open-input .ensures)
 open-factor-requires : tie.Need-open-factor-requires
 open-factor-requires c κs =
     let a = c .before .before .before .args in
-    (c .before .before .before .pre .0, omega (arith, open-middle (a .known .settings .kind) (a .known .settings .n) (a .known .round) (c .before .if1 .left) (c .if2 .taken)))
+    (c .before .before .before .pre .0, omega (arith, open-middle (paramsOf (a .known .settings .shape)) (a .known .round) (c .before .if1 .left) (c .if2 .taken)))
 
 returns-2 : tie.Need-returns-2
 unfolding opening
@@ -29,7 +30,7 @@ open-check-requires : tie.Need-open-check-requires
 open-check-requires c κs =
     let a = c .before .before .before .before .args in
     let p = c .before .before .before .before .pre in
-    (p .0, omega (arith, open-late (a .known .settings .kind) (a .known .settings .n) (a .known .round) (c .before .before .if1 .left) (c .before .if2 .left) (p .0 .some)))
+    (p .0, omega (arith, open-late (paramsOf (a .known .settings .shape)) (a .known .round) (c .before .before .if1 .left) (c .before .if2 .left) (p .0 .some)))
 
 returns-3 : tie.Need-returns-3
 unfolding opening
@@ -38,12 +39,12 @@ returns-3 c = rw (ne-eqb _ _ (c .before .before .before .if1 .left), lt-leb _ _ 
 add-register : tie.Need-add-register
 add-register c =
     let a = c .before .before .before .before .args in
-    omega (arith, open-late (a .known .settings .kind) (a .known .settings .n) (a .known .round) (c .before .before .if1 .left) (c .before .if2 .left) (c .before .before .before .before .pre .0 .some))
+    omega (arith, open-late (paramsOf (a .known .settings .shape)) (a .known .round) (c .before .before .if1 .left) (c .before .if2 .left) (c .before .before .before .before .pre .0 .some))
 
 register-requires : tie.Need-register-requires
 register-requires c κs =
     let a = c .before .before .before .before .args in
-    omega (arith, open-late (a .known .settings .kind) (a .known .settings .n) (a .known .round) (c .before .before .if1 .left) (c .before .if2 .left) (c .before .before .before .before .pre .0 .some))
+    omega (arith, open-late (paramsOf (a .known .settings .shape)) (a .known .round) (c .before .before .if1 .left) (c .before .if2 .left) (c .before .before .before .before .pre .0 .some))
 
 returns-4 : tie.Need-returns-4
 unfolding opening

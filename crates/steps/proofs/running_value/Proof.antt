@@ -1,4 +1,5 @@
 -- `steps::running_value` meets its contract.
+use Rattle.settings.specs.Settings.{paramsOf}
 use native.Mathlib.Omega.{arith}
 use Rattle.steps.proofs.Bounds.{open-middle, check-in}
 use borrow.Author.Tests.{le-leb, lt-leb, eq-eqb, ne-eqb}
@@ -14,12 +15,12 @@ returns c = rw (eq-eqb _ _ (c .before .if1 .taken)) (c .vector-sum .ensures _)
 shared-slice-read-e : tie.Need-shared-slice-read-e
 shared-slice-read-e c =
     let a = c .before .before .before .before .before .args in
-    omega (arith, open-middle (a .known .settings .kind) (a .known .settings .n) (a .known .round) (c .before .before .if1 .left) (c .before .if2 .taken))
+    omega (arith, open-middle (paramsOf (a .known .settings .shape)) (a .known .round) (c .before .before .if1 .left) (c .before .if2 .taken))
 
 shared-slice-read-f : tie.Need-shared-slice-read-f
 shared-slice-read-f c =
     let a = c .before .before .before .before .before .before .args in
-    omega (arith, open-middle (a .known .settings .kind) (a .known .settings .n) (a .known .round) (c .before .before .before .if1 .left) (c .before .before .if2 .taken))
+    omega (arith, open-middle (paramsOf (a .known .settings .shape)) (a .known .round) (c .before .before .before .if1 .left) (c .before .before .if2 .taken))
 
 gate-value-requires : tie.Need-gate-value-requires
 gate-value-requires c κs = (c .before .before .before .before .before .before .pre .0, omega arith)
@@ -31,12 +32,12 @@ returns-2 c = rw (ne-eqb _ _ (c .before .before .before .before .if1 .left), le-
 mul-x : tie.Need-mul-x
 mul-x c =
     let a = c .before .before .before .before .before .before .args in
-    let p = check-in (a .known .settings .kind) (a .known .settings .n) (a .known .round) (a .c) (c .before .before .before .if1 .left) (c .before .before .if2 .left) (omega arith) in omega (arith, p, c .group-of .ensures)
+    let p = check-in (paramsOf (a .known .settings .shape)) (a .known .round) (a .c) (c .before .before .before .if1 .left) (c .before .before .if2 .left) (omega arith) in omega (arith, p, c .group-of .ensures)
 
 shared-slice-read-x : tie.Need-shared-slice-read-x
 shared-slice-read-x c =
     let a = c .before .before .before .before .before .before .before .args in
-    let p = check-in (a .known .settings .kind) (a .known .settings .n) (a .known .round) (a .c) (c .before .before .before .before .if1 .left) (c .before .before .before .if2 .left) (omega arith) in omega (arith, p, c .before .group-of .ensures)
+    let p = check-in (paramsOf (a .known .settings .shape)) (a .known .round) (a .c) (c .before .before .before .before .if1 .left) (c .before .before .before .if2 .left) (omega arith) in omega (arith, p, c .before .group-of .ensures)
 
 after-check-requires : tie.Need-after-check-requires
 after-check-requires c κs =
