@@ -14,6 +14,7 @@ use Rattle.field.specs.Field.{sub}
 use Rattle.field.specs.Sums.{sumTo}
 use Rattle.field.specs.Forms.{Registers, value}
 use Rattle.field.proofs.Division.{mod-sub}
+use Rattle.settings.specs.Settings.{Params, paramsWith, termsWith, termsFor}
 use Rattle.settings.specs.Sets.{Scale}
 use Rattle.rounding.specs.Rounds.{missing, gap, checkOpens, checkResult, insideResult}
 use Rattle.settings.specs.Theorems.{Lawful}
@@ -29,27 +30,27 @@ use Rattle.column.proofs.Gates.{Held}
 -- ---- a zero check of any group
 
 -- the gap of the groups, from those of both kinds
-pub group-gaps : (p : Scale) → Lawful p → (kind n : ℕ) → p .modulus % (n + 1) ≤ gap (p .modulus) n → p .modulus % (groupK kind n + 1) ≤ groupGap p kind n
-group-gaps p ok kind n h = go (eqb kind 0)
+pub group-gaps : (p : Params) → Lawful (p .scale) → p .scale .modulus % (p .n + 1) ≤ gap (p .scale .modulus) (p .n) → p .scale .modulus % (groupK p + 1) ≤ groupGap p
+group-gaps p ok h = go (eqb (p .kind) 0)
   where
-    go : (b : Bool) → p .modulus % (cond b 5 n + 1) ≤ gap (p .modulus) (cond b 5 n)
+    go : (b : Bool) → p .scale .modulus % (cond b 5 (p .n) + 1) ≤ gap (p .scale .modulus) (cond b 5 (p .n))
     go true = ok .checks
     go false = h
 
-module _ {p : Scale} (ok : Lawful p) {kind n : ℕ} (bound : ℕ) (masked : ℕ → ℕ) {v : Registers} {d : ℕ → ℕ} (book : Held p kind n v d)
-    (gaps : p .modulus % (n + 1) ≤ gap (p .modulus) n) (g : ℕ) (here : g < groups kind n) where
+module _ {p : Params} (ok : Lawful (p .scale)) (bound : ℕ) (masked : ℕ → ℕ) {v : Registers} {d : ℕ → ℕ} (book : Held p v d)
+    (gaps : p .scale .modulus % (p .n + 1) ≤ gap (p .scale .modulus) (p .n)) (g : ℕ) (here : g < groups p) where
   abbrev w : Public
-  w = publicOf p kind n bound masked
+  w = publicOf (termsFor p bound) masked
 
-  pub check-opens : (x : ℕ) → value (p .modulus) 1 v (checked w g) ≡ x → value (p .modulus) 1 v (openCheck w g) ≡ checkOpens (p .modulus) (groupK kind n) (d (groupAt p kind n g)) x
+  pub check-opens : (x : ℕ) → value (p .scale .modulus) 1 v (checked w g) ≡ x → value (p .scale .modulus) 1 v (openCheck w g) ≡ checkOpens (p .scale .modulus) (groupK p) (d (groupAt p g)) x
   unfolding openCheck
   check-opens x e = rw (e, book .group g here) (add-mod-mod _ _ _)
 
-  pub check-entry : (x : ℕ) → x < p .modulus → value (p .modulus) 1 v (checkEntry w g x) ≡ checkResult (p .modulus) (groupK kind n) (d (groupAt p kind n g)) x
+  pub check-entry : (x : ℕ) → x < p .scale .modulus → value (p .scale .modulus) 1 v (checkEntry w g x) ≡ checkResult (p .scale .modulus) (groupK p) (d (groupAt p g)) x
   unfolding checkEntry
   check-entry x h =
-      book .marks g (x / groupGap p kind n) here
-      (index-below (p .modulus) (groupK kind n) (omega arith) (group-gaps p ok kind n gaps) x h)
+      book .marks g (x / groupGap p) here
+      (index-below (p .scale .modulus) (groupK p) (omega arith) (group-gaps p ok gaps) x h)
 
 -- ---- what is checked
 
@@ -65,16 +66,16 @@ sum-most (suc n) f h = omega (arith, sum-most n f (λ j l. h j (omega arith)), h
 -- ys are the y of the coefficients, rs their masks
 module _ (p : Scale) (ok : Lawful p) (n bound : ℕ) (masked ys rs : ℕ → ℕ) (v : Registers) where
   -- HIGH: five less the zeros and G
-  checked-high : (c : ℕ) → ys c < p .modulus → rs c < p .modulus → v (runningAt 1 c) ≡ clearRunning p 0 n bound (ys c) (rs c) 5 1
-      → value (p .modulus) 1 v (checked (publicOf p 0 n bound masked) c) ≡ clearChecked p 0 n bound ys rs c
+  checked-high : (c : ℕ) → ys c < p .modulus → rs c < p .modulus → v (runningAt 1 c) ≡ clearRunning (termsWith p 0 n bound) (ys c) (rs c) 5 1
+      → value (p .modulus) 1 v (checked (publicOf (termsWith p 0 n bound) masked) c) ≡ clearChecked (termsWith p 0 n bound) ys rs c
   unfolding checked clearChecked missing
   checked-high c hy hr e =
       ap (sub (p .modulus) (1 * 5 % p .modulus)) e
-      ∙ less-is (p .modulus) 5 (clearRunning p 0 n bound (ys c) (rs c) 5 1) (five-below p ok) (high-second p ok n bound (ys c) (rs c) hy hr 5)
+      ∙ less-is (p .modulus) 5 (clearRunning (termsWith p 0 n bound) (ys c) (rs c) 5 1) (five-below p ok) (high-second p ok n bound (ys c) (rs c) hy hr 5)
       ∙ (unfold clearRunning in refl)
 
   -- BOUND: N less the insides
-  module _ (same : (c : ℕ) → c < n → masked c ≡ ys c) (after : (c k : ℕ) → c < n → k < 2 → v (runningAt k c) ≡ clearRunning p 1 n bound (ys c) (rs c) 5 k)
+  module _ (same : (c : ℕ) → c < n → masked c ≡ ys c) (after : (c k : ℕ) → c < n → k < 2 → v (runningAt k c) ≡ clearRunning (termsWith p 1 n bound) (ys c) (rs c) 5 k)
       (small : (c : ℕ) → c < n → insideResult p bound (ys c) (rs c) ≤ 1) (most : n < p .modulus) where
     abbrev insideOf : ℕ → ℕ
     insideOf c = insideResult p bound (ys c) (rs c)
@@ -83,22 +84,22 @@ module _ (p : Scale) (ok : Lawful p) (n bound : ℕ) (masked ys rs : ℕ → ℕ
     unfolding insideForm insideResult clearRunning
     inside-is c h = rw (same c h, after c 0 h (omega arith), after c 1 h (omega arith), one-mul) (add-mod-mod _ _ _)
 
-    insides-are : (c : ℕ) → c ≤ n → value (p .modulus) 1 v (insides (publicOf p 1 n bound masked) c) ≡ sumTo c insideOf
+    insides-are : (c : ℕ) → c ≤ n → value (p .modulus) 1 v (insides (publicOf (termsWith p 1 n bound) masked) c) ≡ sumTo c insideOf
     unfolding insides sumTo
     insides-are zero h = mod-eq-of-lt (omega arith)
     insides-are (suc c) h =
         rw (insides-are c (omega arith), inside-is c h)
         (mod-eq-of-lt (omega (arith, sum-most c insideOf (λ j l. small j (omega arith)), small c h)))
 
-    checked-bound : (g : ℕ) → value (p .modulus) 1 v (checked (publicOf p 1 n bound masked) g) ≡ clearChecked p 1 n bound ys rs g
+    checked-bound : (g : ℕ) → value (p .modulus) 1 v (checked (publicOf (termsWith p 1 n bound) masked) g) ≡ clearChecked (termsWith p 1 n bound) ys rs g
     unfolding checked clearChecked
     checked-bound g =
         ap (sub (p .modulus) (1 * n % p .modulus)) (insides-are n (omega arith))
         ∙ less-is (p .modulus) n (sumTo n insideOf) most (sum-most n insideOf small)
 
-  pub checked-is : (kind : ℕ) → kind < 2 → ((c : ℕ) → c < n → masked c ≡ ys c) → ((c k : ℕ) → c < n → k < 2 → v (runningAt k c) ≡ clearRunning p kind n bound (ys c) (rs c) 5 k)
+  pub checked-is : (kind : ℕ) → kind < 2 → ((c : ℕ) → c < n → masked c ≡ ys c) → ((c k : ℕ) → c < n → k < 2 → v (runningAt k c) ≡ clearRunning (termsWith p kind n bound) (ys c) (rs c) 5 k)
       → ((c : ℕ) → ys c < p .modulus) → ((c : ℕ) → rs c < p .modulus) → (kind ≡ 1 → (c : ℕ) → c < n → insideResult p bound (ys c) (rs c) ≤ 1) → n < p .modulus
-      → (g : ℕ) → g < groups kind n → value (p .modulus) 1 v (checked (publicOf p kind n bound masked) g) ≡ clearChecked p kind n bound ys rs g
+      → (g : ℕ) → g < groups (paramsWith p kind n) → value (p .modulus) 1 v (checked (publicOf (termsWith p kind n bound) masked) g) ≡ clearChecked (termsWith p kind n bound) ys rs g
   checked-is zero h same after hy hr small most g l = checked-high g (hy g) (hr g) (after g 1 l (omega arith))
   checked-is (suc zero) h same after hy hr small most g l = checked-bound same after (small refl) most g
   checked-is (suc (suc kind)) h same after hy hr small most g l = absurd (omega arith)

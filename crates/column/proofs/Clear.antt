@@ -12,6 +12,7 @@ use Rattle.lists.proofs.Indicators.{bit-le, lt-zero, off, on, bit-view}
 use Rattle.field.specs.Field.{sub}
 use Rattle.field.specs.Sums.{sumTo}
 use Rattle.field.proofs.Solve.{at, _⊕_, _⊖_, _⊗_, red, solve}
+use Rattle.settings.specs.Settings.{paramsWith, termsWith}
 use Rattle.settings.specs.Sets.{Scale, base}
 use Rattle.rounding.specs.Digits.{digit}
 use Rattle.rounding.specs.Rounds.{top, over, unit, carryInto, zeroDigit, topSum, threshold}
@@ -88,7 +89,7 @@ module _ (p : Scale) (ok : Lawful p) (n bound y r : ℕ) (hy : y < p .modulus) (
   weighed i k x = weigh (ruleOf 0 i k) (limitOf p i) x (digit p r i)
 
   abbrev high : ℕ → ℕ → ℕ
-  high i k = clearRunning p 0 n bound y r i k
+  high i k = clearRunning (termsWith p 0 n bound) y r i k
 
   -- what is already in register k when digit i is taken
   abbrev kept : ℕ → ℕ → ℕ
@@ -149,7 +150,7 @@ module _ (p : Scale) (ok : Lawful p) (n bound y r : ℕ) (hy : y < p .modulus) (
   -- ---- BOUND: one digit more is compared
 
   abbrev below : ℕ → ℕ → ℕ
-  below i k = clearRunning p 1 n bound y r i k
+  below i k = clearRunning (termsWith p 1 n bound) y r i k
 
   abbrev limit : ℕ → ℕ
   limit k = threshold (p .modulus) bound k y
@@ -175,11 +176,11 @@ module _ (p : Scale) (n bound y r kind i k : ℕ) where
 
   -- the addend of that gate
   abbrev pub clearAddend : ℕ
-  clearAddend = cond (eqb kind 0 && eqb k 1) ((clearRunning p kind n bound y r i 1 + plainWeight) % p .modulus) plainWeight
+  clearAddend = cond (eqb kind 0 && eqb k 1) ((clearRunning (termsWith p kind n bound) y r i 1 + plainWeight) % p .modulus) plainWeight
 
 module _ {p : Scale} (ok : Lawful p) (n bound y r : ℕ) (hy : y < p .modulus) (hr : r < p .modulus) where
   -- round 1
-  pub first-clear : (kind k : ℕ) → kind < 2 → k < 2 → plainWeight p n bound y r kind 0 k ≡ clearRunning p kind n bound y r 1 k
+  pub first-clear : (kind k : ℕ) → kind < 2 → k < 2 → plainWeight p n bound y r kind 0 k ≡ clearRunning (termsWith p kind n bound) y r 1 k
   unfolding lookedAt ruleOf weigh
   first-clear zero k h l =
       sym (high-next p ok n bound y r hy hr 0 k (omega arith) l ∙ rw (kept-none p ok n bound y r hy hr k l, carry-none p ok y r, add-zero (digit p y 0)) (zero-add _))
@@ -189,13 +190,13 @@ module _ {p : Scale} (ok : Lawful p) (n bound y r : ℕ) (hy : y < p .modulus) (
 
   -- rounds 2 to 5
   pub gate-clear : (kind i k : ℕ) → kind < 2 → i < 5 → k < 2
-      → (clearAddend p n bound y r kind i k + clearFactor p kind n bound y r i k 0 * clearFactor p kind n bound y r i k 1) % p .modulus ≡ clearRunning p kind n bound y r (suc i) k
+      → (clearAddend p n bound y r kind i k + clearFactor (termsWith p kind n bound) y r i k 0 * clearFactor (termsWith p kind n bound) y r i k 1) % p .modulus ≡ clearRunning (termsWith p kind n bound) y r (suc i) k
   unfolding lookedAt clearFactor ruleOf weigh
   gate-clear zero i zero h a l =
       let x : ℕ = plainWeight p n bound y r 0 i 0 in
       let b : x < p .modulus = weight-below p ok 0 i 0 (digit p y i) (digit p r i) a (omega (arith, digit-below p ok y i hy a)) (digit-below p ok r i hr a) in
       let e : (0 + x) % p .modulus ≡ x = ap (λ (z : ℕ). z % p .modulus) (zero-add x) ∙ mod-eq-of-lt b in
-      ap (λ (z : ℕ). (z + clearFactor p 0 n bound y r i 0 0 * clearFactor p 0 n bound y r i 0 1) % p .modulus) (sym e) ∙ high-gate p ok n bound y r hy hr i 0 a l
+      ap (λ (z : ℕ). (z + clearFactor (termsWith p 0 n bound) y r i 0 0 * clearFactor (termsWith p 0 n bound) y r i 0 1) % p .modulus) (sym e) ∙ high-gate p ok n bound y r hy hr i 0 a l
   gate-clear zero i (suc zero) h a l = high-gate p ok n bound y r hy hr i 1 a l
   gate-clear zero i (suc (suc k)) h a l = absurd (omega arith)
   gate-clear (suc zero) i k h a l =

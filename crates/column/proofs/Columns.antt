@@ -11,8 +11,9 @@ use lib.ListN.{length, getD}
 use Rattle.lists.specs.Lists.{fill}
 use Rattle.lists.proofs.Fill.{fill-at, fill-before, fill-behind, length-fill}
 use Rattle.field.specs.Forms.{Registers, put}
-use Rattle.settings.specs.Sets.{Scale}
+use Rattle.settings.specs.Settings.{Terms}
 use Rattle.settings.specs.Sizes.{openings, places}
+use Rattle.settings.proofs.Sizes.{openings-most}
 use Rattle.slice.specs.Layout.{runningAt, ownAt, column, ownIn}
 use Rattle.steps.specs.Steps.{Public, publicOf}
 use Rattle.steps.specs.Work.{openingOn, runningOn, takenColumn}
@@ -20,25 +21,15 @@ use Rattle.steps.specs.Work.{openingOn, runningOn, takenColumn}
 -- what a round makes of a column's registers
 abbrev pub stepped : Public → ℕ → (ℕ → ℕ) → ℕ → Registers → Registers
 stepped w round opened κ r =
-    put (put r (runningAt 0 0) (w .n) (runningOn w round opened κ r 0)) (runningAt 1 0) (w .n) (runningOn w round opened κ r 1)
+    put (put r (runningAt 0 0) (w .params .n) (runningOn w round opened κ r 0)) (runningAt 1 0) (w .params .n) (runningOn w round opened κ r 1)
 
 -- what both sides know while they take a round, from the masked numbers that the slice holds
-abbrev pub taking : Scale → ℕ → ℕ → ℕ → ℕ → (ℕ → ℕ) → (ℕ → ℕ) → Public
-taking p kind n bound round opened masked = publicOf p kind n bound (cond (eqb round 1) opened masked)
+abbrev pub taking : Terms → ℕ → (ℕ → ℕ) → (ℕ → ℕ) → Public
+taking T round opened masked = publicOf T (cond (eqb round 1) opened masked)
 
 -- the masked numbers after a round
 abbrev pub maskedAfter : ℕ → ℕ → (ℕ → ℕ) → (ℕ → ℕ) → ℕ → ℕ
 maskedAfter n round opened masked c = cond (eqb round 1) (cond (ltb c n) (opened c) (masked c)) (masked c)
-
-pub openings-most : (kind n round : ℕ) → n ≤ 8 → openings kind n round ≤ 32
-unfolding openings
-openings-most kind n round h = go (eqb round 1) (leb round 5) (eqb kind 0)
-  where
-    go : (a b c : Bool) → cond a n (cond b (4 * n) (cond c n 1)) ≤ 32
-    go true b c = omega arith
-    go false true c = omega arith
-    go false false true = omega arith
-    go false false false = omega arith
 
 -- ---- a run of places filled, and a column's registers
 
@@ -70,7 +61,7 @@ column-same s t c h i = go (decLt i 1344)
 
 -- ---- a round in one column
 
-module _ (w : Public) (round : ℕ) (opened : ℕ → ℕ) (most : w .n ≤ 8) (c κ : ℕ) (s : List ℕ) where
+module _ (w : Public) (round : ℕ) (opened : ℕ → ℕ) (most : w .params .n ≤ 8) (c κ : ℕ) (s : List ℕ) where
   abbrev own : ℕ → ℕ
   own = openingOn w round κ (column s c)
 
@@ -81,7 +72,7 @@ module _ (w : Public) (round : ℕ) (opened : ℕ → ℕ) (most : w .n ≤ 8) (
   second = runningOn w round opened κ (column s c) 1
 
   abbrev count : ℕ
-  count = openings (w .kind) (w .n) round
+  count = openings (w .params) round
 
   abbrev taken : List ℕ
   taken = takenColumn w round opened c κ s
@@ -94,16 +85,16 @@ module _ (w : Public) (round : ℕ) (opened : ℕ → ℕ) (most : w .n ≤ 8) (
   pub taken-before : (j : ℕ) → j < c * places + 1328 → getD taken j 0 ≡ getD s j 0
   unfolding takenColumn
   taken-before j h =
-      fill-before _ (c * places + 1336) (w .n) second j (omega arith)
-      ∙ fill-before _ (c * places + 1328) (w .n) first j (omega arith)
+      fill-before _ (c * places + 1336) (w .params .n) second j (omega arith)
+      ∙ fill-before _ (c * places + 1328) (w .params .n) first j (omega arith)
       ∙ fill-before s (c * places + 1344) count own j (omega arith)
 
   pub taken-behind : (j : ℕ) → c * places + 1376 ≤ j → getD taken j 0 ≡ getD s j 0
   unfolding takenColumn
   taken-behind j h =
-      let k = openings-most (w .kind) (w .n) round most in
-      fill-behind _ (c * places + 1336) (w .n) second j (omega arith)
-      ∙ fill-behind _ (c * places + 1328) (w .n) first j (omega arith)
+      let k = openings-most (w .params) round most in
+      fill-behind _ (c * places + 1336) (w .params .n) second j (omega arith)
+      ∙ fill-behind _ (c * places + 1328) (w .params .n) first j (omega arith)
       ∙ fill-behind s (c * places + 1344) count own j (omega arith)
 
   -- the column itself
@@ -111,20 +102,20 @@ module _ (w : Public) (round : ℕ) (opened : ℕ → ℕ) (most : w .n ≤ 8) (
   unfolding takenColumn
   column-taken r i =
       let t = fill s (c * places + 1344) count own in
-      let u = fill t (c * places + 1328) (w .n) first in
+      let u = fill t (c * places + 1328) (w .params .n) first in
       let lt : length t ≡ length s = length-fill s (c * places + 1344) count own in
-      let lu : length u ≡ length t = length-fill t (c * places + 1328) (w .n) first in
+      let lu : length u ≡ length t = length-fill t (c * places + 1328) (w .params .n) first in
       let e : column t c ≡ column s c = fun-ext (column-same t s c (λ k l. fill-before s (c * places + 1344) count own (c * places + k) (omega arith))) in
-      column-fill u c 1336 (w .n) second (omega arith) (omega arith) i
-      ∙ ap (λ (x : ℕ). cond (ltb i 1336) x (cond (ltb i (1336 + w .n)) (second (i - 1336)) x))
-      (column-fill t c 1328 (w .n) first (omega arith) (omega arith) i ∙ ap (λ (r : Registers). put r 1328 (w .n) first i) e)
+      column-fill u c 1336 (w .params .n) second (omega arith) (omega arith) i
+      ∙ ap (λ (x : ℕ). cond (ltb i 1336) x (cond (ltb i (1336 + w .params .n)) (second (i - 1336)) x))
+      (column-fill t c 1328 (w .params .n) first (omega arith) (omega arith) i ∙ ap (λ (r : Registers). put r 1328 (w .params .n) first i) e)
 
   -- and its openings
   pub own-taken : c * places + places ≤ length s → (o : ℕ) → o < count → ownIn taken c o ≡ own o
   unfolding takenColumn ownIn
   own-taken r o h =
-      let k = openings-most (w .kind) (w .n) round most in
+      let k = openings-most (w .params) round most in
       let e : c * places + 1344 + o ≡ c * places + (1344 + o) = omega arith in
-      fill-behind _ (c * places + 1336) (w .n) second (c * places + ownAt o) (omega arith)
-      ∙ fill-behind _ (c * places + 1328) (w .n) first (c * places + ownAt o) (omega arith)
+      fill-behind _ (c * places + 1336) (w .params .n) second (c * places + ownAt o) (omega arith)
+      ∙ fill-behind _ (c * places + 1328) (w .params .n) first (c * places + ownAt o) (omega arith)
       ∙ (rw e at (fill-at s (c * places + 1344) count own o (omega arith) h))

@@ -10,7 +10,7 @@ use borrow.Author.Tests.{lt-ltb, le-leb, ne-eqb}
 use lib.ListN.{getD}
 use Rattle.field.specs.Field.{sub}
 use Rattle.field.specs.Forms.{Registers, value}
-use Rattle.settings.specs.Sets.{Scale}
+use Rattle.settings.specs.Settings.{Terms}
 use Rattle.settings.specs.Sizes.{openings, widthOf}
 use Rattle.book.specs.Book.{maskAt, tripleAt, drawn}
 use Rattle.slice.specs.Layout.{runningAt}
@@ -29,26 +29,26 @@ not-first t = ne-eqb (suc (suc t)) 1 (omega arith)
 pub less-one : (t : ℕ) → suc t - 1 ≡ t
 less-one t = omega arith
 
-module _ {p : Scale} {kind n bound k : ℕ} {draw secret : List ℕ} (s : Sound p kind n bound k draw secret) where
+module _ {T : Terms} {k : ℕ} {draw secret : List ℕ} (s : Sound T k draw secret) where
   -- the drawn numbers, r and y of each coefficient
   abbrev pub d : ℕ → ℕ
-  d = drawn p kind n (widthOf k) draw
+  d = drawn (T .params) (widthOf k) draw
 
   abbrev pub r : ℕ → ℕ
-  r c = d (maskAt p kind c)
+  r c = d (maskAt (T .params) c)
 
   abbrev pub y : ℕ → ℕ
-  y = maskedOf p kind n bound (widthOf k) draw secret
+  y = maskedOf T (widthOf k) draw secret
 
-  pub drawn-below : (x : ℕ) → d x < p .modulus
+  pub drawn-below : (x : ℕ) → d x < T .params .scale .modulus
   unfolding drawn
   drawn-below x = s .draw-below _
 
-  pub y-is : (c : ℕ) → y c ≡ sub (p .modulus) (getD secret c 0 + shiftOf (p .alpha) kind bound) (r c)
+  pub y-is : (c : ℕ) → y c ≡ sub (T .params .scale .modulus) (getD secret c 0 + shiftOf T) (r c)
   unfolding maskedOf maskOf
   y-is c = refl
 
-  pub y-below : (c : ℕ) → y c < p .modulus
+  pub y-below : (c : ℕ) → y c < T .params .scale .modulus
   unfolding maskedOf
   y-below c = mod-lt _ (omega (arith, drawn-below 0))
 
@@ -62,51 +62,51 @@ module _ {p : Scale} {kind n bound k : ℕ} {draw secret : List ℕ} (s : Sound 
   abbrev pub O : ℕ → ℕ → ℕ
   O = opens s
 
-  pub book : (t : ℕ) → Held p kind n (R t) d
+  pub book : (t : ℕ) → Held (T .params) (R t) d
   book t = book-held s t
 
   -- the opening o of round t + 1
   abbrev pub opened-next : ℕ → ℕ → ℕ
-  opened-next t o = openingOn (publicOf p kind n bound (M t)) (suc t) 1 (R t) o
+  opened-next t o = openingOn (publicOf T (M t)) (suc t) 1 (R t) o
 
   -- round 1
-  pub open-first : (c : ℕ) → c < n → opened-next 0 c ≡ y c
+  pub open-first : (c : ℕ) → c < T .params .n → opened-next 0 c ≡ y c
   unfolding opening
   open-first c h =
-      input-is bound (M 0) (book 0) c h
+      input-is (T .bound) (M 0) (book 0) c h
       ∙ rw (input-held s c h) (sym (y-is c))
 
-  opened-first : (c : ℕ) → c < n → O 0 c ≡ y c
+  opened-first : (c : ℕ) → c < T .params .n → O 0 c ≡ y c
   opened-first c h = opens-is s 0 c (unfold openings in h) ∙ open-first c h
 
   -- from then on the slice holds the masked numbers
-  pub masked-is : (t c : ℕ) → c < n → M (suc t) c ≡ y c
-  masked-is zero c h = step-masked s 0 c ∙ rw (lt-ltb c n h) (opened-first c h)
+  pub masked-is : (t c : ℕ) → c < T .params .n → M (suc t) c ≡ y c
+  masked-is zero c h = step-masked s 0 c ∙ rw (lt-ltb c (T .params .n) h) (opened-first c h)
   masked-is (suc t) c h = step-masked s (suc t) c ∙ rw (not-first t) (masked-is t c h)
 
   -- ---- rounds 2 to 5: round t + 2 takes digit t + 1
 
   abbrev pub clear : ℕ → ℕ → ℕ → ℕ
-  clear t c j = clearRunning p kind n bound (y c) (r c) t j
+  clear t c j = clearRunning T (y c) (r c) t j
 
-  module _ (t c : ℕ) (l : t < 4) (h : c < n) (before : (j : ℕ) → j < 2 → R (suc t) (runningAt j c) ≡ clear (suc t) c j) where
+  module _ (t c : ℕ) (l : t < 4) (h : c < T .params .n) (before : (j : ℕ) → j < 2 → R (suc t) (runningAt j c) ≡ clear (suc t) c j) where
     abbrev w : Public
-    w = publicOf p kind n bound (M (suc t))
+    w = publicOf T (M (suc t))
 
-    masked-below : M (suc t) c < p .modulus
+    masked-below : M (suc t) c < T .params .scale .modulus
     masked-below = rw (masked-is t c h) (y-below c)
 
-    before-masked : (j : ℕ) → j < 2 → R (suc t) (runningAt j c) ≡ clearRunning p kind n bound (M (suc t) c) (r c) (suc t) j
+    before-masked : (j : ℕ) → j < 2 → R (suc t) (runningAt j c) ≡ clearRunning T (M (suc t) c) (r c) (suc t) j
     before-masked j b = rw (masked-is t c h) (before j b)
 
     -- the factors of gate j
     pub open-factor : (j part : ℕ) → j < 2 → part < 2
-        → value (p .modulus) 1 (R (suc t)) (openFactor w c (suc t) j part) ≡ sub (p .modulus) (clearFactor p kind n bound (y c) (r c) (suc t) j part) (d (tripleAt p kind c (2 * t + j) + part))
+        → value (T .params .scale .modulus) 1 (R (suc t)) (openFactor w c (suc t) j part) ≡ sub (T .params .scale .modulus) (clearFactor T (y c) (r c) (suc t) j part) (d (tripleAt (T .params) c (2 * t + j) + part))
     open-factor j part a b =
         rw (masked-is t c h, less-one t) at
-        (factor-is (s .lawful) bound (M (suc t)) (book (suc t)) c h masked-below (drawn-below _) (suc t) (omega arith) (omega arith) before-masked j part a b)
+        (factor-is (s .lawful) (T .bound) (M (suc t)) (book (suc t)) c h masked-below (drawn-below _) (suc t) (omega arith) (omega arith) before-masked j part a b)
 
-    opened-factor : (j part : ℕ) → j < 2 → part < 2 → O (suc t) (4 * c + 2 * j + part) ≡ value (p .modulus) 1 (R (suc t)) (openFactor w c (suc t) j part)
+    opened-factor : (j part : ℕ) → j < 2 → part < 2 → O (suc t) (4 * c + 2 * j + part) ≡ value (T .params .scale .modulus) 1 (R (suc t)) (openFactor w c (suc t) j part)
     unfolding opening
     opened-factor j part a b =
         let u : (4 * c + 2 * j + part) / 4 ≡ c = omega arith in
@@ -122,17 +122,17 @@ module _ {p : Scale} {kind n bound k : ℕ} {draw secret : List ℕ} (s : Sound 
         step-running s (suc t) j c b h
         ∙ rw (not-first t, le-leb (suc (suc t)) 5 (omega arith), less-one (suc t), rw z at (opened-factor j 0 b (omega arith)), opened-factor j 1 b (omega arith))
         (rw (masked-is t c h) at
-        (gate-next (s .lawful) bound (M (suc t)) (book (suc t)) c h masked-below (drawn-below _) (suc t) (omega arith) (omega arith) before-masked (s .kinds) j b))
+        (gate-next (s .lawful) (T .bound) (M (suc t)) (book (suc t)) c h masked-below (drawn-below _) (suc t) (omega arith) (omega arith) before-masked (s .kinds) j b))
 
-  running-first : (c j : ℕ) → c < n → j < 2 → R 1 (runningAt j c) ≡ clear 1 c j
+  running-first : (c j : ℕ) → c < T .params .n → j < 2 → R 1 (runningAt j c) ≡ clear 1 c j
   unfolding running
   running-first c j h b =
-      let l : O 0 c < p .modulus = rw (opened-first c h) (y-below c) in
+      let l : O 0 c < T .params .scale .modulus = rw (opened-first c h) (y-below c) in
       step-running s 0 j c b h
-      ∙ sum-plain (s .lawful) bound (O 0) (book 0) c h l (drawn-below _) 0 j (omega arith)
-      ∙ first-clear (s .lawful) n bound (O 0 c) (r c) l (drawn-below _) kind j (s .kinds) b
+      ∙ sum-plain (s .lawful) (T .bound) (O 0) (book 0) c h l (drawn-below _) 0 j (omega arith)
+      ∙ first-clear (s .lawful) (T .params .n) (T .bound) (O 0 c) (r c) l (drawn-below _) (T .params .kind) j (s .kinds) b
       ∙ rw (opened-first c h)
 
-  pub running-is : (t c : ℕ) → t < 5 → c < n → (j : ℕ) → j < 2 → R (suc t) (runningAt j c) ≡ clear (suc t) c j
+  pub running-is : (t c : ℕ) → t < 5 → c < T .params .n → (j : ℕ) → j < 2 → R (suc t) (runningAt j c) ≡ clear (suc t) c j
   running-is zero c l h j b = running-first c j h b
   running-is (suc t) c l h j b = running-gate t c (omega arith) h (running-is t c (omega arith) h) j b

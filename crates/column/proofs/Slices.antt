@@ -12,16 +12,17 @@ use lib.ListN.{length, getD}
 use Rattle.lists.specs.Lists.{fill}
 use Rattle.lists.proofs.Fill.{fill-at, fill-before, fill-behind, length-fill}
 use Rattle.field.specs.Forms.{Registers, value}
-use Rattle.settings.specs.Sets.{Scale}
+use Rattle.settings.specs.Settings.{Terms}
 use Rattle.settings.specs.Sizes.{openings, places}
 use Rattle.slice.specs.Layout.{ownAt, column, ownIn, maskedIn}
 use Rattle.steps.specs.Steps.{Public, publicOf, openInput, opening}
 use Rattle.steps.specs.Work.{openingOn, takenColumn, takenColumns, takenWork}
-use Rattle.column.proofs.Columns.{stepped, taking, maskedAfter, openings-most, column-same, length-taken, taken-before, taken-behind, column-taken, own-taken}
+use Rattle.settings.proofs.Sizes.{openings-most}
+use Rattle.column.proofs.Columns.{stepped, taking, maskedAfter, column-same, length-taken, taken-before, taken-behind, column-taken, own-taken}
 
 -- ---- the first columns
 
-module _ (w : Public) (round : ℕ) (opened : ℕ → ℕ) (most : w .n ≤ 8) (κs s : List ℕ) where
+module _ (w : Public) (round : ℕ) (opened : ℕ → ℕ) (most : w .params .n ≤ 8) (κs s : List ℕ) where
   abbrev after : ℕ → List ℕ
   after d = takenColumns w round opened κs s d
 
@@ -68,10 +69,10 @@ module _ (w : Public) (round : ℕ) (opened : ℕ → ℕ) (most : w .n ≤ 8) (
         ∙ column-taken w round opened most c κ (after c) (omega (arith, length-columns c)) i
         ∙ ap (λ (r : Registers). stepped w round opened κ r i) (waiting-column c)
 
-    pub own-columns : (d : ℕ) → c < d → (o : ℕ) → o < openings (w .kind) (w .n) round → ownIn (after d) c o ≡ openingOn w round κ (column s c) o
+    pub own-columns : (d : ℕ) → c < d → (o : ℕ) → o < openings (w .params) round → ownIn (after d) c o ≡ openingOn w round κ (column s c) o
     unfolding ownIn
     own-columns d h o l =
-        let k = openings-most (w .kind) (w .n) round most in
+        let k = openings-most (w .params) round most in
         done d (ownAt o) h (omega arith)
         ∙ own-taken w round opened most c κ (after c) (omega (arith, length-columns c)) o l
         ∙ ap (λ (r : Registers). openingOn w round κ r o) (waiting-column c)
@@ -111,39 +112,39 @@ module _ (s : List ℕ) (n : ℕ) (f : ℕ → ℕ) (most : n ≤ 8) where
 -- ---- the whole slice
 
 -- in round 1 nothing that is opened depends on the masked numbers
-opening-taking : (p : Scale) (kind n bound round : ℕ) (opened masked : ℕ → ℕ) (o : ℕ)
-    → opening (taking p kind n bound round opened masked) round o ≡ opening (publicOf p kind n bound masked) round o
+opening-taking : (T : Terms) (round : ℕ) (opened masked : ℕ → ℕ) (o : ℕ)
+    → opening (taking T round opened masked) round o ≡ opening (publicOf T masked) round o
 unfolding opening openInput
-opening-taking p kind n bound round opened masked o = go (ℕ-discrete round 1)
+opening-taking T round opened masked o = go (ℕ-discrete round 1)
   where
-    go : Dec (round ≡ 1) → opening (taking p kind n bound round opened masked) round o ≡ opening (publicOf p kind n bound masked) round o
+    go : Dec (round ≡ 1) → opening (taking T round opened masked) round o ≡ opening (publicOf T masked) round o
     go (yes e) = rw e
     go (no h) = rw (ne-eqb round 1 h)
 
-module _ (p : Scale) (kind n bound round : ℕ) (opened : ℕ → ℕ) (κs s : List ℕ) (most : n ≤ 8) where
+module _ (T : Terms) (round : ℕ) (opened : ℕ → ℕ) (κs s : List ℕ) (most : (T .params .n) ≤ 8) where
   abbrev w : Public
-  w = taking p kind n bound round opened (maskedIn s)
+  w = taking T round opened (maskedIn s)
 
   abbrev all : List ℕ
   all = takenColumns w round opened κs s (length κs)
 
   abbrev work : List ℕ
-  work = takenWork p kind n bound round opened κs s
+  work = takenWork T round opened κs s
 
   pub length-work : length work ≡ length s
   unfolding takenWork
   length-work = go (eqb round 1) ∙ length-columns w round opened most κs s (length κs)
     where
-      go : (b : Bool) → length (cond b (fill all 1376 n opened) all) ≡ length all
-      go true = length-fill all 1376 n opened
+      go : (b : Bool) → length (cond b (fill all 1376 (T .params .n) opened) all) ≡ length all
+      go true = length-fill all 1376 (T .params .n) opened
       go false = refl
 
   place-work : (c i : ℕ) → i < 1376 → getD work (c * places + i) 0 ≡ getD all (c * places + i) 0
   unfolding takenWork
   place-work c i l = go (eqb round 1)
     where
-      go : (b : Bool) → getD (cond b (fill all 1376 n opened) all) (c * places + i) 0 ≡ getD all (c * places + i) 0
-      go true = masked-place all n opened most c i l
+      go : (b : Bool) → getD (cond b (fill all 1376 (T .params .n) opened) all) (c * places + i) 0 ≡ getD all (c * places + i) 0
+      go true = masked-place all (T .params .n) opened most c i l
       go false = refl
 
   module _ (c : ℕ) (here : c < length κs) (room : c * places + places ≤ length s) where
@@ -151,21 +152,21 @@ module _ (p : Scale) (kind n bound round : ℕ) (opened : ℕ → ℕ) (κs s : 
     column-work i =
         column-same work all c (λ k l. place-work c k (omega arith)) i ∙ column-columns w round opened most κs s c room (length κs) here i
 
-    pub own-work : (o : ℕ) → o < openings kind n round → ownIn work c o ≡ openingOn (publicOf p kind n bound (maskedIn s)) round (getD κs c 0) (column s c) o
+    pub own-work : (o : ℕ) → o < openings (T .params) round → ownIn work c o ≡ openingOn (publicOf T (maskedIn s)) round (getD κs c 0) (column s c) o
     unfolding ownIn
     own-work o l =
-        let k = openings-most kind n round most in
+        let k = openings-most (T .params) round most in
         place-work c (ownAt o) (omega arith)
         ∙ (unfold ownIn in own-columns w round opened most κs s c room (length κs) here o l)
-        ∙ ap (value (p .modulus) (getD κs c 0) (column s c)) (opening-taking p kind n bound round opened (maskedIn s) o)
+        ∙ ap (value (T .params .scale .modulus) (getD κs c 0) (column s c)) (opening-taking T round opened (maskedIn s) o)
 
-  pub masked-work : places ≤ length s → (c : ℕ) → maskedIn work c ≡ maskedAfter n round opened (maskedIn s) c
+  pub masked-work : places ≤ length s → (c : ℕ) → maskedIn work c ≡ maskedAfter (T .params .n) round opened (maskedIn s) c
   unfolding takenWork
   masked-work r c = go (eqb round 1)
     where
       same : maskedIn all c ≡ maskedIn s c
       same = masked-columns w round opened most κs s (length κs) c
 
-      go : (b : Bool) → maskedIn (cond b (fill all 1376 n opened) all) c ≡ cond b (cond (ltb c n) (opened c) (maskedIn s c)) (maskedIn s c)
-      go true = masked-fill all n opened most (omega (arith, length-columns w round opened most κs s (length κs))) c ∙ ap (cond (ltb c n) (opened c)) same
+      go : (b : Bool) → maskedIn (cond b (fill all 1376 (T .params .n) opened) all) c ≡ cond b (cond (ltb c (T .params .n)) (opened c) (maskedIn s c)) (maskedIn s c)
+      go true = masked-fill all (T .params .n) opened most (omega (arith, length-columns w round opened most κs s (length κs))) c ∙ ap (cond (ltb c (T .params .n)) (opened c)) same
       go false = same

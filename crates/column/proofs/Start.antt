@@ -9,7 +9,7 @@ use lib.ListN.{length, getD}
 use Rattle.lists.proofs.Questions.{both-yes}
 use Rattle.lists.proofs.Lists.{getD-listTo}
 use Rattle.field.specs.Forms.{Registers, put}
-use Rattle.settings.specs.Sets.{Scale}
+use Rattle.settings.specs.Settings.{Params, Terms}
 use Rattle.settings.specs.Sizes.{openings, shared, widthOf, places}
 use Rattle.book.specs.Book.{drawn}
 use Rattle.book.specs.Book as Book
@@ -34,39 +34,39 @@ put-at r a n f k h =
 
 -- ---- a slice of one column
 
-module _ (p : Scale) (kind n : ℕ) (inputs book : List ℕ) where
+module _ (p : Params) (inputs book : List ℕ) where
   abbrev begun : Registers
-  begun = column (begunWork p kind n 1 inputs book) 0
+  begun = column (begunWork p 1 inputs book) 0
 
-  begun-column : (i : ℕ) → i < 1344 → begun i ≡ begunPlace (shared p kind n) n 1 inputs book 0 i
+  begun-column : (i : ℕ) → i < 1344 → begun i ≡ begunPlace (shared p) (p .n) 1 inputs book 0 i
   unfolding column
-  begun-column i h = rw (lt-ltb i 1344 h) (begun-at p kind n 1 inputs book 0 i (omega arith) (omega arith))
+  begun-column i h = rw (lt-ltb i 1344 h) (begun-at p 1 inputs book 0 i (omega arith) (omega arith))
 
-  begun-book : shared p kind n ≤ inputAt 0 → (i : ℕ) → i < shared p kind n → begun i ≡ getD book i 0
+  begun-book : shared p ≤ inputAt 0 → (i : ℕ) → i < shared p → begun i ≡ getD book i 0
   unfolding begunPlace
   begun-book room i h =
       let z : i * 1 + 0 ≡ i = omega arith in
-      begun-column i (omega arith) ∙ rw (lt-ltb i (shared p kind n) h, z)
+      begun-column i (omega arith) ∙ rw (lt-ltb i (shared p) h, z)
 
-  begun-input : shared p kind n ≤ inputAt 0 → n ≤ 8 → (c : ℕ) → c < n → begun (inputAt c) ≡ getD inputs c 0
+  begun-input : shared p ≤ inputAt 0 → (p .n) ≤ 8 → (c : ℕ) → c < p .n → begun (inputAt c) ≡ getD inputs c 0
   unfolding begunPlace
   begun-input room most c h =
       let z : (1320 + c - 1320) * 1 + 0 ≡ c = omega arith in
       begun-column (inputAt c) (omega arith)
-      ∙ rw (le-ltb (1320 + c) (shared p kind n) (omega arith), le-leb 1320 (1320 + c) (omega arith), lt-ltb (1320 + c) (1320 + n) (omega arith), z)
+      ∙ rw (le-ltb (1320 + c) (shared p) (omega arith), le-leb 1320 (1320 + c) (omega arith), lt-ltb (1320 + c) (1320 + p .n) (omega arith), z)
 
 -- ---- the plain run
 
-module _ {p : Scale} {kind n bound k : ℕ} {draw secret : List ℕ} (s : Sound p kind n bound k draw secret) where
-  pub few : n ≤ 8
-  few = leb-true n 8 (both-yes (leb 1 n) (leb n 8) (s .counts) .1)
+module _ {T : Terms} {k : ℕ} {draw secret : List ℕ} (s : Sound T k draw secret) where
+  pub few : (T .params .n) ≤ 8
+  few = leb-true (T .params .n) 8 (both-yes (leb 1 (T .params .n)) (leb (T .params .n) 8) (s .counts) .1)
 
-  pub some : 1 ≤ n
-  some = leb-true 1 n (both-yes (leb 1 n) (leb n 8) (s .counts) .0)
+  pub some : 1 ≤ T .params .n
+  some = leb-true 1 (T .params .n) (both-yes (leb 1 (T .params .n)) (leb (T .params .n) 8) (s .counts) .0)
 
   -- slice, registers and masked numbers after so many rounds; the numbers opened next
   abbrev slice : ℕ → List ℕ
-  slice t = plainAfter p kind n bound (widthOf k) draw secret t
+  slice t = plainAfter T (widthOf k) draw secret t
 
   abbrev pub regs : ℕ → Registers
   regs t = column (slice t) 0
@@ -75,35 +75,35 @@ module _ {p : Scale} {kind n bound k : ℕ} {draw secret : List ℕ} (s : Sound 
   masks t = maskedIn (slice t)
 
   abbrev pub opens : ℕ → ℕ → ℕ
-  opens t o = getD (openedFrom p kind n bound (widthOf k) draw secret (suc t) (slice t)) o 0
+  opens t o = getD (openedFrom T (widthOf k) draw secret (suc t) (slice t)) o 0
 
-  pub opens-is : (t o : ℕ) → o < openings kind n (suc t) → opens t o ≡ openingOn (publicOf p kind n bound (masks t)) (suc t) 1 (regs t) o
+  pub opens-is : (t o : ℕ) → o < openings (T .params) (suc t) → opens t o ≡ openingOn (publicOf T (masks t)) (suc t) 1 (regs t) o
   unfolding openedFrom
-  opens-is t o h = getD-listTo (openings kind n (suc t)) (openingOn (publicOf p kind n bound (masks t)) (suc t) 1 (regs t)) o 0 h
+  opens-is t o h = getD-listTo (openings (T .params) (suc t)) (openingOn (publicOf T (masks t)) (suc t) 1 (regs t)) o 0 h
 
   length-slice : (t : ℕ) → length (slice t) ≡ places
   unfolding plainAfter plainStart
-  length-slice zero = begun-length p kind n 1 secret (plainBook p kind n bound (widthOf k) draw secret)
-  length-slice (suc t) = length-work p kind n bound (suc t) (opens t) (1 ∷ []) (slice t) few ∙ length-slice t
+  length-slice zero = begun-length (T .params) 1 secret (plainBook T (widthOf k) draw secret)
+  length-slice (suc t) = length-work T (suc t) (opens t) (1 ∷ []) (slice t) few ∙ length-slice t
 
-  step-is : (t i : ℕ) → regs (suc t) i ≡ stepped (taking p kind n bound (suc t) (opens t) (masks t)) (suc t) (opens t) 1 (regs t) i
+  step-is : (t i : ℕ) → regs (suc t) i ≡ stepped (taking T (suc t) (opens t) (masks t)) (suc t) (opens t) 1 (regs t) i
   unfolding plainAfter
-  step-is t i = column-work p kind n bound (suc t) (opens t) (1 ∷ []) (slice t) few 0 (omega arith) (omega (arith, length-slice t)) i
+  step-is t i = column-work T (suc t) (opens t) (1 ∷ []) (slice t) few 0 (omega arith) (omega (arith, length-slice t)) i
 
-  pub step-masked : (t c : ℕ) → masks (suc t) c ≡ maskedAfter n (suc t) (opens t) (masks t) c
+  pub step-masked : (t c : ℕ) → masks (suc t) c ≡ maskedAfter (T .params .n) (suc t) (opens t) (masks t) c
   unfolding plainAfter
-  step-masked t c = masked-work p kind n bound (suc t) (opens t) (1 ∷ []) (slice t) few (omega (arith, length-slice t)) c
+  step-masked t c = masked-work T (suc t) (opens t) (1 ∷ []) (slice t) few (omega (arith, length-slice t)) c
 
   -- the running register j of coefficient c after the next round
   abbrev pub next : ℕ → ℕ → ℕ → ℕ
-  next t j = runningOn (taking p kind n bound (suc t) (opens t) (masks t)) (suc t) (opens t) 1 (regs t) j
+  next t j = runningOn (taking T (suc t) (opens t) (masks t)) (suc t) (opens t) 1 (regs t) j
 
-  pub step-running : (t j c : ℕ) → j < 2 → c < n → regs (suc t) (runningAt j c) ≡ next t j c
+  pub step-running : (t j c : ℕ) → j < 2 → c < T .params .n → regs (suc t) (runningAt j c) ≡ next t j c
   step-running t j c l h = step-is t (runningAt j c) ∙ go j l
     where
-      go : (j : ℕ) → j < 2 → put (put (regs t) 1328 n (next t 0)) 1336 n (next t 1) (runningAt j c) ≡ next t j c
-      go zero l = put-before (put (regs t) 1328 n (next t 0)) 1336 n (next t 1) (1328 + c) (omega (arith, few)) ∙ put-at (regs t) 1328 n (next t 0) c h
-      go (suc zero) l = put-at (put (regs t) 1328 n (next t 0)) 1336 n (next t 1) c h
+      go : (j : ℕ) → j < 2 → put (put (regs t) 1328 (T .params .n) (next t 0)) 1336 (T .params .n) (next t 1) (runningAt j c) ≡ next t j c
+      go zero l = put-before (put (regs t) 1328 (T .params .n) (next t 0)) 1336 (T .params .n) (next t 1) (1328 + c) (omega (arith, few)) ∙ put-at (regs t) 1328 (T .params .n) (next t 0) c h
+      go (suc zero) l = put-at (put (regs t) 1328 (T .params .n) (next t 0)) 1336 (T .params .n) (next t 1) c h
       go (suc (suc j)) l = absurd (omega arith)
 
   -- book and inputs stay
@@ -111,18 +111,18 @@ module _ {p : Scale} {kind n bound k : ℕ} {draw secret : List ℕ} (s : Sound 
   regs-stay zero i h = refl
   regs-stay (suc t) i h =
       step-is t i
-      ∙ put-before (put (regs t) 1328 n (next t 0)) 1336 n (next t 1) i (omega arith)
-      ∙ put-before (regs t) 1328 n (next t 0) i h
+      ∙ put-before (put (regs t) 1328 (T .params .n) (next t 0)) 1336 (T .params .n) (next t 1) i (omega arith)
+      ∙ put-before (regs t) 1328 (T .params .n) (next t 0) i h
       ∙ regs-stay t i h
 
-  pub book-held : (t : ℕ) → Held p kind n (regs t) (drawn p kind n (widthOf k) draw)
+  pub book-held : (t : ℕ) → Held (T .params) (regs t) (drawn (T .params) (widthOf k) draw)
   unfolding plainAfter plainStart plainBook
   book-held t =
-      held p kind n (widthOf k) draw (regs t)
+      held (T .params) (widthOf k) draw (regs t)
       (λ i h. regs-stay t i (omega arith)
-      ∙ begun-book p kind n secret (plainBook p kind n bound (widthOf k) draw secret) (s .room) i h
-      ∙ getD-listTo (shared p kind n) (Book.value p kind n (widthOf k) draw) i 0 h)
+      ∙ begun-book (T .params) secret (plainBook T (widthOf k) draw secret) (s .room) i h
+      ∙ getD-listTo (shared (T .params)) (Book.value (T .params) (widthOf k) draw) i 0 h)
 
-  pub input-held : (c : ℕ) → c < n → regs 0 (inputAt c) ≡ getD secret c 0
+  pub input-held : (c : ℕ) → c < T .params .n → regs 0 (inputAt c) ≡ getD secret c 0
   unfolding plainAfter plainStart
-  input-held c h = begun-input p kind n secret (plainBook p kind n bound (widthOf k) draw secret) (s .room) few c h
+  input-held c h = begun-input (T .params) secret (plainBook T (widthOf k) draw secret) (s .room) few c h

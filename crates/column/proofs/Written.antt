@@ -14,7 +14,7 @@ use borrow.Author.Tests.{lt-ltb, le-ltb, eq-eqb, ne-eqb}
 use Rattle.lists.specs.Lists.{fill}
 use Rattle.lists.proofs.Fill.{length-fill, front-at, fill-same, fill-behind, copy-two}
 use Rattle.field.specs.Forms.{value}
-use Rattle.settings.specs.Sets.{Scale}
+use Rattle.settings.specs.Settings.{Terms}
 use Rattle.settings.specs.Sizes.{openings, places}
 use Rattle.slice.specs.Layout.{runningAt, ownAt, column, maskedIn}
 use Rattle.steps.specs.Steps.{Public, publicOf, openInput, opening, vectorSum, running}
@@ -59,31 +59,31 @@ put-is s s₁ s₂ s₃ t u a b c k n f e₁ e₂ e₃ =
 
 -- registers worked out elsewhere and copied behind the own numbers: a column after a round
 pub taken-is : (w : Public) (round : ℕ) (opened : ℕ → ℕ) (c κ count : ℕ) (work own z₀ z₁ first second out : List ℕ)
-    → count ≡ openings (w .kind) (w .n) round → Held w round κ (column work c) own c
-    → first ≡ fill z₀ 0 (w .n) (runningOn w round opened κ (column work c) 0) → w .n ≤ length z₀
-    → second ≡ fill z₁ 0 (w .n) (runningOn w round opened κ (column work c) 1) → w .n ≤ length z₁
+    → count ≡ openings (w .params) round → Held w round κ (column work c) own c
+    → first ≡ fill z₀ 0 (w .params .n) (runningOn w round opened κ (column work c) 0) → w .params .n ≤ length z₀
+    → second ≡ fill z₁ 0 (w .params .n) (runningOn w round opened κ (column work c) 1) → w .params .n ≤ length z₁
     → out ≡ fill (fill (fill work (c * places + ownAt 0) count (λ (o : ℕ). getD own (32 * c + o) 0))
-    (c * places + runningAt 0 0) (w .n) (λ (j : ℕ). getD first j 0))
-    (c * places + runningAt 1 0) (w .n) (λ (j : ℕ). getD second j 0)
+    (c * places + runningAt 0 0) (w .params .n) (λ (j : ℕ). getD first j 0))
+    (c * places + runningAt 1 0) (w .params .n) (λ (j : ℕ). getD second j 0)
     → out ≡ takenColumn w round opened c κ work
 unfolding takenColumn
 taken-is w round opened c κ count work own z₀ z₁ first second out ec held e₀ h₀ e₁ h₁ e =
     let numbers : ℕ → ℕ = λ (o : ℕ). getD own (32 * c + o) 0 in
     let run : ℕ → ℕ → ℕ = runningOn w round opened κ (column work c) in
-    copy-two _ _ out first second z₀ z₁ (c * places + runningAt 0 0) (c * places + runningAt 1 0) (w .n) (run 0) (run 1) e₀ e₁ h₀ h₁ refl e
-    ∙ ap (λ (l : List ℕ). fill (fill l (c * places + runningAt 0 0) (w .n) (run 0)) (c * places + runningAt 1 0) (w .n) (run 1))
+    copy-two _ _ out first second z₀ z₁ (c * places + runningAt 0 0) (c * places + runningAt 1 0) (w .params .n) (run 0) (run 1) e₀ e₁ h₀ h₁ refl e
+    ∙ ap (λ (l : List ℕ). fill (fill l (c * places + runningAt 0 0) (w .params .n) (run 0)) (c * places + runningAt 1 0) (w .params .n) (run 1))
     (ap (λ (k : ℕ). fill work (c * places + ownAt 0) k numbers) ec ∙ fill-same work (c * places + ownAt 0) _ numbers (openingOn w round κ (column work c)) held)
 
 -- ---- Columns that a round leaves as they were
 
-module _ (w : Public) (round : ℕ) (opened : ℕ → ℕ) (few : w .n ≤ 8) where
+module _ (w : Public) (round : ℕ) (opened : ℕ → ℕ) (few : w .params .n ≤ 8) where
   -- taking a column changes no column behind it
   behind : (c κ : ℕ) (work : List ℕ) (d i : ℕ) → c < d → getD (takenColumn w round opened c κ work) (d * places + i) 0 ≡ getD work (d * places + i) 0
   unfolding takenColumn
   behind c κ work d i h =
-      fill-behind _ (c * places + runningAt 1 0) (w .n) _ (d * places + i) (omega arith)
-      ∙ fill-behind _ (c * places + runningAt 0 0) (w .n) _ (d * places + i) (omega arith)
-      ∙ fill-behind work (c * places + ownAt 0) (openings (w .kind) (w .n) round) _ (d * places + i) (omega (arith, openings-most (w .kind) (w .n) round few))
+      fill-behind _ (c * places + runningAt 1 0) (w .params .n) _ (d * places + i) (omega arith)
+      ∙ fill-behind _ (c * places + runningAt 0 0) (w .params .n) _ (d * places + i) (omega arith)
+      ∙ fill-behind work (c * places + ownAt 0) (openings (w .params) round) _ (d * places + i) (omega (arith, openings-most (w .params) round few))
 
   later : (κs work : List ℕ) (c d i : ℕ) → c ≤ d → getD (takenColumns w round opened κs work c) (d * places + i) 0 ≡ getD work (d * places + i) 0
   unfolding takenColumns
@@ -102,45 +102,45 @@ module _ (w : Public) (round : ℕ) (opened : ℕ → ℕ) (few : w .n ≤ 8) wh
 -- ---- Whose masked numbers a round looks at
 
 -- those of the slice, copied, are those of the slice
-pub public-same : (p : Scale) (kind n bound : ℕ) (m₁ m₂ : ℕ → ℕ) → ((c : ℕ) → m₁ c ≡ m₂ c) → publicOf p kind n bound m₁ ≡ publicOf p kind n bound m₂
-public-same p kind n bound m₁ m₂ h = ap (publicOf p kind n bound) (fun-ext h)
+pub public-same : (T : Terms) (m₁ m₂ : ℕ → ℕ) → ((c : ℕ) → m₁ c ≡ m₂ c) → publicOf T m₁ ≡ publicOf T m₂
+public-same T m₁ m₂ h = ap (publicOf T) (fun-ext h)
 
-pub held-same : (p : Scale) (kind n bound : ℕ) (m₁ m₂ : ℕ → ℕ) (round : ℕ) (κs work own : List ℕ) → ((c : ℕ) → m₁ c ≡ m₂ c)
-    → HeldAll (publicOf p kind n bound m₂) round κs work own → HeldAll (publicOf p kind n bound m₁) round κs work own
-held-same p kind n bound m₁ m₂ round κs work own h held =
-    subst (λ (m : ℕ → ℕ). HeldAll (publicOf p kind n bound m) round κs work own) (fun-ext (λ c. sym (h c))) held
+pub held-same : (T : Terms) (m₁ m₂ : ℕ → ℕ) (round : ℕ) (κs work own : List ℕ) → ((c : ℕ) → m₁ c ≡ m₂ c)
+    → HeldAll (publicOf T m₂) round κs work own → HeldAll (publicOf T m₁) round κs work own
+held-same T m₁ m₂ round κs work own h held =
+    subst (λ (m : ℕ → ℕ). HeldAll (publicOf T m) round κs work own) (fun-ext (λ c. sym (h c))) held
 
 -- round 1 opens nothing that depends on them, and looks only at those of the n coefficients
-module _ (p : Scale) (kind n bound : ℕ) (m₁ m₂ : ℕ → ℕ) (round : ℕ) (one : round ≡ 1) where
+module _ (T : Terms) (m₁ m₂ : ℕ → ℕ) (round : ℕ) (one : round ≡ 1) where
   abbrev w₁ : Public
-  w₁ = publicOf p kind n bound m₁
+  w₁ = publicOf T m₁
 
   abbrev w₂ : Public
-  w₂ = publicOf p kind n bound m₂
+  w₂ = publicOf T m₂
 
   opening-first : (o : ℕ) → opening w₁ round o ≡ opening w₂ round o
   unfolding opening openInput
   opening-first o = rw one
 
   pub held-first : (κs work own : List ℕ) → HeldAll w₁ round κs work own → HeldAll w₂ round κs work own
-  held-first κs work own held c h o l = held c h o l ∙ ap (value (p .modulus) (getD κs c 0) (column work c)) (opening-first o)
+  held-first κs work own held c h o l = held c h o l ∙ ap (value (T .params .scale .modulus) (getD κs c 0) (column work c)) (opening-first o)
 
-  module _ (opened : ℕ → ℕ) (same : (c : ℕ) → c < n → m₁ c ≡ m₂ c) where
-    running-first : (k c : ℕ) → c < n → running w₁ round opened k c ≡ running w₂ round opened k c
+  module _ (opened : ℕ → ℕ) (same : (c : ℕ) → c < T .params .n → m₁ c ≡ m₂ c) where
+    running-first : (k c : ℕ) → c < T .params .n → running w₁ round opened k c ≡ running w₂ round opened k c
     unfolding running vectorSum
     running-first k c h = rw (one, same c h)
 
     column-first : (c κ : ℕ) (work : List ℕ) → takenColumn w₁ round opened c κ work ≡ takenColumn w₂ round opened c κ work
     unfolding takenColumn
     column-first c κ work =
-        fill-same _ _ n (runningOn w₁ round opened κ (column work c) 1) (runningOn w₂ round opened κ (column work c) 1)
-        (λ j h. ap (value (p .modulus) κ (column work c)) (running-first 1 j h))
-        ∙ ap (λ (l : List ℕ). fill l (c * places + runningAt 1 0) n (runningOn w₂ round opened κ (column work c) 1))
-        (fill-same _ _ n (runningOn w₁ round opened κ (column work c) 0) (runningOn w₂ round opened κ (column work c) 0)
-        (λ j h. ap (value (p .modulus) κ (column work c)) (running-first 0 j h))
-        ∙ ap (λ (l : List ℕ). fill l (c * places + runningAt 0 0) n (runningOn w₂ round opened κ (column work c) 0))
-        (fill-same work (c * places + ownAt 0) (openings kind n round) (openingOn w₁ round κ (column work c)) (openingOn w₂ round κ (column work c))
-        (λ o h. ap (value (p .modulus) κ (column work c)) (opening-first o))))
+        fill-same _ _ (T .params .n) (runningOn w₁ round opened κ (column work c) 1) (runningOn w₂ round opened κ (column work c) 1)
+        (λ j h. ap (value (T .params .scale .modulus) κ (column work c)) (running-first 1 j h))
+        ∙ ap (λ (l : List ℕ). fill l (c * places + runningAt 1 0) (T .params .n) (runningOn w₂ round opened κ (column work c) 1))
+        (fill-same _ _ (T .params .n) (runningOn w₁ round opened κ (column work c) 0) (runningOn w₂ round opened κ (column work c) 0)
+        (λ j h. ap (value (T .params .scale .modulus) κ (column work c)) (running-first 0 j h))
+        ∙ ap (λ (l : List ℕ). fill l (c * places + runningAt 0 0) (T .params .n) (runningOn w₂ round opened κ (column work c) 0))
+        (fill-same work (c * places + ownAt 0) (openings (T .params) round) (openingOn w₁ round κ (column work c)) (openingOn w₂ round κ (column work c))
+        (λ o h. ap (value (T .params .scale .modulus) κ (column work c)) (opening-first o))))
 
     pub columns-first : (κs work : List ℕ) (c : ℕ) → takenColumns w₁ round opened κs work c ≡ takenColumns w₂ round opened κs work c
     unfolding takenColumns
@@ -151,27 +151,27 @@ module _ (p : Scale) (kind n bound : ℕ) (m₁ m₂ : ℕ → ℕ) (round : ℕ
 
 -- ---- The whole slice
 
-module _ (p : Scale) (kind n bound round : ℕ) (opened κs work ys after : List ℕ) where
+module _ (T : Terms) (round : ℕ) (opened κs work ys after : List ℕ) where
   abbrev numbers : ℕ → ℕ
   numbers o = getD opened o 0
 
   abbrev held : ℕ → ℕ
   held c = getD ys c 0
 
-  pub work-first : (out : List ℕ) → round ≡ 1 → ((c : ℕ) → c < n → getD ys c 0 ≡ getD opened c 0)
-      → after ≡ takenColumns (publicOf p kind n bound held) round numbers κs work (length κs)
-      → out ≡ fill after 1376 n (λ (j : ℕ). getD opened (0 + j) 0)
-      → out ≡ takenWork p kind n bound round numbers κs work
+  pub work-first : (out : List ℕ) → round ≡ 1 → ((c : ℕ) → c < T .params .n → getD ys c 0 ≡ getD opened c 0)
+      → after ≡ takenColumns (publicOf T held) round numbers κs work (length κs)
+      → out ≡ fill after 1376 (T .params .n) (λ (j : ℕ). getD opened (0 + j) 0)
+      → out ≡ takenWork T round numbers κs work
   unfolding takenWork
   work-first out one same e f =
       rw (eq-eqb round 1 one)
-      (f ∙ from-start after opened 1376 n
-      ∙ ap (λ (l : List ℕ). fill l 1376 n numbers) (e ∙ columns-first p kind n bound held numbers round one numbers same κs work (length κs)))
+      (f ∙ from-start after opened 1376 (T .params .n)
+      ∙ ap (λ (l : List ℕ). fill l 1376 (T .params .n) numbers) (e ∙ columns-first T held numbers round one numbers same κs work (length κs)))
 
   pub work-later : round ≢ 1 → ((c : ℕ) → getD ys c 0 ≡ maskedIn work c)
-      → after ≡ takenColumns (publicOf p kind n bound held) round numbers κs work (length κs)
-      → after ≡ takenWork p kind n bound round numbers κs work
+      → after ≡ takenColumns (publicOf T held) round numbers κs work (length κs)
+      → after ≡ takenWork T round numbers κs work
   unfolding takenWork
   work-later not same e =
       rw (ne-eqb round 1 not)
-      (e ∙ ap (λ (w : Public). takenColumns w round numbers κs work (length κs)) (public-same p kind n bound held (maskedIn work) same))
+      (e ∙ ap (λ (w : Public). takenColumns w round numbers κs work (length κs)) (public-same T held (maskedIn work) same))

@@ -8,33 +8,33 @@ use lib.ListN.{getD}
 use Rattle.lists.specs.Answers.{bit}
 use Rattle.field.specs.Field.{add, sub}
 use Rattle.field.specs.Sums.{sumTo}
-use Rattle.settings.specs.Sets.{Scale}
+use Rattle.settings.specs.Settings.{Terms}
 use Rattle.rounding.specs.Digits.{digit}
 use Rattle.rounding.specs.Rounds.{carryInto, zeroDigit, topSum, top, over, missing, threshold, belowUpTo, insideResult}
 use Rattle.book.specs.Book.{groupGap, maskAt, tripleAt, groupAt, drawn}
 use Rattle.slice.specs.Weights.{weigh, ruleOf}
 use Rattle.steps.specs.Steps.{lookedAt, limitOf, shiftOf}
 
-module _ (p : Scale) (kind n bound : ℕ) where
+module _ (T : Terms) where
   -- the running register k after so many rounds, 1 to 5.
   -- HIGH: the carry, at last F; the zeros so far, at last with G. BOUND: are the lowest digits of r below those of the threshold?
   unfoldable pub clearRunning : ℕ → ℕ → ℕ → ℕ → ℕ
   clearRunning y r rounds k =
-      cond (eqb kind 0)
+      cond (eqb (T .params .kind) 0)
       (cond (eqb k 0)
-      (cond (leb rounds 4) (carryInto p y r rounds) (top (p .parts) (topSum p y r)))
-      (cond (leb rounds 4) (sumTo rounds (zeroDigit p y r)) (sumTo 4 (zeroDigit p y r) + over (p .parts) (topSum p y r))))
-      (belowUpTo p r (threshold (p .modulus) bound k y) rounds)
+      (cond (leb rounds 4) (carryInto (T .params .scale) y r rounds) (top (T .params .scale .parts) (topSum (T .params .scale) y r)))
+      (cond (leb rounds 4) (sumTo rounds (zeroDigit (T .params .scale) y r)) (sumTo 4 (zeroDigit (T .params .scale) y r) + over (T .params .scale .parts) (topSum (T .params .scale) y r))))
+      (belowUpTo (T .params .scale) r (threshold (T .params .scale .modulus) (T .bound) k y) rounds)
 
   -- u (part 0) and v (part 1) of gate k of digit i, 1 to 4
   unfoldable pub clearFactor : ℕ → ℕ → ℕ → ℕ → ℕ → ℕ
   clearFactor y r i k part =
-      let j = digit p r i in
-      let d = digit p (lookedAt (p .modulus) kind bound k y) i in
-      cond (eqb kind 0)
+      let j = digit (T .params .scale) r i in
+      let d = digit (T .params .scale) (lookedAt (T .params .scale .modulus) (T .params .kind) (T .bound) k y) i in
+      cond (eqb (T .params .kind) 0)
       (cond (eqb part 0)
       (clearRunning y r i 0)
-      (sub (p .modulus) (weigh (ruleOf kind i k) (limitOf p i) (d + 1) j) (weigh (ruleOf kind i k) (limitOf p i) d j)))
+      (sub (T .params .scale .modulus) (weigh (ruleOf (T .params .kind) i k) (limitOf (T .params .scale) i) (d + 1) j) (weigh (ruleOf (T .params .kind) i k) (limitOf (T .params .scale) i) d j)))
       (cond (eqb part 0)
       (bit (eqb j d))
       (clearRunning y r i k))
@@ -42,21 +42,21 @@ module _ (p : Scale) (kind n bound : ℕ) where
   -- the n of zero check g, from all the y and r
   unfoldable pub clearChecked : (ℕ → ℕ) → (ℕ → ℕ) → ℕ → ℕ
   clearChecked ys rs g =
-      cond (eqb kind 0) (missing p (ys g) (rs g)) (n - sumTo n (λ (c : ℕ). insideResult p bound (ys c) (rs c)))
+      cond (eqb (T .params .kind) 0) (missing (T .params .scale) (ys g) (rs g)) ((T .params .n) - sumTo (T .params .n) (λ (c : ℕ). insideResult (T .params .scale) (T .bound) (ys c) (rs c)))
 
-module _ (p : Scale) (kind n bound width : ℕ) (draw secret : List ℕ) where
+module _ (T : Terms) (width : ℕ) (draw secret : List ℕ) where
   -- r and y of coefficient c
   unfoldable pub maskOf : ℕ → ℕ
-  maskOf c = drawn p kind n width draw (maskAt p kind c)
+  maskOf c = drawn (T .params) width draw (maskAt (T .params) c)
 
   unfoldable pub maskedOf : ℕ → ℕ
-  maskedOf c = sub (p .modulus) (getD secret c 0 + shiftOf (p .alpha) kind bound) (maskOf c)
+  maskedOf c = sub (T .params .scale .modulus) (getD secret c 0 + shiftOf T) (maskOf c)
 
   -- opening o of rounds 1 to 6
   unfoldable pub clearOpened : ℕ → ℕ → ℕ
   clearOpened round o =
       cond (eqb round 1) (maskedOf o)
       (cond (leb round 5)
-      (sub (p .modulus) (clearFactor p kind n bound (maskedOf (o / 4)) (maskOf (o / 4)) (round - 1) (o / 2 % 2) (o % 2))
-      (drawn p kind n width draw (tripleAt p kind (o / 4) (2 * (round - 2) + o / 2 % 2) + o % 2)))
-      (add (p .modulus) (drawn p kind n width draw (groupAt p kind n o)) (groupGap p kind n * clearChecked p kind n bound maskedOf maskOf o)))
+      (sub (T .params .scale .modulus) (clearFactor T (maskedOf (o / 4)) (maskOf (o / 4)) (round - 1) (o / 2 % 2) (o % 2))
+      (drawn (T .params) width draw (tripleAt (T .params) (o / 4) (2 * (round - 2) + o / 2 % 2) + o % 2)))
+      (add (T .params .scale .modulus) (drawn (T .params) width draw (groupAt (T .params) o)) (groupGap (T .params) * clearChecked T maskedOf maskOf o)))

@@ -3,7 +3,7 @@ use Prim.Native.Nat.{ℕ, zero, suc}
 use mathlib.Core.List.{List, [], _∷_}
 use lib.ListN.{getD}
 use Rattle.lists.specs.Lists.{listTo}
-use Rattle.settings.specs.Sets.{Scale}
+use Rattle.settings.specs.Settings.{Terms}
 use Rattle.settings.specs.Sizes.{openings, shared}
 use Rattle.book.specs.Book.{value}
 use Rattle.slice.specs.Layout.{column, maskedIn, begunWork}
@@ -11,19 +11,19 @@ use Rattle.steps.specs.Steps.{publicOf}
 use Rattle.steps.specs.Work.{openingOn, takenWork}
 
 -- width: of the draw that the book's values are taken from
-module _ (p : Scale) (kind n bound width : ℕ) (draw secret : List ℕ) where
+module _ (T : Terms) (width : ℕ) (draw secret : List ℕ) where
   -- the book's values, in book order
   unfoldable pub plainBook : List ℕ
-  plainBook = listTo (shared p kind n) (value p kind n width draw)
+  plainBook = listTo (shared (T .params)) (value (T .params) width draw)
 
   -- the plain column at the start
   unfoldable pub plainStart : List ℕ
-  plainStart = begunWork p kind n 1 secret plainBook
+  plainStart = begunWork (T .params) 1 secret plainBook
 
   -- the opened numbers of a round, from the plain column before it
   unfoldable pub openedFrom : ℕ → List ℕ → List ℕ
   openedFrom round work =
-      listTo (openings kind n round) (openingOn (publicOf p kind n bound (maskedIn work)) round 1 (column work 0))
+      listTo (openings (T .params) round) (openingOn (publicOf T (maskedIn work)) round 1 (column work 0))
 
   -- the plain column after a number of rounds
   unfoldable pub plainAfter : ℕ → List ℕ
@@ -31,7 +31,7 @@ module _ (p : Scale) (kind n bound width : ℕ) (draw secret : List ℕ) where
   plainAfter (suc rounds) =
       let work = plainAfter rounds in
       let numbers = openedFrom (suc rounds) work in
-      takenWork p kind n bound (suc rounds) (λ (o : ℕ). getD numbers o 0) (1 ∷ []) work
+      takenWork T (suc rounds) (λ (o : ℕ). getD numbers o 0) (1 ∷ []) work
 
   -- the opened numbers of the round that follows a number of rounds
   unfoldable pub plainOpened : ℕ → List ℕ

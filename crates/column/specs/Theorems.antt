@@ -7,7 +7,7 @@ use lib.Dec.{eqb, ltb}
 use lib.ListN.{length, getD}
 use Rattle.lists.specs.Lists.{listTo}
 use Rattle.field.specs.Forms.{Registers, Adds, Join}
-use Rattle.settings.specs.Sets.{Scale}
+use Rattle.settings.specs.Settings.{Terms}
 use Rattle.settings.specs.Questions.{countOk}
 use Rattle.rounding.specs.Plain.{highPart, verdict}
 use Rattle.rounding.specs.Rounds.{gap}
@@ -23,12 +23,12 @@ use Rattle.column.specs.Clear.{clearRunning, clearOpened, maskOf, masked
 -- ---- T1. r₁, r₂ the two sides' registers in one column, v the plain ones, m what the column adds up to, as a factor
 
 pub record T1 : Type 0 where
-  pub opening : (w : Public) → 0 < w .scale .modulus → {m κ₁ κ₂ : ℕ} {r₁ r₂ v : Registers} → Join (w .scale .modulus) m κ₁ κ₂ r₁ r₂ v
+  pub opening : (w : Public) → 0 < w .params .scale .modulus → {m κ₁ κ₂ : ℕ} {r₁ r₂ v : Registers} → Join (w .params .scale .modulus) m κ₁ κ₂ r₁ r₂ v
       → (round o : ℕ)
-      → Adds (w .scale .modulus) m (openingOn w round κ₁ r₁ o) (openingOn w round κ₂ r₂ o) (openingOn w round 1 v o)
-  pub running : (w : Public) → 0 < w .scale .modulus → {m κ₁ κ₂ : ℕ} {r₁ r₂ v : Registers} → Join (w .scale .modulus) m κ₁ κ₂ r₁ r₂ v
+      → Adds (w .params .scale .modulus) m (openingOn w round κ₁ r₁ o) (openingOn w round κ₂ r₂ o) (openingOn w round 1 v o)
+  pub running : (w : Public) → 0 < w .params .scale .modulus → {m κ₁ κ₂ : ℕ} {r₁ r₂ v : Registers} → Join (w .params .scale .modulus) m κ₁ κ₂ r₁ r₂ v
       → (round : ℕ) (opened : ℕ → ℕ) (k c : ℕ)
-      → Adds (w .scale .modulus) m (runningOn w round opened κ₁ r₁ k c) (runningOn w round opened κ₂ r₂ k c) (runningOn w round opened 1 v k c)
+      → Adds (w .params .scale .modulus) m (runningOn w round opened κ₁ r₁ k c) (runningOn w round opened κ₂ r₂ k c) (runningOn w round opened 1 v k c)
 
 -- two working slices and a plain column: every register adds up, and all three hold the same masked numbers
 pub record JoinedWork (m : ℕ) (keys0 keys1 w₁ w₂ plain : List ℕ) : Type 0 where
@@ -41,67 +41,67 @@ pub record JoinedWork (m : ℕ) (keys0 keys1 w₁ w₂ plain : List ℕ) : Type 
 
 pub record T1Work : Type 0 where
   -- the two sides' numbers for an opening add up, in every column
-  pub opening : (p : Scale) (kind n bound : ℕ) (keys0 keys1 w₁ w₂ plain : List ℕ)
-      → 0 < p .modulus → length keys0 ≡ length keys1
-      → JoinedWork (p .modulus) keys0 keys1 w₁ w₂ plain
+  pub opening : (T : Terms) (keys0 keys1 w₁ w₂ plain : List ℕ)
+      → 0 < T .params .scale .modulus → length keys0 ≡ length keys1
+      → JoinedWork (T .params .scale .modulus) keys0 keys1 w₁ w₂ plain
       → (round c o : ℕ) → c < length (multipliers keys0 keys1)
-      → Adds (p .modulus) (getD (multipliers keys0 keys1) c 0)
-      (openingOn (publicOf p kind n bound (maskedIn w₁)) round (getD (weights (length keys0) 0 keys0) c 0) (column w₁ c) o)
-      (openingOn (publicOf p kind n bound (maskedIn w₂)) round (getD (weights (length keys0) 1 keys1) c 0) (column w₂ c) o)
-      (openingOn (publicOf p kind n bound (maskedIn plain)) round 1 (column plain 0) o)
+      → Adds (T .params .scale .modulus) (getD (multipliers keys0 keys1) c 0)
+      (openingOn (publicOf T (maskedIn w₁)) round (getD (weights (length keys0) 0 keys0) c 0) (column w₁ c) o)
+      (openingOn (publicOf T (maskedIn w₂)) round (getD (weights (length keys0) 1 keys1) c 0) (column w₂ c) o)
+      (openingOn (publicOf T (maskedIn plain)) round 1 (column plain 0) o)
   -- taking the same opened numbers keeps them joined
-  pub taken : (p : Scale) (kind n bound : ℕ) (keys0 keys1 w₁ w₂ plain : List ℕ)
-      → 0 < p .modulus → n ≤ 8 → 1 ≤ n → length keys0 ≡ length keys1
-      → JoinedWork (p .modulus) keys0 keys1 w₁ w₂ plain
+  pub taken : (T : Terms) (keys0 keys1 w₁ w₂ plain : List ℕ)
+      → 0 < T .params .scale .modulus → (T .params .n) ≤ 8 → 1 ≤ T .params .n → length keys0 ≡ length keys1
+      → JoinedWork (T .params .scale .modulus) keys0 keys1 w₁ w₂ plain
       → (round : ℕ) (opened : ℕ → ℕ)
-      → JoinedWork (p .modulus) keys0 keys1
-      (takenWork p kind n bound round opened (weights (length keys0) 0 keys0) w₁)
-      (takenWork p kind n bound round opened (weights (length keys0) 1 keys1) w₂)
-      (takenWork p kind n bound round opened (1 ∷ []) plain)
+      → JoinedWork (T .params .scale .modulus) keys0 keys1
+      (takenWork T round opened (weights (length keys0) 0 keys0) w₁)
+      (takenWork T round opened (weights (length keys0) 1 keys1) w₂)
+      (takenWork T round opened (1 ∷ []) plain)
   -- and a side then holds its own numbers for the openings
-  pub own : (p : Scale) (kind n bound round : ℕ) (opened : ℕ → ℕ) (κs work : List ℕ)
-      → n ≤ 8 → 1 ≤ n → length work ≡ length κs * places
-      → (c o : ℕ) → c < length κs → o < openings kind n round
-      → ownIn (takenWork p kind n bound round opened κs work) c o ≡ openingOn (publicOf p kind n bound (maskedIn work)) round (getD κs c 0) (column work c) o
+  pub own : (T : Terms) (round : ℕ) (opened : ℕ → ℕ) (κs work : List ℕ)
+      → (T .params .n) ≤ 8 → 1 ≤ T .params .n → length work ≡ length κs * places
+      → (c o : ℕ) → c < length κs → o < openings (T .params) round
+      → ownIn (takenWork T round opened κs work) c o ≡ openingOn (publicOf T (maskedIn work)) round (getD κs c 0) (column work c) o
   -- its numbers stay below the modulus, and its length stays
-  pub bounded : (p : Scale) (kind n bound round : ℕ) (opened : ℕ → ℕ) (κs work : List ℕ)
-      → 0 < p .modulus → n ≤ 8 → 1 ≤ n → length work ≡ length κs * places
-      → ((i : ℕ) → getD work i 0 < p .modulus) → ((o : ℕ) → opened o < p .modulus)
-      → (length (takenWork p kind n bound round opened κs work) ≡ length work)
-      × ((i : ℕ) → getD (takenWork p kind n bound round opened κs work) i 0 < p .modulus)
+  pub bounded : (T : Terms) (round : ℕ) (opened : ℕ → ℕ) (κs work : List ℕ)
+      → 0 < T .params .scale .modulus → (T .params .n) ≤ 8 → 1 ≤ T .params .n → length work ≡ length κs * places
+      → ((i : ℕ) → getD work i 0 < T .params .scale .modulus) → ((o : ℕ) → opened o < T .params .scale .modulus)
+      → (length (takenWork T round opened κs work) ≡ length work)
+      × ((i : ℕ) → getD (takenWork T round opened κs work) i 0 < T .params .scale .modulus)
 
 -- ---- T2: the plain run, whatever the draw
 
 -- what T2 asks of a scale, settings, secret and draw; k keys a side
-pub record Sound (p : Scale) (kind n bound k : ℕ) (draw secret : List ℕ) : Type 0 where
-  pub lawful : Lawful p
-  pub kinds : kind < 2
-  pub counts : countOk n ≡ true
-  pub bounds : cond (eqb kind 0) (eqb bound 0) (ltb 0 bound) ≡ true
-  pub halves : 2 * bound < p .modulus
-  pub room : shared p kind n ≤ inputAt 0
-  pub gaps : p .modulus % (n + 1) ≤ gap (p .modulus) n
-  pub secret-size : length secret ≡ n
-  pub secret-below : (j : ℕ) → getD secret j 0 < p .modulus
-  pub draw-size : length draw ≡ drawLength p kind n (widthOf k)
-  pub draw-below : (j : ℕ) → getD draw j 0 < p .modulus
+pub record Sound (T : Terms) (k : ℕ) (draw secret : List ℕ) : Type 0 where
+  pub lawful : Lawful (T .params .scale)
+  pub kinds : T .params .kind < 2
+  pub counts : countOk (T .params .n) ≡ true
+  pub bounds : cond (eqb (T .params .kind) 0) (eqb (T .bound) 0) (ltb 0 (T .bound)) ≡ true
+  pub halves : 2 * T .bound < T .params .scale .modulus
+  pub room : shared (T .params) ≤ inputAt 0
+  pub gaps : T .params .scale .modulus % (T .params .n + 1) ≤ gap (T .params .scale .modulus) (T .params .n)
+  pub secret-size : length secret ≡ T .params .n
+  pub secret-below : (j : ℕ) → getD secret j 0 < T .params .scale .modulus
+  pub draw-size : length draw ≡ drawLength (T .params) (widthOf k)
+  pub draw-below : (j : ℕ) → getD draw j 0 < T .params .scale .modulus
 
 pub record T2 : Type 0 where
   -- the running registers after rounds 1 to 5
-  pub running : (p : Scale) (kind n bound k : ℕ) (draw secret : List ℕ)
-      → Sound p kind n bound k draw secret
+  pub running : (T : Terms) (k : ℕ) (draw secret : List ℕ)
+      → Sound T k draw secret
       → (rounds c j : ℕ)
-      → 1 ≤ rounds → rounds ≤ 5 → c < n → j < 2
-      → column (plainAfter p kind n bound (widthOf k) draw secret rounds) 0 (runningAt j c)
-      ≡ clearRunning p kind n bound (maskedOf p kind n bound (widthOf k) draw secret c) (maskOf p kind n bound (widthOf k) draw secret c) rounds j
+      → 1 ≤ rounds → rounds ≤ 5 → c < T .params .n → j < 2
+      → column (plainAfter T (widthOf k) draw secret rounds) 0 (runningAt j c)
+      ≡ clearRunning T (maskedOf T (widthOf k) draw secret c) (maskOf T (widthOf k) draw secret c) rounds j
   -- the openings of rounds 1 to 6
-  pub opened : (p : Scale) (kind n bound k : ℕ) (draw secret : List ℕ)
-      → Sound p kind n bound k draw secret
+  pub opened : (T : Terms) (k : ℕ) (draw secret : List ℕ)
+      → Sound T k draw secret
       → (rounds : ℕ)
       → rounds < 6
-      → plainOpened p kind n bound (widthOf k) draw secret rounds
-      ≡ listTo (openings kind n (suc rounds)) (clearOpened p kind n bound (widthOf k) draw secret (suc rounds))
+      → plainOpened T (widthOf k) draw secret rounds
+      ≡ listTo (openings (T .params) (suc rounds)) (clearOpened T (widthOf k) draw secret (suc rounds))
   -- round 7 opens the high parts, or the verdict, by the plain meaning
-  pub answer : (p : Scale) (kind n bound k : ℕ) (draw secret : List ℕ)
-      → Sound p kind n bound k draw secret
-      → plainOpened p kind n bound (widthOf k) draw secret 6 ≡ cond (eqb kind 0) (map (highPart p) secret) (verdict (p .modulus) bound secret ∷ [])
+  pub answer : (T : Terms) (k : ℕ) (draw secret : List ℕ)
+      → Sound T k draw secret
+      → plainOpened T (widthOf k) draw secret 6 ≡ cond (eqb (T .params .kind) 0) (map (highPart (T .params .scale)) secret) (verdict (T .params .scale .modulus) (T .bound) secret ∷ [])

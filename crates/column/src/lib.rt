@@ -4,8 +4,8 @@ ghost use Prim.Native.Nat.{ℕ, _+_, _*_, _/_, _≤_, _<_};
 ghost use lib.ListN.{length, getD};
 ghost use Rattle.lists.specs.Lists.{fill};
 ghost use Rattle.field.specs.Field.{q};
-ghost use Rattle.settings.specs.Sets.{scaleOf};
-ghost use Rattle.settings.specs.Sizes.{openings, places};
+ghost use Rattle.settings.specs.Settings.{paramsOf, termsOf};
+ghost use Rattle.settings.specs.Sizes.{openings, mostOpenings, places};
 ghost use Rattle.slice.specs.Layout.{ownAt, runningAt, column, maskedIn};
 ghost use Rattle.steps.specs.Steps.{publicOf, running};
 ghost use Rattle.steps.specs.Work.{openingOn, runningOn, takenColumn, takenColumns, takenWork};
@@ -30,16 +30,16 @@ const OWN_ROOM: usize = 32;
 
 fn openings_of(settings: Settings, round: u32) -> usize
     requires { ⌜ Ready settings ⌝ }
-    ensures { λ r. ⌜ (r ≡ openings (settings .kind) (settings .n) round) × (r ≤ 32) ⌝ }
+    ensures { λ r. ⌜ (r ≡ openings (paramsOf (settings .shape)) round) × (r ≤ mostOpenings) ⌝ }
 {
-    openings_in(settings.kind, settings.n as u32, round) as usize
+    openings_in(settings.shape, round) as usize
 }
 
 // This side's numbers in one column for the round's openings, in front of `out`. Crate side has asked.
 pub fn prepare(out: &mut [u32], work: &[u32], col: Column, known: Known)
     requires { ⌜ Ready (known .settings) ⌝ }
-    requires { ⌜ (1 ≤ known .round) × (known .round ≤ 7) × ((col .index + 1) * places ≤ length (now work)) × (openings (known .settings .kind) (known .settings .n) (known .round) ≤ length (now out)) ⌝ }
-    ensures { λ _. ⌜ now (out .exit) ≡ fill (now (out .entry)) 0 (openings (known .settings .kind) (known .settings .n) (known .round)) (openingOn (publicIn known) (known .round) (col .weight) (column (now (work .entry)) (col .index))) ⌝ }
+    requires { ⌜ (1 ≤ known .round) × (known .round ≤ 7) × ((col .index + 1) * places ≤ length (now work)) × (openings (paramsOf (known .settings .shape)) (known .round) ≤ length (now out)) ⌝ }
+    ensures { λ _. ⌜ now (out .exit) ≡ fill (now (out .entry)) 0 (openings (paramsOf (known .settings .shape)) (known .round)) (openingOn (publicIn known) (known .round) (col .weight) (column (now (work .entry)) (col .index))) ⌝ }
 {
     let count = openings_of(known.settings, known.round);
     let mut o = 0;
@@ -53,11 +53,11 @@ pub fn prepare(out: &mut [u32], work: &[u32], col: Column, known: Known)
 // Running registers k of all coefficients after the round, in front of `out`.
 fn running_into(out: &mut [u32], work: &[u32], col: Column, known: Known, opened: &[u32], k: usize)
     requires { ⌜ Ready (known .settings) ⌝ }
-    requires { ⌜ ((col .index + 1) * places ≤ length (now work)) × (1 ≤ known .round) × (k < 2) × (known .settings .n ≤ length (now out)) ⌝ }
-    requires { ⌜ (openings (known .settings .kind) (known .settings .n) (known .round) ≤ length (now opened)) × ((o : ℕ) → getD (now opened) o 0 < q) ⌝ }
-    ensures { λ _. ⌜ now (out .exit) ≡ fill (now (out .entry)) 0 (known .settings .n) (runningOn (publicIn known) (known .round) (λ (o : ℕ). getD (now (opened .entry)) o 0) (col .weight) (column (now (work .entry)) (col .index)) k) ⌝ }
+    requires { ⌜ ((col .index + 1) * places ≤ length (now work)) × (1 ≤ known .round) × (k < 2) × (known .settings .shape .n ≤ length (now out)) ⌝ }
+    requires { ⌜ (openings (paramsOf (known .settings .shape)) (known .round) ≤ length (now opened)) × ((o : ℕ) → getD (now opened) o 0 < q) ⌝ }
+    ensures { λ _. ⌜ now (out .exit) ≡ fill (now (out .entry)) 0 (known .settings .shape .n) (runningOn (publicIn known) (known .round) (λ (o : ℕ). getD (now (opened .entry)) o 0) (col .weight) (column (now (work .entry)) (col .index)) k) ⌝ }
 {
-    let n = known.settings.n;
+    let n = known.settings.shape.n as usize;
     let mut c = 0;
     while c < n {
         let x = running_value(work, col, known, opened, k, c);
@@ -108,13 +108,13 @@ fn put_column(
     second: &[u32],
 )
     requires { ⌜ Ready (known .settings) ⌝ }
-    requires { ⌜ ((col + 1) * places ≤ length (now work)) × (32 * (col + 1) ≤ length (now own)) × (known .settings .n ≤ length (now first)) × (known .settings .n ≤ length (now second)) ⌝ }
-    ensures { λ _. ⌜ now (work .exit) ≡ fill (fill (fill (now (work .entry)) (col * places + ownAt 0) (openings (known .settings .kind) (known .settings .n) (known .round)) (λ (o : ℕ). getD (now (own .entry)) (32 * col + o) 0))
-        (col * places + runningAt 0 0) (known .settings .n) (λ (c : ℕ). getD (now (first .entry)) c 0))
-        (col * places + runningAt 1 0) (known .settings .n) (λ (c : ℕ). getD (now (second .entry)) c 0) ⌝ }
+    requires { ⌜ ((col + 1) * places ≤ length (now work)) × (32 * (col + 1) ≤ length (now own)) × (known .settings .shape .n ≤ length (now first)) × (known .settings .shape .n ≤ length (now second)) ⌝ }
+    ensures { λ _. ⌜ now (work .exit) ≡ fill (fill (fill (now (work .entry)) (col * places + ownAt 0) (openings (paramsOf (known .settings .shape)) (known .round)) (λ (o : ℕ). getD (now (own .entry)) (32 * col + o) 0))
+        (col * places + runningAt 0 0) (known .settings .shape .n) (λ (c : ℕ). getD (now (first .entry)) c 0))
+        (col * places + runningAt 1 0) (known .settings .shape .n) (λ (c : ℕ). getD (now (second .entry)) c 0) ⌝ }
 {
     let start = col * PLACES;
-    let n = known.settings.n;
+    let n = known.settings.shape.n as usize;
     let count = openings_of(known.settings, known.round);
     copy(work, start + OWN, own, OWN_ROOM * col, count);
     copy(work, start + FIRST, first, 0, n);
@@ -126,7 +126,7 @@ fn put_column(
 fn take_column(work: &mut [u32], col: Column, known: Known, opened: &[u32], own: &[u32])
     requires { ⌜ Ready (known .settings) ⌝ }
     requires { ⌜ ((col .index + 1) * places ≤ length (now work)) × (1 ≤ known .round) × (32 * (col .index + 1) ≤ length (now own)) ⌝ }
-    requires { ⌜ (openings (known .settings .kind) (known .settings .n) (known .round) ≤ length (now opened)) × ((o : ℕ) → getD (now opened) o 0 < q) ⌝ }
+    requires { ⌜ (openings (paramsOf (known .settings .shape)) (known .round) ≤ length (now opened)) × ((o : ℕ) → getD (now opened) o 0 < q) ⌝ }
     requires { ⌜ Held (publicIn known) (known .round) (col .weight) (column (now work) (col .index)) (now own) (col .index) ⌝ }
     ensures { λ _. ⌜ now (work .exit) ≡ takenColumn (publicIn known) (known .round) (λ (o : ℕ). getD (now (opened .entry)) o 0) (col .index) (col .weight) (now (work .entry)) ⌝ }
 {
@@ -141,7 +141,7 @@ fn take_column(work: &mut [u32], col: Column, known: Known, opened: &[u32], own:
 fn take_columns(work: &mut [u32], known: Known, opened: &[u32], own: &[u32], weights: &[u32])
     requires { ⌜ Ready (known .settings) ⌝ }
     requires { ⌜ (1 ≤ known .round) × (length (now work) ≡ length (now weights) * places) × (32 * length (now weights) ≤ length (now own)) ⌝ }
-    requires { ⌜ (openings (known .settings .kind) (known .settings .n) (known .round) ≤ length (now opened)) × ((o : ℕ) → getD (now opened) o 0 < q) ⌝ }
+    requires { ⌜ (openings (paramsOf (known .settings .shape)) (known .round) ≤ length (now opened)) × ((o : ℕ) → getD (now opened) o 0 < q) ⌝ }
     requires { ⌜ HeldAll (publicIn known) (known .round) (now weights) (now work) (now own) ⌝ }
     ensures { λ _. ⌜ now (work .exit) ≡ takenColumns (publicIn known) (known .round) (λ (o : ℕ). getD (now (opened .entry)) o 0) (now (weights .entry)) (now (work .entry)) (length (now (weights .entry))) ⌝ }
 {
@@ -168,18 +168,18 @@ pub fn take_work(
 )
     requires { ⌜ Ready settings ⌝ }
     requires { ⌜ (1 ≤ round) × (round ≤ 7) × (length (now work) ≡ length (now weights) * places) × (1 ≤ length (now weights)) × (32 * length (now weights) ≤ length (now own)) ⌝ }
-    requires { ⌜ (openings (settings .kind) (settings .n) round ≤ length (now opened)) × ((o : ℕ) → getD (now opened) o 0 < q) ⌝ }
-    requires { ⌜ HeldAll (publicOf (scaleOf (settings .set)) (settings .kind) (settings .n) (settings .bound) (maskedIn (now work))) round (now weights) (now work) (now own) ⌝ }
-    ensures { λ _. ⌜ now (work .exit) ≡ takenWork (scaleOf (settings .set)) (settings .kind) (settings .n) (settings .bound) round (λ (o : ℕ). getD (now (opened .entry)) o 0) (now (weights .entry)) (now (work .entry)) ⌝ }
+    requires { ⌜ (openings (paramsOf (settings .shape)) round ≤ length (now opened)) × ((o : ℕ) → getD (now opened) o 0 < q) ⌝ }
+    requires { ⌜ HeldAll (publicOf (termsOf settings) (maskedIn (now work))) round (now weights) (now work) (now own) ⌝ }
+    ensures { λ _. ⌜ now (work .exit) ≡ takenWork (termsOf settings) round (λ (o : ℕ). getD (now (opened .entry)) o 0) (now (weights .entry)) (now (work .entry)) ⌝ }
 {
     if round == 1 {
         let known = Known {
             settings: settings,
             round: round,
-            masked: masked_opened(opened, settings.n),
+            masked: masked_opened(opened, settings.shape.n as usize),
         };
         take_columns(work, known, opened, own, weights);
-        copy(work, MASKED, opened, 0, settings.n);
+        copy(work, MASKED, opened, 0, settings.shape.n as usize);
     } else {
         let known = Known {
             settings: settings,

@@ -26,3 +26,13 @@ termsOf s = record { params = paramsOf (s .shape); bound = s .bound }
 -- settings by their four numbers
 abbrev pub settingsWith : ℕ → ℕ → ℕ → ℕ → Settings
 settingsWith set kind n bound = record { shape = record { set = set; kind = kind; n = n }; bound = bound }
+
+-- the same by their parts
+abbrev pub paramsWith : Scale → ℕ → ℕ → Params
+paramsWith scale kind n = record { scale = scale; kind = kind; n = n }
+
+abbrev pub termsWith : Scale → ℕ → ℕ → ℕ → Terms
+termsWith scale kind n bound = record { params = paramsWith scale kind n; bound = bound }
+
+abbrev pub termsFor : Params → ℕ → Terms
+termsFor p bound = record { params = p; bound = bound }

@@ -23,13 +23,13 @@ loop-holds : tie.Need-loop-holds Inv-loop μ-loop
 loop-holds c = (omega arith, sym (fill-none _ _ _), refl)
 
 running-value-requires : tie.Need-running-value-requires Inv-loop μ-loop
-running-value-requires c κs = (c .before .before .before .before .before .pre .0, (omega arith, c .before .before .before .before .before .pre .1 .1))
+running-value-requires c κs = (c .before .before .before .before .before .before .pre .0, (omega arith, c .before .before .before .before .before .before .pre .1 .1))
 
 loop-again : tie.Need-loop-again Inv-loop μ-loop
 loop-again c = (omega arith, rw (front-more, ← c .before .before .loop .inv .1, ← c .running-value .ensures), simp length-set (omega arith))
 
 returns : tie.Need-returns Inv-loop μ-loop
-returns c = let e : c .before .loop .c ≡ (c .before .before .before .before .before .args .known .settings .n) = omega arith in fill-count _ _ _ _ _ _ (c .before .loop .inv .1) e
+returns c = let e : c .before .loop .c ≡ (c .before .before .before .before .before .before .args .known .settings .shape .n) = omega arith in fill-count _ _ _ _ _ _ (c .before .loop .inv .1) e
 
 pub running-into-spec : {M : Type 1} → statement M
 running-into-spec =
@@ -37,6 +37,7 @@ running-into-spec =
     (tie.spec
     Inv-loop
     μ-loop
+    (λ c. omega arith)
     loop-holds
     running-value-requires
     (λ c. omega arith)
