@@ -14,6 +14,7 @@ use settings::FIELD_BITS;
 use settings::HEADER;
 use settings::MESSAGE_LENGTH;
 use settings::NOT_DUE;
+use settings::ROUNDS;
 use settings::Settings;
 use settings::field_count;
 use settings::length_of;
@@ -296,7 +297,7 @@ pub fn message_form(
     if round < 1 {
         return NOT_DUE;
     }
-    if round > 7 {
+    if round > ROUNDS {
         return NOT_DUE;
     }
     if serial < 1 {

@@ -1,5 +1,6 @@
--- Laws of the constants, of the questions and of the sizes.
+-- Laws of the constants, of the questions, of the order of a run and of the sizes.
 pub mod Sets
 pub mod Ready
 pub mod Keys
+pub mod Order
 pub mod Sizes

@@ -1,6 +1,7 @@
--- Sets, settings, the questions about them, and the sizes that follow.
+-- Sets, settings, the questions about them, the order of a run, and the sizes that follow.
 pub mod Sets
 pub mod Settings
 pub mod Questions
+pub mod Order
 pub mod Sizes
 pub mod Theorems

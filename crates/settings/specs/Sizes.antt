@@ -1,12 +1,13 @@
 -- Every size that follows from the settings, k keys a side.
 use Prim.Native.Nat.{ℕ, _+_, _*_, _/_}
-use mathlib.Core.Bool.{Bool, cond, _&&_}
+use mathlib.Core.Bool.{cond}
 use lib.Dec.{eqb, leb}
 use Rattle.field.specs.Sums.{sumTo}
 use Rattle.settings.specs.declared.Shape.{Shape}
 use Rattle.settings.specs.Sets.{base}
 use Rattle.settings.specs.Settings.{Params, paramsOf}
 use Rattle.settings.specs.Questions.{shapeOk}
+use Rattle.settings.specs.Order.{roundOk}
 
 -- ---- Keys
 
@@ -19,10 +20,6 @@ abbrev pub widthOf : ℕ → ℕ
 widthOf k = 1 + 2 * k
 
 -- ---- Openings and messages
-
--- "round 1 to 7"
-abbrev pub roundOk : ℕ → Bool
-roundOk round = leb 1 round && leb round 7
 
 -- "Openings in all: 19N or 17N + 2": N in round 1, 4N in rounds 2 to 5, then N and N, or 1 and 1
 unfoldable pub openings : Params → ℕ → ℕ

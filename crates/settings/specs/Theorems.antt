@@ -3,8 +3,9 @@ use Prim.Native.Nat.{ℕ, _+_, _*_, _/_, _%_, _<_, _≤_}
 use mathlib.Core.Path.{_≡_}
 use Rattle.settings.specs.declared.Shape.{Shape}
 use Rattle.settings.specs.Sets.{Scale, scaleOf, base}
-use Rattle.settings.specs.Settings.{Params, paramsOf}
+use Rattle.settings.specs.Settings.{Params, paramsOf, paramsWith}
 use Rattle.settings.specs.Questions.{ShapeReady}
+use Rattle.settings.specs.Order.{rounds}
 use Rattle.settings.specs.Sizes.{widthOf, openingsUpTo, shared, drawLength, workLength}
 
 -- all that the arguments may use of the modulus, α, s and the bases
@@ -20,7 +21,7 @@ pub record Lawful (p : Scale) : Type 0 where
   pub checks : p .modulus % 6 ≤ p .modulus / 6
 
 abbrev shapeOf : ℕ → ℕ → ℕ → Params
-shapeOf set kind n = record { scale = scaleOf set; kind = kind; n = n }
+shapeOf set kind n = paramsWith (scaleOf set) kind n
 
 pub record SizeLaws : Type 0 where
   -- one argument serves both sets
@@ -34,8 +35,8 @@ pub record SizeLaws : Type 0 where
   pub high-draw : (set n : ℕ) → drawLength (shapeOf set 0 n) (widthOf 1) ≡ 3 * shared (shapeOf set 0 n) + 18 * n
   pub bound-draw : (set n : ℕ) → drawLength (shapeOf set 1 n) (widthOf 1) ≡ 3 * shared (shapeOf set 1 n) + (17 * n + 1)
   -- "Openings in all: 19N or 17N + 2"
-  pub high-openings : (set n : ℕ) → openingsUpTo (shapeOf set 0 n) 7 ≡ 19 * n
-  pub bound-openings : (set n : ℕ) → openingsUpTo (shapeOf set 1 n) 7 ≡ 17 * n + 2
+  pub high-openings : (set n : ℕ) → openingsUpTo (shapeOf set 0 n) rounds ≡ 19 * n
+  pub bound-openings : (set n : ℕ) → openingsUpTo (shapeOf set 1 n) rounds ≡ 17 * n + 2
   -- "working slice 4,608 numbers"
   pub work : workLength 1 ≡ 4608
   -- a book fits a column

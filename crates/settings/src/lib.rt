@@ -8,6 +8,7 @@ ghost use Rattle.field.specs.Sums.{sumTo};
 ghost use Rattle.settings.specs.Sets.{scaleOf, base};
 ghost use Rattle.settings.specs.Settings.{paramsOf};
 ghost use Rattle.settings.specs.Questions.{boundOk, keyOk, keysOk, askShape, askSettings, shapeOk, ShapeReady};
+ghost use Rattle.settings.specs.Order.{rounds, steps, roundAfter, sendsAfter, takenBy, stepsIn};
 ghost use Rattle.settings.specs.Sizes.{keyCount, widthOf, mostOpenings, mostFields, openings, fieldCount, messageBits, bytesFor, messageLength, stride, shared, drawLength, answerPlaces, messageSize, bookSize, drawSize, inputSize, answerSize};
 use field::Q;
 
@@ -80,6 +81,9 @@ pub const FIELD_BITS: usize = 23;
 pub const MOST_OPENINGS: usize = 32;
 
 pub const MOST_FIELDS: usize = MOST_OPENINGS * FIELDS_PER_OPENING;
+
+// The most bytes of a message.
+pub const MOST_BYTES: usize = (HEADER_BITS + FIELD_BITS * MOST_FIELDS + 7) / 8;
 
 // ---- Constants of the sets, for the crates above, which ask question 1 first
 
@@ -217,6 +221,48 @@ pub fn for_columns(share: u32, keys0: [u32; KEYS], keys1: [u32; KEYS]) -> [u32; 
     columns
 }
 
+// ---- The order of a run. A step of a side is a send or a take; `m` is how many it has made.
+
+pub const ROUNDS: u32 = 7;
+
+pub const STEPS: u32 = 2 * ROUNDS;
+
+// The round in which a side stands after `m` steps.
+pub fn round_after(m: u32) -> u32
+    ensures { λ r. ⌜ r ≡ roundAfter m ⌝ }
+{
+    if m < STEPS {
+        return m / 2 + 1;
+    }
+    ROUNDS
+}
+
+// Does side `number` send after `m` steps? Else it takes.
+pub fn sends_after(number: u32, m: u32) -> bool
+    ensures { λ r. ⌜ r ≡ sendsAfter number m ⌝ }
+{
+    m % 2 == number
+}
+
+// The rounds that side `number` has taken after `m` steps. Crate state asks it of a side whose kept fields are whole.
+pub fn taken_by(number: u32, m: u32) -> u32
+    requires { ⌜ (number < 2) × (m ≤ steps) ⌝ }
+    ensures { λ r. ⌜ r ≡ takenBy number m ⌝ }
+{
+    (m + number) / 2
+}
+
+// The steps that side `number` has made which stands in a round, to send or to take; asked as `taken_by` is.
+pub fn steps_in(number: u32, round: u32, sending: bool) -> u32
+    requires { ⌜ (number < 2) × (1 ≤ round) × (round ≤ rounds) ⌝ }
+    ensures { λ r. ⌜ r ≡ stepsIn number round sending ⌝ }
+{
+    if sending {
+        return 2 * (round - 1) + number;
+    }
+    2 * (round - 1) + (1 - number)
+}
+
 // ---- Sizes, for the crates above, which ask questions 1 and 2 first
 
 // How many openings a round has.
@@ -338,7 +384,7 @@ pub fn message_size(shape: Shape, round: u32) -> usize
     if round < 1 {
         return 0;
     }
-    if round > 7 {
+    if round > ROUNDS {
         return 0;
     }
     message_length(shape, round)
