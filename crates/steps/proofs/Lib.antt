@@ -1,2 +1,3 @@
--- Bounds that the functions need.
+-- Bounds that the functions need, and what a gate looks at.
 pub mod Bounds
+pub mod Gates

@@ -9,11 +9,18 @@ use Rattle.settings.specs.Sizes.{openings}
 use Rattle.slice.specs.Layout.{column}
 use Rattle.steps.specs.Steps.{Public, publicOf}
 use Rattle.steps.specs.Work.{openingOn}
+use Rattle.settings.specs.declared.Settings.{Settings}
 use Rattle.steps.specs.declared.Known.{Known}
 
--- what both sides know in a round: the settings, with the masked numbers
+-- what both sides know of a run with these settings: the masked numbers beside them; all in one struct; or all masked numbers the same y
+abbrev pub publicBy : Settings → (ℕ → ℕ) → Public
+publicBy settings masked = publicOf (termsOf settings) masked
+
 abbrev pub publicIn : Known → Public
-publicIn known = publicOf (termsOf (known .settings)) (λ (c : ℕ). getD (known .masked) c 0)
+publicIn known = publicBy (known .settings) (λ (c : ℕ). getD (known .masked) c 0)
+
+abbrev pub publicAt : Settings → ℕ → Public
+publicAt settings y = publicBy settings (λ (c : ℕ). y)
 
 -- `own` holds, from place 32 × c on, a side's numbers for a round's openings in column c, of weight κ and registers r
 abbrev pub Held : Public → ℕ → ℕ → Registers → List ℕ → ℕ → Type 0

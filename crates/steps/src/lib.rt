@@ -7,18 +7,17 @@ ghost use lib.Dec.{ltb};
 ghost use lib.ListN.{length, getD};
 ghost use Rattle.lists.specs.Answers.{bit};
 ghost use Rattle.field.specs.Field.{q, add, mul};
-ghost use Rattle.field.specs.Forms.{value, sum, _⊟_};
+ghost use Rattle.field.specs.Forms.{value, _⊟_};
 ghost use Rattle.settings.specs.Sets.{scaleOf};
 ghost use Rattle.settings.specs.Settings.{paramsOf, termsOf};
 ghost use Rattle.rounding.specs.Rounds.{threshold};
 ghost use Rattle.settings.specs.Sizes.{openings, places};
 ghost use Rattle.book.specs.Book.{groupGap};
-ghost use Rattle.slice.specs.Layout.{ownAt, column};
-ghost use Rattle.slice.specs.declared.Rule.the-variants.{Zero};
-ghost use Rattle.slice.specs.Weights.{weigh, ruleOf};
+ghost use Rattle.slice.specs.Layout.{column};
+ghost use Rattle.slice.specs.Weights.{ruleOf};
 ghost use Rattle.steps.specs.Steps.{lookedAt, digitOf, limitOf, vectorSum, addend, factorU, factorV, tripleOf, shiftOf, openInput, openFactor, insideForm, insides, checked, openCheck, gateResult, groupOf, checkEntry, afterCheck, running};
 ghost use Rattle.steps.specs.Work.{openingOn, runningOn};
-ghost use Rattle.steps.specs.Calls.{publicIn};
+ghost use Rattle.steps.specs.Calls.{publicAt, publicIn};
 ghost use Rattle.settings.specs.Questions.{Ready};
 use book::group_at;
 use book::group_gap;
@@ -45,13 +44,11 @@ use slice::raised_by;
 use slice::register;
 use slice::weighted_sum;
 
-// What both sides know in a round: the settings, the round's number, and the masked numbers, which round 1 opens. Every function below
-// asks that the settings have passed questions 1 to 3, and that the lent slices have the room it needs: crate side calls them after its
-// questions.
+// What both sides know in a round: the settings, the masked numbers, which round 1 opens, and the round's number.
 pub struct Known {
     pub settings: Settings,
-    pub round: u32,
     pub masked: [u32; 8],
+    pub round: u32,
 }
 
 // A column of the working slice, and what a public 1 adds to it.
@@ -60,9 +57,10 @@ pub struct Column {
     pub weight: u32,
 }
 
-// The first (k = 0) or second (1) gate of digit i of coefficient c.
+// The first (k = 0) or second (1) gate of digit i of coefficient c, whose masked number is y.
 struct Gate {
     c: usize,
+    y: u32,
     i: usize,
     k: usize,
 }
@@ -109,15 +107,13 @@ fn entry(split: Split, i: usize) -> u32
 }
 
 // The digit of the number that a gate looks at.
-fn digit_of(known: Known, gate: Gate) -> u32
-    requires { ⌜ Ready (known .settings) ⌝ }
-    requires { ⌜ (gate .c < known .settings .shape .n) × (gate .i < 5) ⌝ }
-    ensures { λ r. ⌜ (r ≡ digitOf (publicIn known) (gate .c) (gate .i) (gate .k)) × (r < 65536) ⌝ }
+fn digit_of(settings: Settings, gate: Gate) -> u32
+    requires { ⌜ Ready settings ⌝ }
+    requires { ⌜ gate .i < 5 ⌝ }
+    ensures { λ r. ⌜ (r ≡ digitOf (publicAt settings (gate .y)) (gate .c) (gate .i) (gate .k)) × (r < 65536) ⌝ }
 {
-    let settings = known.settings;
     let shape = settings.shape;
-    let c = gate.c;
-    let x = looked_at(shape.kind, settings.bound, gate.k, known.masked[c]);
+    let x = looked_at(shape.kind, settings.bound, gate.k, gate.y);
     let split = split_number(shape.set as usize, x);
     entry(split, gate.i)
 }
@@ -152,49 +148,48 @@ fn limit_of(set: usize, i: usize) -> u32
 
 // ---- Gates: addend + u × v, of digit i of coefficient c. No public number is added: the weight does not matter.
 
-// The terms of A, Z, F, G, or the sum below Ti.
-fn weighted_of(known: Known, gate: Gate) -> Weighted
-    requires { ⌜ Ready (known .settings) ⌝ }
-    requires { ⌜ (gate .c < known .settings .shape .n) × (gate .i < 5) ⌝ }
-    ensures { λ r. ⌜ (r .place + r .n ≤ ownAt 0) × (r .n ≤ 64) × (1 ≤ r .limit) × (r .limit ≤ 45) × (r .digit < 65536) ⌝ }
-    ensures { λ r. ⌜ (r .rule ≡ Zero → (r .n ≡ r .limit) × (r .digit + 1 ≤ r .limit)) ⌝ }
-    ensures { λ r. ⌜ ((up : ℕ) → sum (r .n) (r .place) (weigh (r .rule) (r .limit) (r .digit + up)) ≡ vectorSum (publicIn known) (gate .c) (gate .i) (gate .k) up) ⌝ }
+// A, Z, F, G, or the sum below Ti.
+fn vector_sum(work: &[u32], col: usize, settings: Settings, gate: Gate) -> u32
+    requires { ⌜ Ready settings ⌝ }
+    requires { ⌜ ((col + 1) * places ≤ length (now work)) × (gate .c < settings .shape .n) × (gate .i < 5) ⌝ }
+    ensures { λ r. ⌜ ((κ : ℕ) → r ≡ value q κ (column (now (work .entry)) col) (vectorSum (publicAt settings (gate .y)) (gate .c) (gate .i) (gate .k) 0)) ⌝ }
 {
-    let shape = known.settings.shape;
-    Weighted {
+    let shape = settings.shape;
+    let terms = Weighted {
+        digit: digit_of(settings, gate),
         place: vector_at(shape, gate.c, gate.i),
         n: base_of(shape.set as usize, gate.i) as usize,
         rule: rule_of(shape.kind, gate.i, gate.k),
         limit: limit_of(shape.set as usize, gate.i),
-        digit: digit_of(known, gate),
-    }
-}
-
-// A, Z, F, G, or the sum below Ti.
-fn vector_sum(work: &[u32], col: usize, known: Known, gate: Gate) -> u32
-    requires { ⌜ Ready (known .settings) ⌝ }
-    requires { ⌜ ((col + 1) * places ≤ length (now work)) × (gate .c < known .settings .shape .n) × (gate .i < 5) ⌝ }
-    ensures { λ r. ⌜ ((κ : ℕ) → r ≡ value q κ (column (now (work .entry)) col) (vectorSum (publicIn known) (gate .c) (gate .i) (gate .k) 0)) ⌝ }
-{
-    weighted_sum(work, col, weighted_of(known, gate))
+    };
+    weighted_sum(work, col, terms)
 }
 
 // A′ − A, Z′ − Z, F′ − F or G′ − G.
-fn vector_raise(work: &[u32], col: usize, known: Known, gate: Gate) -> u32
-    requires { ⌜ Ready (known .settings) ⌝ }
-    requires { ⌜ ((col + 1) * places ≤ length (now work)) × (gate .c < known .settings .shape .n) × (gate .i < 5) ⌝ }
-    ensures { λ r. ⌜ ((κ : ℕ) → r ≡ value q κ (column (now (work .entry)) col) (vectorSum (publicIn known) (gate .c) (gate .i) (gate .k) 1 ⊟ vectorSum (publicIn known) (gate .c) (gate .i) (gate .k) 0)) ⌝ }
+fn vector_raise(work: &[u32], col: usize, settings: Settings, gate: Gate) -> u32
+    requires { ⌜ Ready settings ⌝ }
+    requires { ⌜ ((col + 1) * places ≤ length (now work)) × (gate .c < settings .shape .n) × (gate .i < 5) ⌝ }
+    ensures { λ r. ⌜ ((κ : ℕ) → r ≡ value q κ (column (now (work .entry)) col) (vectorSum (publicAt settings (gate .y)) (gate .c) (gate .i) (gate .k) 1 ⊟ vectorSum (publicAt settings (gate .y)) (gate .c) (gate .i) (gate .k) 0)) ⌝ }
 {
-    raised_by(work, col, weighted_of(known, gate))
+    let shape = settings.shape;
+    let terms = Weighted {
+        digit: digit_of(settings, gate),
+        place: vector_at(shape, gate.c, gate.i),
+        n: base_of(shape.set as usize, gate.i) as usize,
+        rule: rule_of(shape.kind, gate.i, gate.k),
+        limit: limit_of(shape.set as usize, gate.i),
+    };
+    raised_by(work, col, terms)
 }
 
-fn addend_value(work: &[u32], col: usize, known: Known, gate: Gate) -> u32
-    requires { ⌜ Ready (known .settings) ⌝ }
-    requires { ⌜ ((col + 1) * places ≤ length (now work)) × (gate .c < known .settings .shape .n) × (gate .i < 5) × (gate .k < 2) ⌝ }
-    ensures { λ r. ⌜ ((κ : ℕ) → r ≡ value q κ (column (now (work .entry)) col) (addend (publicIn known) (gate .c) (gate .i) (gate .k))) ⌝ }
+fn addend_value(work: &[u32], col: usize, settings: Settings, gate: Gate) -> u32
+    requires { ⌜ Ready settings ⌝ }
+    requires { ⌜ ((col + 1) * places ≤ length (now work)) × (gate .c < settings .shape .n) × (gate .i < 5) × (gate .k < 2) ⌝ }
+    ensures { λ r. ⌜ ((κ : ℕ) → r ≡ value q κ (column (now (work .entry)) col) (addend (publicAt settings (gate .y)) (gate .c) (gate .i) (gate .k))) ⌝ }
 {
-    let a = vector_sum(work, col, known, gate);
-    if known.settings.shape.kind == 0 {
+    let shape = settings.shape;
+    let a = vector_sum(work, col, settings, gate);
+    if shape.kind == 0 {
         if gate.k == 1 {
             return add_mod(register(work, col, SECOND + gate.c), a);
         }
@@ -203,27 +198,28 @@ fn addend_value(work: &[u32], col: usize, known: Known, gate: Gate) -> u32
     a
 }
 
-fn u_value(work: &[u32], col: usize, known: Known, gate: Gate) -> u32
-    requires { ⌜ Ready (known .settings) ⌝ }
-    requires { ⌜ ((col + 1) * places ≤ length (now work)) × (gate .c < known .settings .shape .n) × (gate .i < 5) × (gate .k < 2) ⌝ }
-    ensures { λ r. ⌜ ((κ : ℕ) → r ≡ value q κ (column (now (work .entry)) col) (factorU (publicIn known) (gate .c) (gate .i) (gate .k))) ⌝ }
+fn u_value(work: &[u32], col: usize, settings: Settings, gate: Gate) -> u32
+    requires { ⌜ Ready settings ⌝ }
+    requires { ⌜ ((col + 1) * places ≤ length (now work)) × (gate .c < settings .shape .n) × (gate .i < 5) × (gate .k < 2) ⌝ }
+    ensures { λ r. ⌜ ((κ : ℕ) → r ≡ value q κ (column (now (work .entry)) col) (factorU (publicAt settings (gate .y)) (gate .c) (gate .i) (gate .k))) ⌝ }
 {
-    let shape = known.settings.shape;
+    let shape = settings.shape;
     if shape.kind == 0 {
         return register(work, col, FIRST + gate.c);
     }
-    let t = digit_of(known, gate) as usize;
+    let t = digit_of(settings, gate) as usize;
     let place = vector_at(shape, gate.c, gate.i);
     register(work, col, place + t)
 }
 
-fn v_value(work: &[u32], col: usize, known: Known, gate: Gate) -> u32
-    requires { ⌜ Ready (known .settings) ⌝ }
-    requires { ⌜ ((col + 1) * places ≤ length (now work)) × (gate .c < known .settings .shape .n) × (gate .i < 5) × (gate .k < 2) ⌝ }
-    ensures { λ r. ⌜ ((κ : ℕ) → r ≡ value q κ (column (now (work .entry)) col) (factorV (publicIn known) (gate .c) (gate .i) (gate .k))) ⌝ }
+fn v_value(work: &[u32], col: usize, settings: Settings, gate: Gate) -> u32
+    requires { ⌜ Ready settings ⌝ }
+    requires { ⌜ ((col + 1) * places ≤ length (now work)) × (gate .c < settings .shape .n) × (gate .i < 5) × (gate .k < 2) ⌝ }
+    ensures { λ r. ⌜ ((κ : ℕ) → r ≡ value q κ (column (now (work .entry)) col) (factorV (publicAt settings (gate .y)) (gate .c) (gate .i) (gate .k))) ⌝ }
 {
-    if known.settings.shape.kind == 0 {
-        return vector_raise(work, col, known, gate);
+    let shape = settings.shape;
+    if shape.kind == 0 {
+        return vector_raise(work, col, settings, gate);
     }
     register(work, col, FIRST + 8 * gate.k + gate.c)
 }
@@ -259,12 +255,12 @@ fn open_input(work: &[u32], col: Column, known: Known, c: usize) -> u32
 }
 
 // The place of a gate's triple.
-fn triple_of(known: Known, gate: Gate) -> usize
-    requires { ⌜ Ready (known .settings) ⌝ }
-    requires { ⌜ (gate .c < known .settings .shape .n) × (1 ≤ gate .i) × (gate .i < 5) × (gate .k < 2) ⌝ }
-    ensures { λ r. ⌜ (r ≡ tripleOf (publicIn known) (gate .c) (gate .i) (gate .k)) × (r ≤ 1320) ⌝ }
+fn triple_of(settings: Settings, gate: Gate) -> usize
+    requires { ⌜ Ready settings ⌝ }
+    requires { ⌜ (gate .c < settings .shape .n) × (1 ≤ gate .i) × (gate .i < 5) × (gate .k < 2) ⌝ }
+    ensures { λ r. ⌜ (r ≡ tripleOf (publicAt settings (gate .y)) (gate .c) (gate .i) (gate .k)) × (r ≤ 1320) ⌝ }
 {
-    let shape = known.settings.shape;
+    let shape = settings.shape;
     triple_at(
         shape,
         gate.c,
@@ -273,17 +269,17 @@ fn triple_of(known: Known, gate: Gate) -> usize
 }
 
 // Rounds 2 to 5: u − a (part 0), v − b (part 1).
-fn open_factor(work: &[u32], col: usize, known: Known, gate: Gate, part: usize) -> u32
-    requires { ⌜ Ready (known .settings) ⌝ }
-    requires { ⌜ ((col + 1) * places ≤ length (now work)) × (gate .c < known .settings .shape .n) × (1 ≤ gate .i) × (gate .i < 5) × (gate .k < 2) × (part < 2) ⌝ }
-    ensures { λ r. ⌜ ((κ : ℕ) → r ≡ value q κ (column (now (work .entry)) col) (openFactor (publicIn known) (gate .c) (gate .i) (gate .k) part)) ⌝ }
+fn open_factor(work: &[u32], col: usize, settings: Settings, gate: Gate, part: usize) -> u32
+    requires { ⌜ Ready settings ⌝ }
+    requires { ⌜ ((col + 1) * places ≤ length (now work)) × (gate .c < settings .shape .n) × (1 ≤ gate .i) × (gate .i < 5) × (gate .k < 2) × (part < 2) ⌝ }
+    ensures { λ r. ⌜ ((κ : ℕ) → r ≡ value q κ (column (now (work .entry)) col) (openFactor (publicAt settings (gate .y)) (gate .c) (gate .i) (gate .k) part)) ⌝ }
 {
-    let place = triple_of(known, gate);
+    let place = triple_of(settings, gate);
     if part == 0 {
-        let u = u_value(work, col, known, gate);
+        let u = u_value(work, col, settings, gate);
         return sub_mod(u, register(work, col, place + part));
     }
-    let v = v_value(work, col, known, gate);
+    let v = v_value(work, col, settings, gate);
     sub_mod(v, register(work, col, place + part))
 }
 
@@ -356,12 +352,15 @@ pub fn opening_value(work: &[u32], col: Column, known: Known, o: usize) -> u32
         return open_input(work, col, known, o);
     }
     if round <= 5 {
+        let c = o / 4;
+        let masked = known.masked;
         let gate = Gate {
-            c: o / 4,
+            c: c,
+            y: masked[c],
             i: (round - 1) as usize,
             k: o / 2 % 2,
         };
-        return open_factor(work, col.index, known, gate, o % 2);
+        return open_factor(work, col.index, known.settings, gate, o % 2);
     }
     if round == 6 {
         return open_check(work, col, known, o);
@@ -381,15 +380,15 @@ fn combine(addend: u32, v: u32, u: u32, third: u32, e: u32, f: u32) -> u32
 }
 
 // addend + e × v + f × u + third − e × f.
-fn gate_value(work: &[u32], col: Column, known: Known, gate: Gate, e: u32, f: u32) -> u32
-    requires { ⌜ Ready (known .settings) ⌝ }
-    requires { ⌜ ((col .index + 1) * places ≤ length (now work)) × (gate .c < known .settings .shape .n) × (1 ≤ gate .i) × (gate .i < 5) × (gate .k < 2) ⌝ }
-    ensures { λ r. ⌜ r ≡ value q (col .weight) (column (now (work .entry)) (col .index)) (gateResult (publicIn known) (gate .c) (gate .i) (gate .k) e f) ⌝ }
+fn gate_value(work: &[u32], col: Column, settings: Settings, gate: Gate, e: u32, f: u32) -> u32
+    requires { ⌜ Ready settings ⌝ }
+    requires { ⌜ ((col .index + 1) * places ≤ length (now work)) × (gate .c < settings .shape .n) × (1 ≤ gate .i) × (gate .i < 5) × (gate .k < 2) ⌝ }
+    ensures { λ r. ⌜ r ≡ value q (col .weight) (column (now (work .entry)) (col .index)) (gateResult (publicAt settings (gate .y)) (gate .c) (gate .i) (gate .k) e f) ⌝ }
 {
-    let place = triple_of(known, gate);
-    let a = addend_value(work, col.index, known, gate);
-    let v = v_value(work, col.index, known, gate);
-    let u = u_value(work, col.index, known, gate);
+    let place = triple_of(settings, gate);
+    let a = addend_value(work, col.index, settings, gate);
+    let v = v_value(work, col.index, settings, gate);
+    let u = u_value(work, col.index, settings, gate);
     let third = register(work, col.index, place + 2);
     let with_third = combine(a, v, u, third, e, f);
     sub_mod(with_third, mul_mod(col.weight, mul_mod(e, f)))
@@ -459,18 +458,27 @@ pub fn running_value(
     ensures { λ r. ⌜ r ≡ runningOn (publicIn known) (known .round) (λ (o : ℕ). getD (now (opened .entry)) o 0) (col .weight) (column (now (work .entry)) (col .index)) k c ⌝ }
 {
     let round = known.round;
+    let masked = known.masked;
     if round == 1 {
-        return vector_sum(work, col.index, known, Gate { c: c, i: 0, k: k });
-    }
-    if round <= 5 {
         let gate = Gate {
             c: c,
-            i: (round - 1) as usize,
+            y: masked[c],
+            i: 0,
+            k: k,
+        };
+        return vector_sum(work, col.index, known.settings, gate);
+    }
+    if round <= 5 {
+        let i = (round - 1) as usize;
+        let gate = Gate {
+            c: c,
+            y: masked[c],
+            i: i,
             k: k,
         };
         let e = opened[4 * c + 2 * k];
         let f = opened[4 * c + 2 * k + 1];
-        return gate_value(work, col, known, gate, e, f);
+        return gate_value(work, col, known.settings, gate, e, f);
     }
     if round == 6 {
         let x = opened[group_of(known.settings.shape.kind, c)];

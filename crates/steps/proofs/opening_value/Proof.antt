@@ -5,6 +5,9 @@ use Rattle.steps.proofs.Bounds.{open-first, open-middle, open-late}
 use borrow.Author.Tests.{le-leb, lt-leb, eq-eqb, ne-eqb}
 use Rattle.steps.specs.Steps.{opening}
 use borrow.Author.Needs.{needs}
+use Rattle.steps.proofs.Gates.{open-factor-at}
+use lib.ListN.{getD}
+use Prim.Native.Nat.{ℕ, _/_, _%_, _-_}
 use Rattle.steps.proofs.opening_value.Statement.{statement}
 use Rattle.steps.proofs.opening_value.Tie as tie
 
@@ -17,14 +20,21 @@ returns : tie.Need-returns
 unfolding opening
 returns c = rw (eq-eqb _ _ (c .before .if1 .taken)) (c .open-input .ensures)
 
+array-read-t13 : tie.Need-array-read-t13
+array-read-t13 c =
+    let a = c .before .before .before .before .args in
+    omega (arith, open-middle (paramsOf (a .known .settings .shape)) (a .known .round) (c .before .before .if1 .left) (c .before .if2 .taken))
+
 open-factor-requires : tie.Need-open-factor-requires
 open-factor-requires c κs =
-    let a = c .before .before .before .args in
-    (c .before .before .before .pre .0, omega (arith, open-middle (paramsOf (a .known .settings .shape)) (a .known .round) (c .before .if1 .left) (c .if2 .taken)))
+    let a = c .before .before .before .before .args in
+    (c .before .before .before .before .pre .0, omega (arith, open-middle (paramsOf (a .known .settings .shape)) (a .known .round) (c .before .before .if1 .left) (c .before .if2 .taken)))
 
 returns-2 : tie.Need-returns-2
 unfolding opening
-returns-2 c = rw (ne-eqb _ _ (c .before .before .if1 .left), le-leb _ _ (c .before .if2 .taken)) (c .open-factor .ensures _)
+returns-2 c =
+    let a = c .before .before .before .before .before .args in
+    rw (ne-eqb _ _ (c .before .before .before .if1 .left), le-leb _ _ (c .before .before .if2 .taken), ← open-factor-at (a .known .settings) (λ (j : ℕ). getD (a .known .masked) j 0) (a .o / 4) (a .known .round - 1) (a .o / 2 % 2) (a .o % 2)) (c .open-factor .ensures _)
 
 open-check-requires : tie.Need-open-check-requires
 open-check-requires c κs =
@@ -56,6 +66,8 @@ opening-value-spec =
     (tie.spec
     open-input-requires
     returns
+    (λ c. search needs)
+    array-read-t13
     (λ c. search needs)
     (λ c. search needs)
     open-factor-requires

@@ -1,17 +1,39 @@
 -- `steps::vector_sum` meets its contract.
 use native.Mathlib.Omega.{arith}
 use native.Mathlib.Nat.{add-zero}
+use mathlib.Core.Path.{sym, _∙_}
+use Rattle.steps.proofs.Bounds.{vector-room, zero-fits}
+use Rattle.steps.specs.Steps.{limitOf, vectorSum}
+use Rattle.settings.specs.Sets.{scaleOf}
+use Prim.Native.Nat.{_≤_}
 use borrow.Author.Needs.{needs}
 use Rattle.steps.proofs.vector_sum.Statement.{statement}
 use Rattle.steps.proofs.vector_sum.Tie as tie
 
 weighted-sum-requires : tie.Need-weighted-sum-requires
 weighted-sum-requires c κs =
-    let t = c .weighted-of .ensures in
-    (omega arith, λ rule. let z = t .1 .0 rule in (z .0, omega arith))
+    let a = c .before .before .before .before .before .before .before .before .before .args in
+    let digit = c .before .before .before .before .before .before .digit-of in (
+      omega (arith, vector-room (a .settings .shape) (a .gate .c) (a .gate .i) (omega arith) (omega arith) (omega arith) (omega arith), c .before .before .before .before .before .vector-at .ensures, c .before .before .before .base-of .ensures),
+      λ rule.
+          let fits = zero-fits (a .settings .shape .set) (a .settings .shape .kind) (a .gate .i) (a .gate .k) _ (digit .result) 0 (omega arith) (omega arith) (digit .ensures .0) (sym (c .before .before .rule-of .ensures) ∙ rule) in
+          let small : digit .result ≤ limitOf (scaleOf (a .settings .shape .set)) (a .gate .i) = omega (arith, fits .1) in
+          (c .before .before .before .base-of .ensures .0 ∙ fits .0 ∙ sym (c .limit-of .ensures .0), rw (c .limit-of .ensures .0) small),
+    )
 
 returns : tie.Need-returns
-returns c = λ κ. rw (← c .before .weighted-of .ensures .1 .1 0, add-zero) (c .weighted-sum .ensures κ)
+unfolding vectorSum
+returns c = λ κ. rw (add-zero, ← c .before .before .before .rule-of .ensures, ← c .before .limit-of .ensures .0, ← c .before .before .before .before .base-of .ensures .0, ← c .before .before .before .before .before .before .vector-at .ensures .0, ← c .before .before .before .before .before .before .before .digit-of .ensures .0) (c .weighted-sum .ensures κ)
 
 pub vector-sum-spec : {M : Type 1} → statement M
-vector-sum-spec = tie.close (tie.spec (λ c κs. search needs) weighted-sum-requires returns)
+vector-sum-spec =
+    tie.close
+    (tie.spec
+    (λ c κs. search needs)
+    (λ c κs. search needs)
+    (λ c κs. search needs)
+    (λ c. search needs)
+    (λ c κs. search needs)
+    (λ c κs. search needs)
+    weighted-sum-requires
+    returns)
