@@ -1,66 +1,52 @@
 -- A play ends with the answer by the plain meaning.
 use Prim.Native.Nat.{ℕ, _*_, _≤_, _<_}
 use mathlib.Core.Path.{_≡_, refl, sym, ap, ap₂, _∙_}
-use mathlib.Core.Bool.{Bool, true, false, cond, _&&_}
-use mathlib.Core.List.{List, [], _∷_, map}
+use mathlib.Core.Bool.{true, _&&_}
+use mathlib.Core.List.{List, []}
 use native.Mathlib.Omega.{arith}
-use lib.Dec.{eqb, ltb}
-use lib.ListN.{length, getD, take, replicate, length-map, length-replicate}
+use lib.Dec.{ltb}
+use lib.ListN.{length, getD, take, replicate, length-replicate}
 use borrow.Author.Tests.{le-leb, ltb-true, eq-eqb}
 use Rattle.lists.specs.Answers.{ask}
 use Rattle.lists.specs.Lists.{allBelow, inFront}
 use Rattle.lists.proofs.Lists.{length-listFrom}
 use Rattle.lists.proofs.Questions.{passed, both-yes}
 use Rattle.field.specs.Field.{q}
-use Rattle.rounding.specs.Sets.{scaleOf}
-use Rattle.rounding.specs.Questions.{isBit, countOk, boundOk, askSettings, SettingsReady}
-use Rattle.rounding.specs.Plain.{highPart, verdict}
-use Rattle.rounding.proofs.Ready.{settings-ready, settings-rest}
-use Rattle.book.specs.Book.{shared, drawLength}
+use Rattle.settings.specs.Sets.{scaleOf}
+use Rattle.settings.specs.Sizes.{keyCount, shared, drawLength, workLength}
+use Rattle.settings.specs.Questions.{isBit, countOk, boundOk, askSettings, SettingsReady}
+use Rattle.settings.proofs.Ready.{settings-ready, settings-rest}
+use Rattle.settings.specs.Order.{rounds}
 use Rattle.book.specs.Deal.{multipliers, serverBook, phoneBook, Dealt, dealNo, dealCall}
 use Rattle.state.specs.declared.Side.{Side}
 use Rattle.state.specs.State.{freshSide, whole, sendDue, takeDue, underWay, finished, answerPlaces, heldAnswer, answerNo, answerCall}
-use Rattle.runs.specs.Records.{Settings, answerOf, missing, Hand, Seat, World, outcome, step, worldAfter}
+use Rattle.state.proofs.States.{finished-whole, places-most}
+use Rattle.settings.specs.declared.Settings.{Settings}
+use Rattle.runs.specs.Records.{answerOf, missing, Hand, Seat, World, outcome, step, worldAfter}
 use Rattle.runs.specs.Demands.{Fixed, Idle, ownHand, otherHand, Ended}
 use Rattle.runs.proofs.Theorem.{every-run-ends}
 use Rattle.syntax.specs.declared.Order.{Order}
 use Rattle.lines.specs.declared.Outcome.{Outcome}
 use Rattle.lines.specs.Plain.{settingsOf, secretOf, orderNo, outcomeOf}
-use Rattle.lines.specs.Play.{roundsAfter, ones, thrice, begunAt, zeroWork, toldBy, playedWith, Lent}
+use Rattle.lines.specs.Play.{mostDraw, mostBook, mostInputs, width, roundsPlayed, ones, inColumns, begunAt, zeroWork, toldBy, playedWith, Lent}
 use Rattle.lines.proofs.Laws.{length-front}
 use Rattle.lines.proofs.Rounds.{playCalls, roundCalls, rounds-are, carried}
-use Rattle.lines.proofs.Handed.{settings-ok, ones-ok, thrice-long, thrice-below, missing-none, front-zeros, zeros-below, zeros-long}
+use Rattle.lines.proofs.Handed.{settings-ok, ones-ok, columns-long, columns-below, missing-none, front-zeros, zeros-below, zeros-long}
 
 -- ---- The answer of a side that has ended
-
-answer-long : (s : Settings) (secret : List ℕ) → length secret ≡ s .n → length (answerOf s secret) ≡ answerPlaces (s .kind) (s .n)
-unfolding answerOf
-answer-long s secret e = by (eqb (s .kind) 0)
-  where
-    by : (b : Bool) → length (cond b (map (highPart (scaleOf (s .set))) secret) (verdict q (s .bound) secret ∷ [])) ≡ cond b (s .n) 1
-    by true = length-map secret (highPart (scaleOf (s .set))) ∙ e
-    by false = refl
-
-places-most : (s : Settings) → s .n ≤ 8 → answerPlaces (s .kind) (s .n) ≤ 8
-places-most s h = by (eqb (s .kind) 0)
-  where
-    by : (b : Bool) → cond b (s .n) 1 ≤ 8
-    by true = h
-    by false = omega arith
 
 abbrev given : ℕ → List ℕ → Outcome
 given count numbers = record { refused = 0; length = count; numbers = inFront numbers (replicate 8 0) }
 
-module _ (s : Settings) (secret : List ℕ) (x : Side) (done : finished x ≡ true) (held : heldAnswer x ≡ answerOf s secret) (long : length secret ≡ s .n) (most : s .n ≤ 8) where
-  places : answerPlaces (x .kind) (x .n) ≡ answerPlaces (s .kind) (s .n)
-  places = sym (length-listFrom 0 (answerPlaces (x .kind) (x .n)) (λ (j : ℕ). getD (x .answer) j 0)) ∙ ap length held ∙ answer-long s secret long
+module _ (s : Settings) (secret : List ℕ) (x : Side) (done : finished x ≡ true) (held : heldAnswer x ≡ answerOf s secret) where
+  places : answerPlaces x ≡ length (answerOf s secret)
+  places = sym (length-listFrom 0 (answerPlaces x) (λ (j : ℕ). getD (x .answer) j 0)) ∙ ap length held
 
   asked : answerNo x (replicate 8 0) ≡ 0
   unfolding answerNo ask
-  asked =
-      rw (done, le-leb (answerPlaces (x .kind) (x .n)) 8 (omega (arith, places, places-most s most)))
+  asked = rw (done, le-leb (answerPlaces x) 8 (places-most x (finished-whole x done)))
 
-  told-is : toldBy x ≡ given (answerPlaces (s .kind) (s .n)) (answerOf s secret)
+  told-is : toldBy x ≡ given (length (answerOf s secret)) (answerOf s secret)
   unfolding toldBy answerCall
   told-is = rw asked (ap₂ given places held)
 
@@ -97,14 +83,14 @@ module _ (serial : ℕ) (o : Order) (ok : orderNo serial o ≡ 0) (fits : serial
   secret-long : length secret ≡ o .count
   secret-long = sym (length-front (o .count) (o .numbers) room)
 
-  fixed : Fixed 1 s serial ones ones
+  fixed : Fixed keyCount s serial ones ones
   fixed =
       record {
         settings = settings-ok (o .set) (o .kind) (o .count) (o .bound) rest opened;
         above = above;
         fits = fits;
-        server-count = refl;
-        phone-count = refl;
+        server-count = length-replicate {A = ℕ} keyCount 1;
+        phone-count = length-replicate {A = ℕ} keyCount 1;
         server-keys = ones-ok;
         phone-keys = ones-ok;
       }
@@ -113,28 +99,28 @@ module _ (serial : ℕ) (o : Order) (ok : orderNo serial o ≡ 0) (fits : serial
   abbrev idle : Seat
   idle = record { side = freshSide; work = zeroWork; latest = [] }
 
-  idle-is : Idle 1 serial idle
+  idle-is : Idle keyCount serial idle
   unfolding underWay sendDue takeDue whole askSettings ask
-  idle-is = record { none = refl; last = above; exact = length-replicate {A = ℕ} 4608 0; silent = refl }
+  idle-is = record { none = refl; last = above; exact = length-replicate {A = ℕ} (workLength keyCount) 0; silent = refl }
 
-  module _ (draw : List ℕ) (draw-long : length draw ≡ drawLength (scaleOf (o .set)) (o .kind) (o .count) 3) (draw-below : allBelow q draw ≡ true) where
+  module _ (draw : List ℕ) (draw-long : length draw ≡ drawLength (scaleOf (o .set)) (o .kind) (o .count) width) (draw-below : allBelow q draw ≡ true) where
     abbrev inputs : List ℕ
-    inputs = thrice secret
+    inputs = inColumns secret
 
     abbrev server : Hand
-    server = ownHand 1 s 0 ones ones inputs draw
+    server = ownHand keyCount s 0 ones ones inputs draw
 
     abbrev phone : Hand
-    phone = otherHand 1 s 0 ones ones inputs secret draw
+    phone = otherHand keyCount s 0 ones ones inputs secret draw
 
     abbrev start : World
     start = record { own = idle; other = idle }
 
-    ended : Ended s secret (worldAfter 1 s serial server phone start playCalls .own)
+    ended : Ended s secret (worldAfter keyCount s serial server phone start playCalls .own)
     ended =
-        every-run-ends 1 s serial ones ones fixed secret inputs draw
+        every-run-ends keyCount s serial ones ones fixed secret inputs draw
         (record { size-is = secret-long; below = six .0 })
-        (record { size-is = thrice-long secret ∙ ap (λ (n : ℕ). n * 3) secret-long; below = thrice-below secret (six .0) })
+        (record { size-is = columns-long secret ∙ ap (λ (n : ℕ). n * width) secret-long; below = columns-below secret (six .0) })
         (record { size-is = draw-long; below = draw-below })
         start
         (record { own = idle-is; other = idle-is })
@@ -147,24 +133,24 @@ module _ (serial : ℕ) (o : Order) (ok : orderNo serial o ≡ 0) (fits : serial
     begun zeros =
         record { own = begunAt serial o 0 inputs (server .book) zeroWork; other = begunAt serial o 1 zeros (phone .book) zeroWork }
 
-    begins-are : worldAfter 1 s serial server phone start playCalls ≡ worldAfter 1 s serial server phone (begun (phone .inputs)) (roundCalls 7)
+    begins-are : worldAfter keyCount s serial server phone start playCalls ≡ worldAfter keyCount s serial server phone (begun (phone .inputs)) (roundCalls rounds)
     unfolding worldAfter step outcome begunAt
     begins-are = refl
 
-    pub played : playedWith serial o inputs (replicate (o .count * 3) 0)
-        (serverBook (scaleOf (o .set)) (o .kind) (o .count) 3 (multipliers ones ones) draw)
-        (phoneBook (scaleOf (o .set)) (o .kind) (o .count) 3 draw)
+    pub played : playedWith serial o inputs (replicate (o .count * width) 0)
+        (serverBook (scaleOf (o .set)) (o .kind) (o .count) width (multipliers ones ones) draw)
+        (phoneBook (scaleOf (o .set)) (o .kind) (o .count) width draw)
         ≡ outcomeOf serial o
     unfolding playedWith outcomeOf
     played =
-        let zeros : missing 3 (multipliers ones ones) secret inputs ≡ replicate (o .count * 3) 0 = missing-none secret ∙ ap (λ (n : ℕ). replicate (n * 3) 0) secret-long in
-        let world : worldAfter 1 s serial server phone start playCalls ≡ roundsAfter 7 (begun (replicate (o .count * 3) 0)) = begins-are ∙ rounds-are s serial server phone 7 (begun (phone .inputs)) ∙ ap (λ (z : List ℕ). roundsAfter 7 (begun z)) zeros in
+        let zeros : missing width (multipliers ones ones) secret inputs ≡ replicate (o .count * width) 0 = missing-none secret ∙ ap (λ (n : ℕ). replicate (n * width) 0) secret-long in
+        let world : worldAfter keyCount s serial server phone start playCalls ≡ roundsPlayed rounds (begun (replicate (o .count * width) 0)) = begins-are ∙ rounds-are s serial server phone rounds (begun (phone .inputs)) ∙ ap (λ (z : List ℕ). roundsPlayed rounds (begun z)) zeros in
         ap (λ (w : World). toldBy (w .own .side)) (sym world)
-        ∙ told-is s secret (worldAfter 1 s serial server phone start playCalls .own .side) (ended .done) (ended .answer) secret-long (ready .most)
+        ∙ told-is s secret (worldAfter keyCount s serial server phone start playCalls .own .side) (ended .done) (ended .answer)
         ∙ rw ok
 
-    module _ (a b : List ℕ) (a-long : length a ≡ shared (scaleOf (o .set)) (o .kind) (o .count) * 3) (b-long : length b ≡ shared (scaleOf (o .set)) (o .kind) (o .count) * 3) where
-      deal-asked : dealNo 1 (o .set) (o .kind) (o .count) ones ones draw a b ≡ 0
+    module _ (a b : List ℕ) (a-long : length a ≡ shared (scaleOf (o .set)) (o .kind) (o .count) * width) (b-long : length b ≡ shared (scaleOf (o .set)) (o .kind) (o .count) * width) where
+      deal-asked : dealNo keyCount (o .set) (o .kind) (o .count) ones ones draw a b ≡ 0
       unfolding dealNo ask
       deal-asked =
           let x = both-yes (isBit (o .set) && isBit (o .kind) && countOk (o .count)) (boundOk (o .kind) (o .bound)) (fixed .settings) in
@@ -172,33 +158,33 @@ module _ (serial : ℕ) (o : Order) (ok : orderNo serial o ≡ 0) (fits : serial
           rw (y .0, y .1, ones-ok, eq-eqb _ _ draw-long, eq-eqb _ _ a-long, eq-eqb _ _ b-long, draw-below)
 
       -- the deal is not refused
-      pub dealt : dealCall 1 (o .set) (o .kind) (o .count) ones ones draw a b ≡ record { refused = 0; server = server .book; phone = phone .book }
+      pub dealt : dealCall keyCount (o .set) (o .kind) (o .count) ones ones draw a b ≡ record { refused = 0; server = server .book; phone = phone .book }
       unfolding dealCall
       dealt = rw deal-asked
 
 -- what is played with the books of the deal is the plain meaning
 pub deal-play : (serial : ℕ) (o : Order) → orderNo serial o ≡ 0 → serial < 4294967296 → o .count ≤ length (o .numbers)
     → (draw inputs zeros a b : List ℕ) → Lent o draw inputs zeros a b
-    → (r : ℕ) (spread server phone : List ℕ) → spread ≡ thrice (secretOf o)
-    → _≡_ {A = Dealt} (record { refused = r; server = server; phone = phone }) (dealCall 1 (o .set) (o .kind) (o .count) ones ones draw a b)
+    → (r : ℕ) (spread server phone : List ℕ) → spread ≡ inColumns (secretOf o)
+    → _≡_ {A = Dealt} (record { refused = r; server = server; phone = phone }) (dealCall keyCount (o .set) (o .kind) (o .count) ones ones draw a b)
     → playedWith serial o spread zeros server phone ≡ outcomeOf serial o
 deal-play serial o ok fits room draw inputs zeros a b l r spread server phone e d =
     let books = d ∙ dealt serial o ok fits room draw (l .draw-long) (l .draw-below) a b (l .server-long) (l .phone-long) in
     ap (λ (x : List ℕ). playedWith serial o x zeros server phone) e
-    ∙ ap (λ (z : List ℕ). playedWith serial o (thrice (secretOf o)) z server phone) (l .zeros)
-    ∙ ap (λ (x : Dealt). playedWith serial o (thrice (secretOf o)) (replicate (o .count * 3) 0) (x .server) (x .phone)) books
+    ∙ ap (λ (z : List ℕ). playedWith serial o (inColumns (secretOf o)) z server phone) (l .zeros)
+    ∙ ap (λ (x : Dealt). playedWith serial o (inColumns (secretOf o)) (replicate (o .count * width) 0) (x .server) (x .phone)) books
     ∙ played serial o ok fits room draw (l .draw-long) (l .draw-below)
 
 -- the fronts of zero arrays are the slices that an order asks for
-pub lent-is : (o : Order) (drawn size : ℕ) → drawn ≡ drawLength (scaleOf (o .set)) (o .kind) (o .count) 3 → drawn ≤ 4104
+pub lent-is : (o : Order) (drawn size : ℕ) → drawn ≡ drawLength (scaleOf (o .set)) (o .kind) (o .count) width → drawn ≤ mostDraw
     → size ≡ shared (scaleOf (o .set)) (o .kind) (o .count) → size ≤ 1320 → o .count ≤ 8
-    → Lent o (take drawn (replicate 4104 0)) (take (o .count * 3) (replicate 24 0)) (take (o .count * 3) (replicate 24 0)) (take (size * 3) (replicate 3960 0)) (take (size * 3) (replicate 3960 0))
+    → Lent o (take drawn (replicate mostDraw 0)) (take (o .count * width) (replicate mostInputs 0)) (take (o .count * width) (replicate mostInputs 0)) (take (size * width) (replicate mostBook 0)) (take (size * width) (replicate mostBook 0))
 lent-is o drawn size e l f m h =
     record {
-      draw-long = sym (zeros-long drawn 4104 l) ∙ e;
-      draw-below = ap (allBelow q) (front-zeros drawn 4104 l) ∙ zeros-below drawn;
-      inputs-long = sym (zeros-long (o .count * 3) 24 (omega arith));
-      zeros = front-zeros (o .count * 3) 24 (omega arith);
-      server-long = sym (zeros-long (size * 3) 3960 (omega arith)) ∙ ap (λ (n : ℕ). n * 3) f;
-      phone-long = sym (zeros-long (size * 3) 3960 (omega arith)) ∙ ap (λ (n : ℕ). n * 3) f;
+      draw-long = sym (zeros-long drawn mostDraw l) ∙ e;
+      draw-below = ap (allBelow q) (front-zeros drawn mostDraw l) ∙ zeros-below drawn;
+      inputs-long = sym (zeros-long (o .count * width) mostInputs (omega arith));
+      zeros = front-zeros (o .count * width) mostInputs (omega arith);
+      server-long = sym (zeros-long (size * width) mostBook (omega arith)) ∙ ap (λ (n : ℕ). n * width) f;
+      phone-long = sym (zeros-long (size * width) mostBook (omega arith)) ∙ ap (λ (n : ℕ). n * width) f;
     }

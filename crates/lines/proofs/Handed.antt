@@ -5,18 +5,18 @@ use mathlib.Core.Bool.{true, _&&_}
 use mathlib.Core.List.{List, _∷_}
 use native.Mathlib.Omega.{arith}
 use lib.Dec.{ltb}
-use lib.ListN.{length, getD, take, replicate, length-replicate}
+use lib.ListN.{length, getD, take, replicate, length-replicate, getD-replicate, replicate-append-replicate}
 use borrow.Author.Tests.{lt-ltb}
 use Rattle.lists.specs.Lists.{every, listFrom, allBelow}
 use Rattle.lists.proofs.Lists.{length-listFrom, getD-listTo, listTo-cong}
 use Rattle.lists.proofs.Every.{below-at, every-listTo}
 use Rattle.lists.proofs.Questions.{passed, both-yes, and-yes}
 use Rattle.field.specs.Field.{q, sub}
-use Rattle.rounding.specs.Questions.{isBit, countOk, boundOk, keysOk, askSettings}
-use Rattle.book.specs.Book.{widthOf}
+use Rattle.settings.specs.Sizes.{keyCount, widthOf}
+use Rattle.settings.specs.Questions.{isBit, countOk, boundOk, keysOk, askSettings}
 use Rattle.book.specs.Deal.{multipliers}
 use Rattle.runs.specs.Records.{missing}
-use Rattle.lines.specs.Play.{ones, thrice}
+use Rattle.lines.specs.Play.{width, ones, inColumns}
 
 -- settings that passed questions 1 to 3
 pub settings-ok : (set kind n bound rest : ℕ) → askSettings 0 set kind n bound rest ≡ 0
@@ -33,22 +33,26 @@ settings-ok set kind n bound rest e =
     (three .0)
 
 -- the keys pass question 4
-pub ones-ok : keysOk ones ≡ true
+all-ones : (k : ℕ) → keysOk (replicate k 1) ≡ true
 unfolding keysOk every
-ones-ok = refl
+all-ones zero = refl
+all-ones (suc k) = all-ones k
+
+pub ones-ok : keysOk ones ≡ true
+ones-ok = all-ones keyCount
 
 -- the server's inputs: as many as asked, and below q
-pub thrice-long : (xs : List ℕ) → length (thrice xs) ≡ length xs * 3
-unfolding thrice
-thrice-long xs = length-listFrom 0 (length xs * 3) _
+pub columns-long : (xs : List ℕ) → length (inColumns xs) ≡ length xs * width
+unfolding inColumns
+columns-long xs = length-listFrom 0 (length xs * width) _
 
-pub thrice-below : (xs : List ℕ) → allBelow q xs ≡ true → allBelow q (thrice xs) ≡ true
-unfolding thrice allBelow
-thrice-below xs e =
-    every-listTo (λ (x : ℕ). ltb x q) (length xs * 3) (λ (x : ℕ). getD xs (x / 3) 0) (λ x l. lt-ltb (getD xs (x / 3) 0) q (small x))
+pub columns-below : (xs : List ℕ) → allBelow q xs ≡ true → allBelow q (inColumns xs) ≡ true
+unfolding inColumns allBelow
+columns-below xs e =
+    every-listTo (λ (x : ℕ). ltb x q) (length xs * width) (λ (x : ℕ). getD xs (x / width) 0) (λ x l. lt-ltb (getD xs (x / width) 0) q (small x))
   where
-    small : (x : ℕ) → getD xs (x / 3) 0 < q
-    small x = below-at q xs (x / 3) (omega arith) e
+    small : (x : ℕ) → getD xs (x / width) 0 < q
+    small x = below-at q xs (x / width) (omega arith) e
 
 zeros-are : (i n : ℕ) → listFrom {A = ℕ} i n (λ (x : ℕ). 0) ≡ replicate n 0
 unfolding listFrom
@@ -68,25 +72,23 @@ front-zeros (suc n) (suc m) h = ap (λ (l : List ℕ). 0 ∷ l) (front-zeros n m
 pub zeros-long : (n m : ℕ) → n ≤ m → n ≡ length (take {A = ℕ} n (replicate m 0))
 zeros-long n m h = sym (ap length (front-zeros n m h) ∙ length-replicate {A = ℕ} n 0)
 
-one-of : (c : ℕ) → c < 3 → getD (multipliers ones ones) c 0 ≡ 1
-one-of zero h = refl
-one-of (suc zero) h = refl
-one-of (suc (suc zero)) h = refl
-one-of (suc (suc (suc c))) h = absurd (omega arith)
+one-of : (k c : ℕ) → c < widthOf k → getD (multipliers (replicate k 1) (replicate k 1)) c 0 ≡ 1
+one-of k zero h = refl
+one-of k (suc c) h = rw (replicate-append-replicate {A = ℕ} k k 1) (getD-replicate (k + k) c 1 0 (omega arith))
 
 none-left : (f w s : ℕ) → f ≡ 1 → s ≡ w → sub q (f * w) s ≡ 0
 none-left f w s e d = rw (e, d) (omega arith)
 
-thrice-at : (xs : List ℕ) (x : ℕ) → x < length xs * 3 → getD (thrice xs) (x / 3 * 3 + x % 3) 0 ≡ getD xs (x / 3) 0
-unfolding thrice
-thrice-at xs x l =
-    let e : x / 3 * 3 + x % 3 ≡ x = omega arith in
-    rw e (getD-listTo (length xs * 3) (λ (y : ℕ). getD xs (y / 3) 0) x 0 l)
+columns-at : (xs : List ℕ) (x : ℕ) → x < length xs * width → getD (inColumns xs) (x / width * width + x % width) 0 ≡ getD xs (x / width) 0
+unfolding inColumns
+columns-at xs x l =
+    let e : x / width * width + x % width ≡ x = omega arith in
+    rw e (getD-listTo (length xs * width) (λ (y : ℕ). getD xs (y / width) 0) x 0 l)
 
 -- what is missing to the coefficients is 0 throughout: the phone's inputs
-pub missing-none : (xs : List ℕ) → missing (widthOf 1) (multipliers ones ones) xs (thrice xs) ≡ replicate (length xs * 3) 0
+pub missing-none : (xs : List ℕ) → missing width (multipliers ones ones) xs (inColumns xs) ≡ replicate (length xs * width) 0
 unfolding missing
 missing-none xs =
-    listTo-cong (length xs * 3) _ (λ (x : ℕ). 0)
-    (λ x l. none-left (getD (multipliers ones ones) (x % 3) 0) (getD xs (x / 3) 0) (getD (thrice xs) (x / 3 * 3 + x % 3) 0) (one-of (x % 3) (omega arith)) (thrice-at xs x l))
-    ∙ zeros-are 0 (length xs * 3)
+    listTo-cong (length xs * width) _ (λ (x : ℕ). 0)
+    (λ x l. none-left (getD (multipliers ones ones) (x % width) 0) (getD xs (x / width) 0) (getD (inColumns xs) (x / width * width + x % width) 0) (one-of keyCount (x % width) (omega arith)) (columns-at xs x l))
+    ∙ zeros-are 0 (length xs * width)

@@ -8,26 +8,26 @@ use native.Mathlib.Numerals.{unary-clauses}
 use lib.Dec.{eqb}
 use lib.ListN.{length, take}
 use borrow.Author.Tests.{eqb-true}
-use Rattle.message.specs.Lengths.{messageLength}
+use Rattle.settings.specs.Sizes.{keyCount, messageLength}
 use Rattle.state.specs.declared.Side.{Side}
 use Rattle.opening.specs.Opening.{message}
 use Rattle.side.specs.Side.{sendNo, sentSide, afterSend, sendCall}
 use Rattle.side.proofs.Sending.{send-ready}
 use Rattle.lists.specs.Lists.{inFront}
 use Rattle.runs.specs.Records.{Seat, World}
-use Rattle.lines.specs.Play.{sentAt, tookAt, serverHalf, phoneHalf, roundAfter, roundsAfter}
+use Rattle.lines.specs.Play.{sentAt, tookAt, serverHalf, phoneHalf, roundPlayed, roundsPlayed}
 
 -- a send writes no more than it is lent
-pub send-fits : (s : Side) (work out : List ℕ) → sendCall 1 s work out .sent .length ≤ length out
+pub send-fits : (s : Side) (work out : List ℕ) → sendCall keyCount s work out .sent .length ≤ length out
 unfolding sendCall
-send-fits s work out = by (eqb (sendNo 1 s work out) 0) refl
+send-fits s work out = by (eqb (sendNo keyCount s work out) 0) refl
   where
-    by : (b : Bool) → eqb (sendNo 1 s work out) 0 ≡ b
+    by : (b : Bool) → eqb (sendNo keyCount s work out) 0 ≡ b
         → cond b
-        (afterSend 0 (messageLength 1 (s .kind) (s .n) (s .round)) (sentSide s) (inFront (message 1 s work) out))
-        (afterSend (sendNo 1 s work out) 0 s out)
+        (afterSend 0 (messageLength keyCount (s .kind) (s .n) (s .round)) (sentSide s) (inFront (message keyCount s work) out))
+        (afterSend (sendNo keyCount s work out) 0 s out)
         .sent .length ≤ length out
-    by true e = send-ready 1 s work out (eqb-true _ 0 e) .room
+    by true e = send-ready keyCount s work out (eqb-true _ 0 e) .room
     by false e = omega arith
 
 -- the front of a list that is long enough
@@ -48,10 +48,10 @@ unfolding phoneHalf
 phone-half-is x x′ y y′ e f = ap₂ {C = World} (λ (a b : Seat). record { own = a; other = b }) (f ∙ ap (λ (b : Seat). tookAt x (b .latest)) e) e
 
 -- one more round
-pub round-again : (w v w′ : World) (n : ℕ) → v ≡ roundsAfter n w → w′ ≡ roundAfter v → w′ ≡ roundsAfter (n + 1) w
-unfolding roundsAfter
-round-again w v w′ n e f = simp unary-clauses (f ∙ ap roundAfter e)
+pub round-again : (w v w′ : World) (n : ℕ) → v ≡ roundsPlayed n w → w′ ≡ roundPlayed v → w′ ≡ roundsPlayed (n + 1) w
+unfolding roundsPlayed
+round-again w v w′ n e f = simp unary-clauses (f ∙ ap roundPlayed e)
 
-pub no-round : (w : World) → w ≡ roundsAfter 0 w
-unfolding roundsAfter
+pub no-round : (w : World) → w ≡ roundsPlayed 0 w
+unfolding roundsPlayed
 no-round w = refl

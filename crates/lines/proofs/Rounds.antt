@@ -8,13 +8,15 @@ use lib.Dec.{leb}
 use lib.ListN.{length, replicate, length-replicate}
 use borrow.Author.Tests.{le-leb}
 use Rattle.lists.specs.Lists.{joinFrom}
-use Rattle.message.specs.Lengths.{messageLength}
-use Rattle.column.proofs.Columns.{openings-most}
-use Rattle.runs.specs.Records.{Settings, Hand, World, Move, outcome, step, worldAfter}
+use Rattle.settings.specs.Sizes.{keyCount, mostBytes, messageLength}
+use Rattle.settings.specs.Order.{rounds}
+use Rattle.settings.proofs.Sizes.{openings-most}
+use Rattle.settings.specs.declared.Settings.{Settings}
+use Rattle.runs.specs.Records.{Hand, World, Move, outcome, step, worldAfter}
 use Rattle.runs.specs.Records.Who.{mine, theirs}
 use Rattle.runs.specs.Records.Call.{begin, send, takeLatest}
 use Rattle.runs.specs.Demands.{move, outFor, roundInOrder, holds, carriedThrough}
-use Rattle.lines.specs.Play.{lent, sentAt, tookAt, serverHalf, phoneHalf, roundAfter, roundsAfter}
+use Rattle.lines.specs.Play.{lent, sentAt, tookAt, serverHalf, phoneHalf, roundPlayed, roundsPlayed}
 
 -- the calls of so many rounds, as the code makes them
 abbrev pub roundCalls : ℕ → List Move
@@ -23,46 +25,46 @@ roundCalls (suc n) = move mine (send lent) ∷ move theirs takeLatest ∷ move t
 
 -- all calls of a play
 abbrev pub playCalls : List Move
-playCalls = move mine begin ∷ move theirs begin ∷ roundCalls 7
+playCalls = move mine begin ∷ move theirs begin ∷ roundCalls rounds
 
 -- the first round, or the last, set apart
-first-last : (n : ℕ) (w : World) → roundsAfter n (roundAfter w) ≡ roundAfter (roundsAfter n w)
-unfolding roundsAfter
+first-last : (n : ℕ) (w : World) → roundsPlayed n (roundPlayed w) ≡ roundPlayed (roundsPlayed n w)
+unfolding roundsPlayed
 first-last zero w = refl
-first-last (suc n) w = ap roundAfter (first-last n w)
+first-last (suc n) w = ap roundPlayed (first-last n w)
 
 module _ (s : Settings) (serial : ℕ) (h o : Hand) where
   one-round : (w : World) (ms : List Move)
-      → worldAfter 1 s serial h o w (move mine (send lent) ∷ move theirs takeLatest ∷ move theirs (send lent) ∷ move mine takeLatest ∷ ms)
-      ≡ worldAfter 1 s serial h o (roundAfter w) ms
-  unfolding worldAfter step outcome roundAfter serverHalf phoneHalf sentAt tookAt
+      → worldAfter keyCount s serial h o w (move mine (send lent) ∷ move theirs takeLatest ∷ move theirs (send lent) ∷ move mine takeLatest ∷ ms)
+      ≡ worldAfter keyCount s serial h o (roundPlayed w) ms
+  unfolding worldAfter step outcome roundPlayed serverHalf phoneHalf sentAt tookAt
   one-round w ms = refl
 
-  no-call : (w : World) → worldAfter 1 s serial h o w [] ≡ w
+  no-call : (w : World) → worldAfter keyCount s serial h o w [] ≡ w
   unfolding worldAfter
   no-call w = refl
 
-  pub rounds-are : (n : ℕ) (w : World) → worldAfter 1 s serial h o w (roundCalls n) ≡ roundsAfter n w
-  unfolding roundsAfter
+  pub rounds-are : (n : ℕ) (w : World) → worldAfter keyCount s serial h o w (roundCalls n) ≡ roundsPlayed n w
+  unfolding roundsPlayed
   rounds-are zero w = no-call w
-  rounds-are (suc n) w = one-round w (roundCalls n) ∙ rounds-are n (roundAfter w) ∙ first-last n w
+  rounds-are (suc n) w = one-round w (roundCalls n) ∙ rounds-are n (roundPlayed w) ∙ first-last n w
 
 -- every message fits the lent output
-message-fits : (kind n round : ℕ) → n ≤ 8 → messageLength 1 kind n round ≤ 192
+message-fits : (kind n round : ℕ) → n ≤ 8 → messageLength keyCount kind n round ≤ mostBytes keyCount
 unfolding messageLength
 message-fits kind n round h = omega (arith, openings-most kind n round h)
 
 module _ (s : Settings) (most : s .n ≤ 8) where
-  roomy : (round : ℕ) → leb (length (outFor 1 s round)) (length lent) ≡ true
+  roomy : (round : ℕ) → leb (length (outFor keyCount s round)) (length lent) ≡ true
   roomy round =
-      let n : ℕ = messageLength 1 (s .kind) (s .n) round in
-      le-leb (length (replicate {A = ℕ} n 0)) 192 (omega (arith, length-replicate {A = ℕ} n 0, message-fits (s .kind) (s .n) round most))
+      let n : ℕ = messageLength keyCount (s .kind) (s .n) round in
+      le-leb (length (replicate {A = ℕ} n 0)) (mostBytes keyCount) (omega (arith, length-replicate {A = ℕ} n 0, message-fits (s .kind) (s .n) round most))
 
-  holds-rounds : (i n : ℕ) → holds (joinFrom i n (λ (j : ℕ). roundInOrder 1 s (1 + j))) (roundCalls n) ≡ true
+  holds-rounds : (i n : ℕ) → holds (joinFrom i n (λ (j : ℕ). roundInOrder keyCount s (1 + j))) (roundCalls n) ≡ true
   unfolding joinFrom holds
   holds-rounds i zero = refl
   holds-rounds i (suc n) = simp (roomy (1 + i)) (holds-rounds (suc i) n)
 
-  pub carried : carriedThrough 1 s playCalls ≡ true
+  pub carried : carriedThrough keyCount s playCalls ≡ true
   unfolding carriedThrough holds
-  carried = simp (holds-rounds 0 7)
+  carried = simp (holds-rounds 0 rounds)

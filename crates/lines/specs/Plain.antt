@@ -3,13 +3,13 @@ use Prim.Native.Nat.{ℕ}
 use mathlib.Core.Bool.{cond}
 use mathlib.Core.List.{List, []}
 use lib.Dec.{eqb, leb, ltb}
-use lib.ListN.{take, replicate}
+use lib.ListN.{length, take, replicate}
 use Rattle.lists.specs.Answers.{ask}
 use Rattle.lists.specs.Lists.{allBelow, inFront}
 use Rattle.field.specs.Field.{q}
-use Rattle.rounding.specs.Questions.{askSettings}
-use Rattle.state.specs.State.{answerPlaces}
-use Rattle.runs.specs.Records.{Settings, answerOf}
+use Rattle.settings.specs.Questions.{askSettings}
+use Rattle.settings.specs.declared.Settings.{Settings}
+use Rattle.runs.specs.Records.{answerOf}
 use Rattle.syntax.specs.declared.Order.{Order}
 use Rattle.lines.specs.declared.Outcome.{Outcome}
 use Rattle.syntax.specs.declared.Text.{Text}
@@ -38,8 +38,9 @@ orderNo serial o =
 unfoldable pub outcomeOf : ℕ → Order → Outcome
 outcomeOf serial o =
     let refusal = orderNo serial o in
+    let answer = answerOf (settingsOf o) (secretOf o) in
     cond (eqb refusal 0)
-    (record { refused = 0; length = answerPlaces (o .kind) (o .count); numbers = inFront (answerOf (settingsOf o) (secretOf o)) (replicate 8 0) })
+    (record { refused = 0; length = length answer; numbers = inFront answer (replicate 8 0) })
     (record { refused = refusal; length = 0; numbers = replicate 8 0 })
 
 -- "Each output line: line number, then high parts or verdict, or `!` and the refusal"; "malformed: `!12`, no run"; "serial = line number",

@@ -1,14 +1,15 @@
 -- The play of a line, over the calls of a side.
-use Prim.Native.Nat.{ℕ, zero, suc, _*_, _/_, _≤_}
+use Prim.Native.Nat.{ℕ, zero, suc, _+_, _*_, _/_, _≤_}
 use mathlib.Core.Path.{_≡_}
 use mathlib.Core.Bool.{true, cond}
-use mathlib.Core.List.{List, [], _∷_}
+use mathlib.Core.List.{List, []}
 use lib.Dec.{eqb}
 use lib.ListN.{length, getD, take, replicate}
 use Rattle.lists.specs.Lists.{listTo, allBelow}
 use Rattle.field.specs.Field.{q}
-use Rattle.rounding.specs.Sets.{scaleOf}
-use Rattle.book.specs.Book.{shared, drawLength}
+use Rattle.settings.specs.Sets.{scaleOf}
+use Rattle.settings.specs.Sizes.{keyCount, widthOf, mostBytes, shared, drawLength, workLength}
+use Rattle.settings.specs.Order.{rounds}
 use Rattle.state.specs.declared.Side.{Side}
 use Rattle.state.specs.State.{freshSide, answerCall}
 use Rattle.side.specs.Side.{After, beginCall, sendCall, takeCall}
@@ -30,24 +31,24 @@ worldOf t server phone = record { own = seatOf (t .server) server; other = seatO
 
 -- both message lengths fit
 abbrev pub Fits : Table → Type 0
-Fits t = (t .server .length ≤ 192) × (t .phone .length ≤ 192)
+Fits t = (t .server .length ≤ mostBytes keyCount) × (t .phone .length ≤ mostBytes keyCount)
 
 -- ---- Moves
 
 -- the output that every send is lent
 abbrev pub lent : List ℕ
-lent = replicate 192 0
+lent = replicate (mostBytes keyCount) 0
 
 -- a seat after a send; a refused send leaves the latest message
 unfoldable pub sentAt : Seat → Seat
 sentAt x =
-    let a = sendCall 1 (x .side) (x .work) lent in
+    let a = sendCall keyCount (x .side) (x .work) lent in
     record { side = a .sent .side; work = x .work; latest = cond (eqb (a .sent .refused) 0) (take (a .sent .length) (a .out)) (x .latest) }
 
 -- a seat after it was handed a message
 unfoldable pub tookAt : Seat → List ℕ → Seat
 tookAt x message =
-    let a = takeCall 1 (x .side) (x .work) message in
+    let a = takeCall keyCount (x .side) (x .work) message in
     record { side = a .done .side; work = a .work; latest = x .latest }
 
 -- the server sends, the phone takes
@@ -63,32 +64,36 @@ phoneHalf w =
     record { own = tookAt (w .own) (phone .latest); other = phone }
 
 -- both halves of a round
-unfoldable pub roundAfter : World → World
-roundAfter w = phoneHalf (serverHalf w)
+unfoldable pub roundPlayed : World → World
+roundPlayed w = phoneHalf (serverHalf w)
 
 -- so many rounds
-unfoldable pub roundsAfter : ℕ → World → World
-roundsAfter zero w = w
-roundsAfter (suc n) w = roundAfter (roundsAfter n w)
+unfoldable pub roundsPlayed : ℕ → World → World
+roundsPlayed zero w = w
+roundsPlayed (suc n) w = roundPlayed (roundsPlayed n w)
 
 -- ---- The begins
 
 -- keys 1
 abbrev pub ones : List ℕ
-ones = 1 ∷ []
+ones = replicate keyCount 1
 
--- the server's inputs: keys are 1 and the phone's numbers 0, so each coefficient three times
-unfoldable pub thrice : List ℕ → List ℕ
-thrice xs = listTo (length xs * 3) (λ (x : ℕ). getD xs (x / 3) 0)
+-- the numbers of a shared number on one side
+abbrev pub width : ℕ
+width = widthOf keyCount
+
+-- the server's inputs: keys are 1 and the phone's numbers 0, so each coefficient in every column
+unfoldable pub inColumns : List ℕ → List ℕ
+inColumns xs = listTo (length xs * width) (λ (x : ℕ). getD xs (x / width) 0)
 
 -- the seat that a begin leaves; nothing has been sent
 abbrev pub begunBy : After → Seat
 begunBy a = record { side = a .done .side; work = a .work; latest = [] }
 
--- side `number`, begun from a fresh side, with key 1
+-- side `number`, begun from a fresh side, with keys 1
 unfoldable pub begunAt : ℕ → Order → ℕ → List ℕ → List ℕ → List ℕ → Seat
 begunAt serial o number inputs book work =
-    begunBy (beginCall 1 freshSide number (o .set) (o .kind) (o .count) (o .bound) ones serial inputs book work)
+    begunBy (beginCall keyCount freshSide number (o .set) (o .kind) (o .count) (o .bound) ones serial inputs book work)
 
 -- ---- The end
 
@@ -100,20 +105,30 @@ toldBy s =
 
 -- the working slice before a begin
 abbrev pub zeroWork : List ℕ
-zeroWork = replicate 4608 0
+zeroWork = replicate (workLength keyCount) 0
 
 -- the whole play from what the begins are handed: what the server's answer says at its end
 unfoldable pub playedWith : ℕ → Order → List ℕ → List ℕ → List ℕ → List ℕ → Outcome
 playedWith serial o serverInputs phoneInputs serverBook phoneBook =
     toldBy
-    (roundsAfter 7 (record { own = begunAt serial o 0 serverInputs serverBook zeroWork; other = begunAt serial o 1 phoneInputs phoneBook zeroWork })
+    (roundsPlayed rounds (record { own = begunAt serial o 0 serverInputs serverBook zeroWork; other = begunAt serial o 1 phoneInputs phoneBook zeroWork })
     .own .side)
+
+-- the most numbers of a side's inputs, of a book and of a draw
+abbrev pub mostInputs : ℕ
+mostInputs = 8 * width
+
+abbrev pub mostBook : ℕ
+mostBook = 1320 * width
+
+abbrev pub mostDraw : ℕ
+mostDraw = mostBook + 144
 
 -- lent slices of the lengths that an order asks for; a draw of numbers below q
 pub record Lent (o : Order) (draw serverInputs phoneInputs serverBook phoneBook : List ℕ) : Type 0 where
-  pub draw-long : length draw ≡ drawLength (scaleOf (o .set)) (o .kind) (o .count) 3
+  pub draw-long : length draw ≡ drawLength (scaleOf (o .set)) (o .kind) (o .count) width
   pub draw-below : allBelow q draw ≡ true
-  pub inputs-long : length serverInputs ≡ o .count * 3
-  pub zeros : phoneInputs ≡ replicate (o .count * 3) 0
-  pub server-long : length serverBook ≡ shared (scaleOf (o .set)) (o .kind) (o .count) * 3
-  pub phone-long : length phoneBook ≡ shared (scaleOf (o .set)) (o .kind) (o .count) * 3
+  pub inputs-long : length serverInputs ≡ o .count * width
+  pub zeros : phoneInputs ≡ replicate (o .count * width) 0
+  pub server-long : length serverBook ≡ shared (scaleOf (o .set)) (o .kind) (o .count) * width
+  pub phone-long : length phoneBook ≡ shared (scaleOf (o .set)) (o .kind) (o .count) * width

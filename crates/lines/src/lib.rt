@@ -3,15 +3,21 @@ ghost use mathlib.Core.Path.{_≡_};
 ghost use mathlib.Core.List.{[]};
 ghost use Prim.Native.Nat.{_*_, _≤_};
 ghost use lib.ListN.{length};
+ghost use Rattle.settings.specs.Sizes.{keyCount, mostBytes};
+ghost use Rattle.settings.specs.Order.{rounds};
 ghost use Rattle.syntax.specs.Answer.{answerText, textOf};
 ghost use Rattle.lines.specs.Plain.{orderNo, outcomeOf, lineAnswer};
-ghost use Rattle.lines.specs.Play.{seatOf, worldOf, Fits, sentAt, tookAt, serverHalf, phoneHalf, roundAfter, roundsAfter, thrice, begunAt, toldBy, playedWith, Lent};
-use book::draw_length;
-use book::shared_of;
+ghost use Rattle.lines.specs.Play.{seatOf, worldOf, Fits, sentAt, tookAt, serverHalf, phoneHalf, roundPlayed, roundsPlayed, width, inColumns, begunAt, toldBy, playedWith, Lent};
+use settings::draw_length;
+use settings::shared_of;
 use dealer::deal;
 use field::all_below_q;
-use opening::WORK_LENGTH;
-use rounding::settings_no;
+use settings::MOST_BYTES;
+use settings::ROUNDS;
+use settings::WORK_LENGTH;
+use settings::KEYS;
+use settings::WIDTH;
+use settings::settings_no;
 use side::begin;
 use side::send;
 use side::take;
@@ -26,19 +32,12 @@ use syntax::read_line;
 
 // ---- Play
 
-// Numbers of a shared number on one side.
-const WIDTH: usize = 3;
+// The most numbers of a side's inputs, of a book and of a draw.
+const INPUTS_LENGTH: usize = 8 * WIDTH;
 
-// The most numbers of a draw, a book and a side's inputs; the most bytes of a message.
-const DRAW_LENGTH: usize = 4104;
+const BOOK_LENGTH: usize = 1320 * WIDTH;
 
-const BOOK_LENGTH: usize = 3960;
-
-const INPUTS_LENGTH: usize = 24;
-
-const MESSAGE_LENGTH: usize = 192;
-
-const ROUNDS: u32 = 7;
+const DRAW_LENGTH: usize = BOOK_LENGTH + 144;
 
 // What it gives: the number of the first no, or 0; and how many numbers, and the numbers, with zeros behind.
 pub struct Outcome {
@@ -51,7 +50,7 @@ pub struct Outcome {
 struct Player {
     side: Side,
     length: usize,
-    message: [u8; 192],
+    message: [u8; MOST_BYTES],
 }
 
 // Both sides.
@@ -85,10 +84,10 @@ fn order_no(serial: u32, order: Order) -> u32
 
 // The player sends.
 fn send_at(player: Player, work: &[u32]) -> Player
-    requires { ⌜ player .length ≤ 192 ⌝ }
-    ensures { λ r. ⌜ (seatOf r (now (work .entry)) ≡ sentAt (seatOf player (now (work .entry)))) × (r .length ≤ 192) ⌝ }
+    requires { ⌜ player .length ≤ mostBytes keyCount ⌝ }
+    ensures { λ r. ⌜ (seatOf r (now (work .entry)) ≡ sentAt (seatOf player (now (work .entry)))) × (r .length ≤ mostBytes keyCount) ⌝ }
 {
-    let mut message = [0u8; MESSAGE_LENGTH];
+    let mut message = [0u8; MOST_BYTES];
     let before = player.side;
     let sent = send(before, work, &mut message);
     let side = sent.side;
@@ -109,7 +108,7 @@ fn send_at(player: Player, work: &[u32]) -> Player
 
 // The player takes the latest message of another.
 fn take_at(player: Player, work: &mut [u32], from: Player) -> Player
-    requires { ⌜ from .length ≤ 192 ⌝ }
+    requires { ⌜ from .length ≤ mostBytes keyCount ⌝ }
     ensures { λ r. ⌜ (seatOf r (now (work .exit)) ≡ tookAt (seatOf player (now (work .entry))) (seatOf from [] .latest)) × (r .length ≡ player .length) ⌝ }
 {
     let handed = from.message;
@@ -158,7 +157,7 @@ fn phone_half(table: Table, server: &mut [u32], phone: &[u32]) -> Table
 // One round.
 fn play_round(table: Table, server: &mut [u32], phone: &mut [u32]) -> Table
     requires { ⌜ Fits table ⌝ }
-    ensures { λ r. ⌜ (worldOf r (now (server .exit)) (now (phone .exit)) ≡ roundAfter (worldOf table (now (server .entry)) (now (phone .entry)))) × Fits r ⌝ }
+    ensures { λ r. ⌜ (worldOf r (now (server .exit)) (now (phone .exit)) ≡ roundPlayed (worldOf table (now (server .entry)) (now (phone .entry)))) × Fits r ⌝ }
 {
     let half = server_half(table, server, phone);
     phone_half(half, server, phone)
@@ -167,7 +166,7 @@ fn play_round(table: Table, server: &mut [u32], phone: &mut [u32]) -> Table
 // The seven rounds.
 fn play_rounds(table: Table, server: &mut [u32], phone: &mut [u32]) -> Table
     requires { ⌜ Fits table ⌝ }
-    ensures { λ r. ⌜ worldOf r (now (server .exit)) (now (phone .exit)) ≡ roundsAfter 7 (worldOf table (now (server .entry)) (now (phone .entry))) ⌝ }
+    ensures { λ r. ⌜ worldOf r (now (server .exit)) (now (phone .exit)) ≡ roundsPlayed rounds (worldOf table (now (server .entry)) (now (phone .entry))) ⌝ }
 {
     let mut at = table;
     let mut round: u32 = 0;
@@ -180,10 +179,10 @@ fn play_rounds(table: Table, server: &mut [u32], phone: &mut [u32]) -> Table
 
 // ---- Begin and answer
 
-// Each number three times.
+// Each number in every column.
 fn spread(out: &mut [u32], numbers: &[u32])
-    requires { ⌜ length (now out) ≡ length (now numbers) * 3 ⌝ }
-    ensures { λ _. ⌜ now (out .exit) ≡ thrice (now (numbers .entry)) ⌝ }
+    requires { ⌜ length (now out) ≡ length (now numbers) * width ⌝ }
+    ensures { λ _. ⌜ now (out .exit) ≡ inColumns (now (numbers .entry)) ⌝ }
 {
     let mut i = 0;
     while i < out.len() {
@@ -201,7 +200,7 @@ fn begin_at(
     book: &[u32],
     work: &mut [u32],
 ) -> Player
-    ensures { λ r. ⌜ (seatOf r (now (work .exit)) ≡ begunAt serial order number (now (inputs .entry)) (now (book .entry)) (now (work .entry))) × (r .length ≤ 192) ⌝ }
+    ensures { λ r. ⌜ (seatOf r (now (work .exit)) ≡ begunAt serial order number (now (inputs .entry)) (now (book .entry)) (now (work .entry))) × (r .length ≤ mostBytes keyCount) ⌝ }
 {
     let done = begin(
         fresh(),
@@ -210,14 +209,14 @@ fn begin_at(
         order.kind,
         order.count,
         order.bound,
-        1,
+        [1; KEYS],
         serial,
         inputs,
         book,
         work,
     );
     let side = done.side;
-    let message = [0u8; MESSAGE_LENGTH];
+    let message = [0u8; MOST_BYTES];
     Player {
         side,
         length: 0,
@@ -286,8 +285,8 @@ fn deal_and_play(
         order.set,
         order.kind,
         order.count,
-        1,
-        1,
+        [1; KEYS],
+        [1; KEYS],
         draw,
         server,
         phone,
@@ -304,7 +303,7 @@ fn play(serial: u32, order: Order) -> Outcome
     let count = order.count as usize;
     let drawn = draw_length(set, order.kind, count);
     let size = shared_of(set, order.kind, count) * WIDTH;
-    let width = count * WIDTH;
+    let each = count * WIDTH;
     let draw = [0u32; DRAW_LENGTH];
     let mut inputs = [0u32; INPUTS_LENGTH];
     let zeros = [0u32; INPUTS_LENGTH];
@@ -314,8 +313,8 @@ fn play(serial: u32, order: Order) -> Outcome
         serial,
         order,
         &draw[..drawn],
-        &mut inputs[..width],
-        &zeros[..width],
+        &mut inputs[..each],
+        &zeros[..each],
         &mut server[..size],
         &mut phone[..size],
     )

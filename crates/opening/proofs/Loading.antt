@@ -11,9 +11,9 @@ use lib.Seq.{ext-getD}
 use borrow.Author.Tests.{lt-ltb, le-ltb, le-leb, lt-leb}
 use Rattle.lists.specs.Lists.{fill}
 use Rattle.lists.proofs.Fill.{length-fill, fill-at, fill-before, fill-behind, front-at}
-use Rattle.rounding.specs.Sets.{Scale}
-use Rattle.book.specs.Book.{shared}
-use Rattle.slice.specs.Layout.{places, inputAt, begunPlace, begunWork}
+use Rattle.settings.specs.Sets.{Scale}
+use Rattle.settings.specs.Sizes.{shared, places}
+use Rattle.slice.specs.Layout.{inputAt, begunPlace, begunWork}
 use Rattle.column.proofs.Begun.{begun-length, begun-at}
 use Rattle.opening.specs.Work.{loaded}
 

@@ -1,23 +1,22 @@
 -- The message that a side writes.
 use mathlib.Core.Path.{_≡_, refl, ap, ap₂, _∙_}
 use mathlib.Core.Bool.{Bool, true, false, cond}
-use mathlib.Core.List.{List, [], _∷_}
+use mathlib.Core.List.{List, [], _∷_, _++_}
 use Prim.Native.Nat.{ℕ, zero, suc, _+_, _-_, _*_, _/_, _%_, _^_, _≤_, _<_}
-use native.Mathlib.Nat.{mod-lt}
+use native.Mathlib.Nat.{mod-lt, add-zero, mul-zero, mul-suc}
 use native.Mathlib.Omega.{arith}
 use lib.Dec.{eqb, ltb, lit<}
-use lib.ListN.{length, getD, set, take}
+use lib.ListN.{length, getD, take}
 use lib.Seq.{take-at}
 use borrow.Author.Tests.{lt-ltb, eq-eqb, ne-eqb}
 use Rattle.lists.specs.Lists.{allBelow, fill, listFrom, listTo, joinFrom, joinTo}
 use Rattle.lists.proofs.Every.{below-at, every-listTo}
 use Rattle.lists.proofs.Lists.{length-listFrom}
-use Rattle.lists.proofs.Fill.{fill-same, front-at, front-is}
+use Rattle.lists.proofs.Fill.{fill-same, front-is}
 use Rattle.field.specs.Field.{q}
 use Rattle.field.specs.Forms.{Registers, Form, num, reg, sum, _⊞_, _⊟_, _⊠_, value}
-use Rattle.rounding.specs.Sets.{scaleOf}
-use Rattle.message.specs.Bits.{bytesFor}
-use Rattle.message.specs.Lengths.{openings, fieldBits, messageBits, messageLength}
+use Rattle.settings.specs.Sizes.{keyCount, bytesFor, openings, fieldBits, mostOpenings, mostFields, messageBits, messageLength}
+use Rattle.settings.specs.Settings.{paramsIn, termsOf}
 use Rattle.message.specs.Message.{headerNumber, messageOf}
 use Rattle.message.specs.Fields.{headerWith, HeaderFits}
 use Rattle.message.specs.declared.Header.{Header}
@@ -27,7 +26,8 @@ use Rattle.steps.specs.Steps.{publicOf, opening}
 use Rattle.state.specs.declared.Side.{Side}
 use Rattle.state.specs.State.{Whole}
 use Rattle.opening.specs.Opening.{prepared, outgoing, partColumn, message}
-use Rattle.opening.specs.Work.{paired, outgoingField}
+use Rattle.opening.specs.Work.{columnsTo, fieldColumn, outgoingIn, outgoingField, inTurn}
+use Rattle.opening.proofs.Columns.{columns-at}
 
 -- ---- numbers below q
 
@@ -51,31 +51,27 @@ module _ (work : List ℕ) (small : allBelow q work ≡ true) where
       go true = place-below (c * 1536 + i)
       go false = lit< tt
 
-  prepared-below : (s : Side) (c o : ℕ) → prepared 1 s work c o < q
+  prepared-below : (s : Side) (c o : ℕ) → prepared keyCount s work c o < q
   unfolding prepared
   prepared-below s c o =
-      value-below q (getD (weights 1 (s .number) (s .keys)) c 0) (column work c) (lit< tt) (column-below c)
-      (opening (publicOf (scaleOf (s .set)) (s .kind) (s .n) (s .bound) (maskedIn work)) (s .round) o)
+      value-below q (getD (weights keyCount (s .number) (s .keys)) c 0) (column work c) (lit< tt) (column-below c)
+      (opening (publicOf (termsOf (s .settings)) (maskedIn work)) (s .round) o)
 
   own-below : (c o : ℕ) → ownIn work c o < q
   unfolding ownIn
   own-below c o = place-below (c * 1536 + (1344 + o))
 
-  outgoing-below : (s : Side) (c o : ℕ) → outgoing 1 s work c o < q
+  outgoing-below : (s : Side) (c o : ℕ) → outgoing keyCount s work c o < q
   unfolding outgoing
   outgoing-below s c o = go (eqb (s .number) 0)
     where
-      go : (b : Bool) → cond b (prepared 1 s work c o) (ownIn work c o) < q
+      go : (b : Bool) → cond b (prepared keyCount s work c o) (ownIn work c o) < q
       go true = prepared-below s c o
       go false = own-below c o
 
   field-below : (s : Side) (x : ℕ) → outgoingField s work x < q
   unfolding outgoingField
-  field-below s x = go (eqb (x % 2) 0)
-    where
-      go : (b : Bool) → cond b (outgoing 1 s work 0 (x / 2)) (outgoing 1 s work (2 - s .number) (x / 2)) < q
-      go true = outgoing-below s 0 (x / 2)
-      go false = outgoing-below s (2 - s .number) (x / 2)
+  field-below s x = outgoing-below s _ _
 
   -- they fit the fields of a message
   pub fields-small : (s : Side) (n : ℕ) → allBelow (2 ^ fieldBits) (listTo n (outgoingField s work)) ≡ true
@@ -89,85 +85,107 @@ own-is work c o = let e : c * 1536 + (1344 + o) ≡ c * 1536 + 1344 + o = omega 
 
 -- ---- one column of outgoing numbers
 
-pub outgoing-server : (s : Side) (work out : List ℕ) (c n : ℕ) → s .number ≡ 0 → fill out 0 n (prepared 1 s work c) ≡ fill out 0 n (outgoing 1 s work c)
+pub outgoing-server : (s : Side) (work out : List ℕ) (c n : ℕ) → s .number ≡ 0 → fill out 0 n (prepared keyCount s work c) ≡ fill out 0 n (outgoing keyCount s work c)
 unfolding outgoing
 outgoing-server s work out c n e = fill-same out 0 n _ _ (λ o h. rw (eq-eqb (s .number) 0 e))
 
-pub outgoing-phone : (s : Side) (work out : List ℕ) (c m n : ℕ) → (s .number ≡ 0 → ⊥) → m ≡ n → fill out 0 m (ownIn work c) ≡ fill out 0 n (outgoing 1 s work c)
+pub outgoing-phone : (s : Side) (work out : List ℕ) (c m n : ℕ) → (s .number ≡ 0 → ⊥) → m ≡ n → fill out 0 m (ownIn work c) ≡ fill out 0 n (outgoing keyCount s work c)
 unfolding outgoing
 outgoing-phone s work out c m n e f = rw f (fill-same out 0 n _ _ (λ o h. rw (ne-eqb (s .number) 0 e)))
 
--- ---- shares and parts in turn
+-- ---- the fields in turn
 
--- one turn of the loop
-pub pair-more : (s shares parts : List ℕ) (o : ℕ)
-    → fill s 0 (2 * (o + 1)) (paired shares parts) ≡ set (set (fill s 0 (2 * o) (paired shares parts)) (2 * o) (getD shares o 0)) (2 * o + 1) (getD parts o 0)
-unfolding fill
-pair-more s shares parts o =
-    let e : 2 * (o + 1) ≡ suc (suc (2 * o)) = omega arith in
-    let a : 2 * o % 2 ≡ 0 = omega arith in
-    let b : 2 * o / 2 ≡ o = omega arith in
-    let c : suc (2 * o) % 2 ≡ 1 = omega arith in
-    let d : suc (2 * o) / 2 ≡ o = omega arith in
-    let z : 0 + 2 * o ≡ 2 * o = omega arith in
-    let y : 0 + suc (2 * o) ≡ 2 * o + 1 = omega arith in
-    rw (e, z, y, a, b, c, d)
+pub share-column : (s : Side) (f : ℕ) → f ≡ 0 → 0 ≡ fieldColumn s f
+share-column s f e = rw (eq-eqb f 0 e)
 
--- from the two columns of outgoing numbers
-pub pairs-are : (s : Side) (work fields shares parts y z : List ℕ) (n m : ℕ) → n ≡ m
-    → shares ≡ fill y 0 m (outgoing 1 s work 0) → parts ≡ fill z 0 m (outgoing 1 s work (2 - s .number))
-    → n ≤ length y → n ≤ length z → fill fields 0 (2 * n) (paired shares parts) ≡ fill fields 0 (2 * n) (outgoingField s work)
+pub part-column : (s : Side) (f : ℕ) → (f ≡ 0 → ⊥) → partColumn keyCount (1 - s .number) (f - 1) ≡ fieldColumn s f
+part-column s f e = rw (ne-eqb f 0 e)
+
+-- from the columns of outgoing numbers
+pub turns-are : (s : Side) (work fields sent z : List ℕ) (n m : ℕ) → n ≡ m → m ≤ mostOpenings → length z ≡ mostFields keyCount
+    → sent ≡ columnsTo m (outgoingIn s work) z (1 + keyCount)
+    → fill fields 0 ((1 + keyCount) * n) (inTurn sent) ≡ fill fields 0 ((1 + keyCount) * n) (outgoingField s work)
 unfolding outgoingField
-pairs-are s work fields shares parts y z n m k e f a b =
-    fill-same fields 0 (2 * n) _ _
-    (λ x h. ap₂ (λ (t u : ℕ). cond (eqb (x % 2) 0) t u)
-    (ap (λ (l : List ℕ). getD l (x / 2) 0) e ∙ front-at y m (outgoing 1 s work 0) (x / 2) (omega arith) (omega arith))
-    (ap (λ (l : List ℕ). getD l (x / 2) 0) f ∙ front-at z m (outgoing 1 s work (2 - s .number)) (x / 2) (omega arith) (omega arith)))
+turns-are s work fields sent z n m k few long e =
+    fill-same fields 0 ((1 + keyCount) * n) _ _
+    (λ x h. rw e (columns-at m (outgoingIn s work) z few (1 + keyCount) (x % (1 + keyCount)) (x / (1 + keyCount)) (omega arith) (omega arith) (omega arith)))
 
 -- ---- the message
 
--- pairs one behind the other
-pairs-join : (f : ℕ → ℕ) (g : ℕ → List ℕ) → ((o : ℕ) → g o ≡ f (2 * o) ∷ f (suc (2 * o)) ∷ []) → (i n : ℕ) → listFrom (2 * i) (2 * n) f ≡ joinFrom i n g
-unfolding listFrom joinFrom
-pairs-join f g h i zero = refl
-pairs-join f g h i (suc n) =
-    let e : 2 * suc n ≡ suc (suc (2 * n)) = omega arith in
-    let d : suc (suc (2 * i)) ≡ 2 * suc i = omega arith in
-    rw (e, h i, d, pairs-join f g h (suc i) n)
+listFrom-split : (f : ℕ → ℕ) (i a b : ℕ) → listFrom i (a + b) f ≡ listFrom i a f ++ listFrom (i + a) b f
+unfolding listFrom
+listFrom-split f i zero b =
+    let e : 0 + b ≡ b = omega arith in
+    let d : i + 0 ≡ i = omega arith in
+    rw (e, d)
+listFrom-split f i (suc a) b =
+    let e : suc a + b ≡ suc (a + b) = omega arith in
+    let d : i + suc a ≡ suc i + a = omega arith in
+    rw (e, d) (ap (λ (l : List ℕ). f i ∷ l) (listFrom-split f (suc i) a b))
 
-module _ (s : Side) (work : List ℕ) (kept : Whole s) where
+-- runs of w numbers one behind the other
+runs-join : (w : ℕ) (f : ℕ → ℕ) (g : ℕ → List ℕ) → ((o : ℕ) → g o ≡ listFrom (w * o) w f) → (i n : ℕ) → listFrom (w * i) (w * n) f ≡ joinFrom i n g
+unfolding joinFrom listFrom
+runs-join w f g h i zero = rw (mul-zero w)
+runs-join w f g h i (suc n) =
+    let e : w * suc n ≡ w + w * n = omega (arith, mul-suc w n) in
+    rw (e, listFrom-split f (w * i) w (w * n), h i, ← mul-suc w i, runs-join w f g h (suc i) n)
+
+-- the same run from another place on
+listFrom-moved : (i j n : ℕ) (f g : ℕ → ℕ) → ((x : ℕ) → x < n → f (i + x) ≡ g (j + x)) → listFrom i n f ≡ listFrom j n g
+unfolding listFrom
+listFrom-moved i j zero f g h = refl
+listFrom-moved i j (suc n) f g h =
+    ap₂ {A = ℕ} {B = List ℕ} (λ x l. x ∷ l) (rw (add-zero, add-zero) at (h 0 (omega arith)))
+    (listFrom-moved (suc i) (suc j) n f g (λ x l.
+    let a : suc i + x ≡ i + suc x = omega arith in
+    let b : suc j + x ≡ j + suc x = omega arith in
+    rw (a, b) (h (suc x) (omega arith))))
+
+module _ (s : Side) (work : List ℕ) where
+  abbrev partOf : ℕ → ℕ → ℕ
+  partOf o i = outgoing keyCount s work (partColumn keyCount (1 - s .number) i) o
+
   abbrev openingFields : ℕ → List ℕ
-  openingFields o = outgoing 1 s work 0 o ∷ listTo 1 (λ (i : ℕ). outgoing 1 s work (partColumn 1 (1 - s .number) i) o)
+  openingFields o = outgoing keyCount s work 0 o ∷ listTo keyCount (partOf o)
 
-  fields-of : (o : ℕ) → openingFields o ≡ outgoingField s work (2 * o) ∷ outgoingField s work (suc (2 * o)) ∷ []
-  unfolding outgoingField listFrom
-  fields-of o =
-      let less = kept .settings .side2 in
-      let a : 2 * o % 2 ≡ 0 = omega arith in
-      let b : 2 * o / 2 ≡ o = omega arith in
-      let c : suc (2 * o) % 2 ≡ 1 = omega arith in
-      let d : suc (2 * o) / 2 ≡ o = omega arith in
-      let e : 2 - s .number ≡ 1 + (1 - s .number) * 1 + 0 = omega arith in
-      rw (a, b, c, d, e)
+  first-is : (o : ℕ) → outgoing keyCount s work 0 o ≡ outgoingField s work ((1 + keyCount) * o)
+  unfolding outgoingField
+  first-is o =
+      let a : (1 + keyCount) * o % (1 + keyCount) ≡ 0 = omega arith in
+      let b : (1 + keyCount) * o / (1 + keyCount) ≡ o = omega arith in
+      rw (a, b)
 
-  pub fields-joined : (n : ℕ) → listTo (2 * n) (outgoingField s work) ≡ joinTo n openingFields
-  fields-joined n = pairs-join (outgoingField s work) openingFields fields-of 0 n
+  part-is : (o i : ℕ) → i < keyCount → partOf o (0 + i) ≡ outgoingField s work (suc ((1 + keyCount) * o) + i)
+  unfolding outgoingField
+  part-is o i h =
+      let a : (suc ((1 + keyCount) * o) + i) % (1 + keyCount) ≡ 1 + i = omega arith in
+      let b : (suc ((1 + keyCount) * o) + i) / (1 + keyCount) ≡ o = omega arith in
+      let c : 1 + i - 1 ≡ 0 + i = omega arith in
+      rw (a, b, ne-eqb (1 + i) 0 (omega arith), c)
 
-  pub message-is : (header : Header) (fs : List ℕ) → header ≡ headerWith (s .number) (s .set) (s .kind) (s .n) (s .round) (s .bound) (s .serial)
-      → fs ≡ listTo (2 * openings (s .kind) (s .n) (s .round)) (outgoingField s work)
-      → messageOf (headerNumber (header .sender) (header .set) (header .kind) (header .n) (header .bound) (header .round) (header .serial)) fs ≡ message 1 s work
+  fields-of : (o : ℕ) → openingFields o ≡ listFrom ((1 + keyCount) * o) (1 + keyCount) (outgoingField s work)
+  unfolding listFrom
+  fields-of o = ap₂ {A = ℕ} {B = List ℕ} (λ x l. x ∷ l) (first-is o) (listFrom-moved 0 (suc ((1 + keyCount) * o)) keyCount (partOf o) (outgoingField s work) (part-is o))
+
+  pub fields-joined : (n : ℕ) → listTo ((1 + keyCount) * n) (outgoingField s work) ≡ joinTo n openingFields
+  fields-joined n = runs-join (1 + keyCount) (outgoingField s work) openingFields fields-of 0 n
+
+  pub message-is : (header : Header) (fs : List ℕ) → header ≡ headerWith (s .number) (s .settings .shape .set) (s .settings .shape .kind) (s .settings .shape .n) (s .round) (s .settings .bound) (s .serial)
+      → fs ≡ listTo ((1 + keyCount) * openings (paramsIn (s .settings)) (s .round)) (outgoingField s work)
+      → messageOf (headerNumber (header .sender) (header .set) (header .kind) (header .n) (header .bound) (header .round) (header .serial)) fs ≡ message keyCount s work
   unfolding message
-  message-is header fs e f = rw (e, f, fields-joined (openings (s .kind) (s .n) (s .round)))
+  message-is header fs e f = rw (e, f, fields-joined (openings (paramsIn (s .settings)) (s .round)))
 
-pub header-fits : (s : Side) (header : Header) → header ≡ headerWith (s .number) (s .set) (s .kind) (s .n) (s .round) (s .bound) (s .serial) → Whole s
+pub header-fits : (s : Side) (header : Header) → header ≡ headerWith (s .number) (s .settings .shape .set) (s .settings .shape .kind) (s .settings .shape .n) (s .round) (s .settings .bound) (s .serial) → Whole s
     → HeaderFits (header .sender) (header .set) (header .kind) (header .n) (header .round) (header .bound)
-header-fits s header e h = rw e (settings-fit (s .number) (s .set) (s .kind) (s .n) (s .bound) (s .round) (h .settings) (omega (arith, h .round-most)))
+header-fits s header e h = rw e (settings-fit (s .number) (s .settings) (s .round) (h .settings) (omega (arith, h .round-most)))
 
 -- the first numbers of a list that is filled in front
 pub take-filled : (l z : List ℕ) (n : ℕ) (f : ℕ → ℕ) → l ≡ fill z 0 n f → n ≤ length z → take n l ≡ listTo n f
 take-filled l z n f e h = rw (e, front-is z n f h) (take-at (listTo n f) _ n (length-listFrom 0 n f))
 
-pub bytes-are : (s : Side) (fs : List ℕ) (f : ℕ → ℕ) → fs ≡ listTo (2 * openings (s .kind) (s .n) (s .round)) f
-    → bytesFor (messageBits (length fs)) ≡ messageLength 1 (s .kind) (s .n) (s .round)
+pub bytes-are : (s : Side) (fs : List ℕ) (f : ℕ → ℕ) → fs ≡ listTo ((1 + keyCount) * openings (paramsIn (s .settings)) (s .round)) f
+    → bytesFor (messageBits (length fs)) ≡ messageLength keyCount (paramsIn (s .settings)) (s .round)
 unfolding messageLength
 bytes-are s fs f e = ap (λ (n : ℕ). bytesFor (messageBits n)) (ap length e ∙ length-listFrom 0 _ f)

@@ -7,55 +7,37 @@ use native.Mathlib.Decide.{decLt}
 use native.Mathlib.Omega.{arith}
 use lib.ListN.{length, getD, replicate}
 use Rattle.lists.specs.Lists.{fill, allTo}
-use Rattle.lists.proofs.Fill.{length-fill, fill-at, fill-before, front-at, front-behind}
+use Rattle.lists.proofs.Fill.{front-at, front-behind}
 use Rattle.field.specs.Field.{q, add}
-use Rattle.rounding.specs.Sets.{scaleOf}
-use Rattle.message.specs.Lengths.{openings}
-use Rattle.steps.specs.declared.Settings.{Settings}
+use Rattle.settings.specs.Sets.{scaleOf}
+use Rattle.settings.specs.Sizes.{keyCount, widthOf, openings, mostOpenings}
+use Rattle.settings.specs.declared.Settings.{Settings}
 use Rattle.slice.specs.Layout.{maskedIn, weights}
 use Rattle.steps.specs.Steps.{publicOf}
 use Rattle.steps.specs.Calls.{HeldAll}
-use Rattle.steps.proofs.Bounds.{openings-most}
+use Rattle.settings.proofs.Sizes.{openings-most}
+use Rattle.settings.specs.Settings.{paramsIn}
 use Rattle.state.specs.declared.Side.{Side}
 use Rattle.state.specs.State.{Whole}
-use Rattle.opening.specs.Opening.{prepared, incoming, opened, passes}
-use Rattle.opening.specs.Work.{settingsIn, preparedTo, joinedAt, checkedAt}
+use Rattle.opening.specs.Check.{accepts}
+use Rattle.opening.specs.Opening.{partColumn, prepared, incoming, opened, passes}
+use Rattle.opening.specs.Work.{settingsIn, columnsTo, joinedAt, partAt, checkedAt}
+use Rattle.opening.proofs.Columns.{columns-at}
 
 -- ---- The numbers that the side has
 
-module _ (s : Side) (work own : List ℕ) where
-  pub length-prepared : (m : ℕ) → length (preparedTo s work own m) ≡ length own
-  unfolding preparedTo
-  length-prepared zero = refl
-  length-prepared (suc m) = length-fill _ _ (openings (s .kind) (s .n) (s .round)) _ ∙ length-prepared m
-
-  -- column c, opening o
-  pub prepared-at : (few : s .n ≤ 8) (m c o : ℕ) → 32 * m ≤ length own → c < m → o < openings (s .kind) (s .n) (s .round)
-      → getD (preparedTo s work own m) (32 * c + o) 0 ≡ prepared 1 s work c o
-  unfolding preparedTo
-  prepared-at few zero c o room h l = absurd (omega arith)
-  prepared-at few (suc m) c o room h l = go (decLt c m) (λ b. prepared-at few m c o (omega arith) b l) (openings-most (s .kind) (s .n) (s .round) few)
-    where
-      count : ℕ
-      count = openings (s .kind) (s .n) (s .round)
-
-      go : Dec (c < m) → (c < m → getD (preparedTo s work own m) (32 * c + o) 0 ≡ prepared 1 s work c o) → count ≤ 32
-          → getD (fill (preparedTo s work own m) (32 * m) count (prepared 1 s work m)) (32 * c + o) 0 ≡ prepared 1 s work c o
-      go (yes b) ih most = fill-before (preparedTo s work own m) (32 * m) count (prepared 1 s work m) (32 * c + o) (omega arith) ∙ ih b
-      go (no b) ih most =
-          let e : c ≡ m = omega arith in
-          rw e (fill-at (preparedTo s work own m) (32 * m) count (prepared 1 s work m) o (omega (arith, length-prepared m)) l)
-
--- `own` holds them for the openings of the round
+-- `own` holds its numbers for the openings of the round
 abbrev pub Holds : Side → List ℕ → List ℕ → Type 0
-Holds s work own = (c o : ℕ) → c < 3 → o < openings (s .kind) (s .n) (s .round) → getD own (32 * c + o) 0 ≡ prepared 1 s work c o
+Holds s work own = (c o : ℕ) → c < widthOf keyCount → o < openings (paramsIn (s .settings)) (s .round) → getD own (mostOpenings * c + o) 0 ≡ prepared keyCount s work c o
 
-pub prepared-holds : (s : Side) (work z own : List ℕ) → s .n ≤ 8 → length z ≡ 96 → own ≡ preparedTo s work z 3 → Holds s work own
-prepared-holds s work z own few room e c o h l = rw e (prepared-at s work z few 3 c o (omega arith) h l)
+pub prepared-holds : (s : Side) (work z own : List ℕ) → s .settings .shape .n ≤ 8 → length z ≡ mostOpenings * widthOf keyCount
+    → own ≡ columnsTo (openings (paramsIn (s .settings)) (s .round)) (prepared keyCount s work) z (widthOf keyCount) → Holds s work own
+prepared-holds s work z own few room e c o h l =
+    rw e (columns-at _ (prepared keyCount s work) z (openings-most (paramsIn (s .settings)) (s .round) few) (widthOf keyCount) c o (omega arith) h l)
 
 -- as `take_work` asks for them
-pub holds-all : (s : Side) (work own : List ℕ) (settings : Settings) (ws : List ℕ) → settings ≡ settingsIn s → ws ≡ weights 1 (s .number) (s .keys)
-    → length ws ≡ 3 → Holds s work own
+pub holds-all : (s : Side) (work own : List ℕ) (settings : Settings) (ws : List ℕ) → settings ≡ settingsIn s → ws ≡ weights keyCount (s .number) (s .keys)
+    → length ws ≡ widthOf keyCount → Holds s work own
     → HeldAll (publicOf (scaleOf (settings .set)) (settings .kind) (settings .n) (settings .bound) (maskedIn work)) (s .round) ws work own
 unfolding prepared
 holds-all s work own settings ws e f l h = rw e (λ c b o m. rw f (h c o (omega arith) m))
@@ -74,12 +56,12 @@ allTo-same (suc n) f g h = ap₂ _&&_ (allTo-same n f g (λ i l. h i (omega arit
 
 -- `numbers` holds the joined shares in front of zeros
 module _ (s : Side) (work own msg z numbers : List ℕ) (fields : Whole s) (holds : Holds s work own)
-    (room : length z ≡ 32) (none : (o : ℕ) → getD z o 0 ≡ 0) (e : numbers ≡ fill z 0 (openings (s .kind) (s .n) (s .round)) (joinedAt s own msg)) where
+    (room : length z ≡ mostOpenings) (none : (o : ℕ) → getD z o 0 ≡ 0) (e : numbers ≡ fill z 0 (openings (paramsIn (s .settings)) (s .round)) (joinedAt s own msg)) where
   abbrev count : ℕ
-  count = openings (s .kind) (s .n) (s .round)
+  count = openings (paramsIn (s .settings)) (s .round)
 
-  few : count ≤ 32
-  few = openings-most (s .kind) (s .n) (s .round) (fields .settings .most)
+  few : count ≤ mostOpenings
+  few = openings-most (paramsIn (s .settings)) (s .round) (fields .ready .most)
 
   pub joined-at : (o : ℕ) → o < count → getD numbers o 0 ≡ joinedAt s own msg o
   joined-at o h = rw e (front-at z count (joinedAt s own msg) o (omega (arith, few)) h)
@@ -87,11 +69,11 @@ module _ (s : Side) (work own msg z numbers : List ℕ) (fields : Whole s) (hold
   pub behind-at : (o : ℕ) → count ≤ o → getD numbers o 0 ≡ 0
   behind-at o h = rw e (front-behind z count (joinedAt s own msg) o h ∙ none o)
 
-  pub joined-is : (o : ℕ) → o < count → joinedAt s own msg o ≡ opened 1 s work msg o
+  pub joined-is : (o : ℕ) → o < count → joinedAt s own msg o ≡ opened keyCount s work msg o
   unfolding joinedAt opened
   joined-is o h =
-      let first : 32 * 0 + o ≡ o = omega arith in
-      ap (λ (x : ℕ). add q x (incoming 1 s msg o 0)) (ap (λ (k : ℕ). getD own k 0) (sym first) ∙ holds 0 o (omega arith) h)
+      let first : mostOpenings * 0 + o ≡ o = omega arith in
+      ap (λ (x : ℕ). add q x (incoming keyCount s msg o 0)) (ap (λ (k : ℕ). getD own k 0) (sym first) ∙ holds 0 o (omega arith) h)
 
   pub opened-below : (o : ℕ) → getD numbers o 0 < q
   unfolding joinedAt
@@ -102,11 +84,11 @@ module _ (s : Side) (work own msg z numbers : List ℕ) (fields : Whole s) (hold
       go (no h) = rw (behind-at o (omega arith)) (omega arith)
 
   -- the check of an opening
-  checked-is : (o : ℕ) → o < count → checkedAt s own msg numbers o ≡ passes 1 s work msg o
-  unfolding checkedAt passes allTo
+  checked-is : (o : ℕ) → o < count → checkedAt s own msg numbers o ≡ passes keyCount s work msg o
+  unfolding checkedAt partAt passes accepts opened
   checked-is o h =
-      let place : 1 + s .number * 1 + 0 ≡ 1 + s .number = omega arith in
-      rw (place, joined-at o h, joined-is o h, holds (1 + s .number) o (omega (arith, fields .settings .side2)) h)
+      allTo-same keyCount _ _
+      (λ i l. rw (joined-at o h, joined-is o h, holds (partColumn keyCount (s .number) i) o (omega (arith, fields .side2)) h))
 
-  pub checks-same : allTo count (checkedAt s own msg numbers) ≡ allTo count (passes 1 s work msg)
+  pub checks-same : allTo count (checkedAt s own msg numbers) ≡ allTo count (passes keyCount s work msg)
   checks-same = allTo-same count _ _ checked-is

@@ -1,3 +1,4 @@
 -- What a side gives to a round's openings.
+pub mod Check
 pub mod Opening
 pub mod Work

@@ -4,13 +4,13 @@ use mathlib.Core.Bool.{Bool, cond}
 use mathlib.Core.List.{List}
 use lib.Dec.{eqb}
 use lib.ListN.{getD}
-use Rattle.lists.specs.Lists.{fill}
+use Rattle.lists.specs.Lists.{fill, allTo}
 use Rattle.field.specs.Field.{q, add, mul}
-use Rattle.message.specs.Lengths.{openings}
-use Rattle.slice.specs.Layout.{places, inputAt}
-use Rattle.steps.specs.declared.Settings.{Settings}
+use Rattle.settings.specs.Sizes.{keyCount, mostOpenings, places}
+use Rattle.slice.specs.Layout.{inputAt}
+use Rattle.settings.specs.declared.Settings.{Settings}
 use Rattle.state.specs.declared.Side.{Side}
-use Rattle.opening.specs.Opening.{prepared, outgoing, incoming}
+use Rattle.opening.specs.Opening.{partColumn, outgoing, incoming}
 
 -- a slice with book and inputs loaded into its first columns
 unfoldable pub loaded : ℕ → ℕ → ℕ → List ℕ → List ℕ → List ℕ → ℕ → List ℕ
@@ -22,30 +22,43 @@ loaded count n width inputs book work (suc c) =
 
 -- the kept settings, as the rounds take them
 abbrev pub settingsIn : Side → Settings
-settingsIn s = record { set = s .set; kind = s .kind; n = s .n; bound = s .bound }
+settingsIn s = record { set = s .settings .shape .set; kind = s .settings .shape .kind; n = s .settings .shape .n; bound = s .settings .bound }
 
--- shares and parts in turn
-abbrev pub paired : List ℕ → List ℕ → ℕ → ℕ
-paired shares parts x = cond (eqb (x % 2) 0) (getD shares (x / 2) 0) (getD parts (x / 2) 0)
+-- a list with `count` numbers of f in each of its first columns, column c from place 32 × c on
+unfoldable pub columnsTo : ℕ → (ℕ → ℕ → ℕ) → List ℕ → ℕ → List ℕ
+columnsTo count f own zero = own
+columnsTo count f own (suc c) = fill (columnsTo count f own c) (mostOpenings * c) count (f c)
 
--- the fields of a round's message: share and part under the receiver's key in turn, with one key a side
+-- ---- Send
+
+-- the column of field f of an opening: the share, then the parts under the receiver's keys
+abbrev pub fieldColumn : Side → ℕ → ℕ
+fieldColumn s f = cond (eqb f 0) 0 (partColumn keyCount (1 - s .number) (f - 1))
+
+-- opening o of field f
+abbrev pub outgoingIn : Side → List ℕ → ℕ → ℕ → ℕ
+outgoingIn s work f o = outgoing keyCount s work (fieldColumn s f) o
+
+-- the fields of a round's message, opening by opening
 unfoldable pub outgoingField : Side → List ℕ → ℕ → ℕ
-outgoingField s work x =
-    cond (eqb (x % 2) 0) (outgoing 1 s work 0 (x / 2)) (outgoing 1 s work (2 - s .number) (x / 2))
+outgoingField s work x = outgoingIn s work (x % (1 + keyCount)) (x / (1 + keyCount))
+
+-- the same out of a list of columns, one for each field
+abbrev pub inTurn : List ℕ → ℕ → ℕ
+inTurn sent x = getD sent (mostOpenings * (x % (1 + keyCount)) + x / (1 + keyCount)) 0
 
 -- ---- Take
 
--- a list with a side's numbers for the openings in the first columns, column c from place 32 × c on
-unfoldable pub preparedTo : Side → List ℕ → List ℕ → ℕ → List ℕ
-preparedTo s work own zero = own
-preparedTo s work own (suc c) =
-    fill (preparedTo s work own c) (32 * c) (openings (s .kind) (s .n) (s .round)) (prepared 1 s work c)
-
--- opening o, joined from such a list and a message
+-- opening o, joined from a list of columns and a message
 unfoldable pub joinedAt : Side → List ℕ → List ℕ → ℕ → ℕ
-joinedAt s own msg o = add q (getD own o 0) (incoming 1 s msg o 0)
+joinedAt s own msg o = add q (getD own o 0) (incoming keyCount s msg o 0)
 
--- its check
+-- its check under key i, and under all keys
+unfoldable pub partAt : Side → List ℕ → List ℕ → List ℕ → ℕ → ℕ → Bool
+partAt s own msg numbers o i =
+    eqb
+    (add q (getD own (mostOpenings * partColumn keyCount (s .number) i + o) 0) (incoming keyCount s msg o (1 + i)))
+    (mul q (getD (s .keys) i 0) (getD numbers o 0))
+
 unfoldable pub checkedAt : Side → List ℕ → List ℕ → List ℕ → ℕ → Bool
-checkedAt s own msg numbers o =
-    eqb (add q (getD own (32 * (1 + s .number) + o) 0) (incoming 1 s msg o 1)) (mul q (getD (s .keys) 0 0) (getD numbers o 0))
+checkedAt s own msg numbers o = allTo keyCount (partAt s own msg numbers o)

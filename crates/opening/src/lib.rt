@@ -6,35 +6,39 @@ ghost use mathlib.Core.Bool.{true};
 ghost use Prim.Native.Nat.{ℕ, _+_, _*_, _≤_, _<_};
 ghost use lib.ListN.{length, getD};
 ghost use Rattle.lists.specs.Lists.{fill, inFront, allBelow, allTo};
-ghost use Rattle.message.specs.Lengths.{openings, messageLength};
 ghost use Rattle.field.specs.Field.{q};
+ghost use Rattle.settings.specs.Sizes.{keyCount, widthOf, openings, mostOpenings, mostFields, messageLength, workLength};
 ghost use Rattle.slice.specs.Layout.{ownIn, weights};
 ghost use Rattle.state.specs.State.{Whole};
-ghost use Rattle.opening.specs.Work.{loaded, settingsIn, paired, outgoingField, preparedTo, joinedAt, checkedAt};
+ghost use Rattle.opening.specs.Work.{loaded, settingsIn, columnsTo, fieldColumn, outgoingIn, outgoingField, inTurn, joinedAt, partAt, checkedAt};
 ghost use Rattle.opening.specs.Opening.{prepared, outgoing, message, incoming};
 use column::masked_in;
 use column::prepare;
 use field::add_mod;
 use field::mul_mod;
-use message::FIELDS_PER_OPENING;
+use settings::FIELDS_PER_OPENING;
 use message::Header;
-use message::field_count;
+use settings::MOST_FIELDS;
+use settings::MOST_OPENINGS;
+use settings::field_count;
 use message::field_of;
-use message::openings_in;
+use settings::openings_in;
 use message::put_message;
+use settings::KEYS;
+use settings::WIDTH;
+use settings::for_columns;
 use slice::INPUT;
 use slice::OWN;
-use slice::PLACES;
+use settings::PLACES;
 use state::Side;
-use steps::Settings;
+use steps::Column;
+use steps::Known;
+use settings::Settings;
 
-// Numbers of a shared number on one side, and the numbers of a working slice: a column for each.
-pub const WIDTH: usize = 3;
-
+// The numbers of a working slice: a column for each number of a shared number. And of a side's numbers for a round's openings.
 pub const WORK_LENGTH: usize = WIDTH * PLACES;
 
-// The most openings of a round.
-const MOST: usize = 32;
+pub const OWN_LENGTH: usize = WIDTH * MOST_OPENINGS;
 
 // ---- Begin: the working slice
 
@@ -51,8 +55,8 @@ pub fn clear(work: &mut [u32])
 
 // One number of each of the first `count` shared numbers of `from`, from a place on.
 fn load(work: &mut [u32], at: usize, from: &[u32], column: usize, count: usize)
-    requires { ⌜ (at + count ≤ length (now work)) × (column < 3) × (count * 3 ≤ length (now from)) ⌝ }
-    ensures { λ _. ⌜ now (work .exit) ≡ fill (now (work .entry)) at count (λ (i : ℕ). getD (now (from .entry)) (i * 3 + column) 0) ⌝ }
+    requires { ⌜ (at + count ≤ length (now work)) × (column < widthOf keyCount) × (count * widthOf keyCount ≤ length (now from)) ⌝ }
+    ensures { λ _. ⌜ now (work .exit) ≡ fill (now (work .entry)) at count (λ (i : ℕ). getD (now (from .entry)) (i * widthOf keyCount + column) 0) ⌝ }
 {
     let mut i = 0;
     while i < count {
@@ -63,8 +67,8 @@ fn load(work: &mut [u32], at: usize, from: &[u32], column: usize, count: usize)
 
 // Book and inputs into the columns of a cleared slice.
 pub fn load_columns(work: &mut [u32], book: &[u32], count: usize, inputs: &[u32], n: usize)
-    requires { ⌜ (length (now work) ≡ 4608) × (count ≤ 1320) × (n ≤ 8) × (count * 3 ≤ length (now book)) × (n * 3 ≤ length (now inputs)) ⌝ }
-    ensures { λ _. ⌜ now (work .exit) ≡ loaded count n 3 (now (inputs .entry)) (now (book .entry)) (now (work .entry)) 3 ⌝ }
+    requires { ⌜ (length (now work) ≡ workLength keyCount) × (count ≤ 1320) × (n ≤ 8) × (count * widthOf keyCount ≤ length (now book)) × (n * widthOf keyCount ≤ length (now inputs)) ⌝ }
+    ensures { λ _. ⌜ now (work .exit) ≡ loaded count n (widthOf keyCount) (now (inputs .entry)) (now (book .entry)) (now (work .entry)) (widthOf keyCount) ⌝ }
 {
     let mut c = 0;
     while c < WIDTH {
@@ -89,34 +93,34 @@ pub fn settings_of(side: Side) -> Settings
 }
 
 // What a public 1 adds to each column.
-pub fn weights_of(side: Side) -> [u32; 3]
-    ensures { λ r. ⌜ r ≡ weights 1 (side .number) (side .keys) ⌝ }
+pub fn weights_of(side: Side) -> [u32; WIDTH]
+    ensures { λ r. ⌜ r ≡ weights keyCount (side .number) (side .keys) ⌝ }
 {
     let keys = side.keys;
-    let key = keys[0];
+    let none = [0u32; KEYS];
     if side.number == 0 {
-        return [1, key, 0];
+        return for_columns(1, keys, none);
     }
-    [0, 0, key]
+    for_columns(0, none, keys)
 }
 
 // The side's numbers for the openings in one column, worked out from the slice, in front of `out`.
 fn prepare_column(out: &mut [u32], work: &[u32], side: Side, column: usize)
     requires { ⌜ Whole side ⌝ }
-    requires { ⌜ (length (now work) ≡ 4608) × (column < 3) × (32 ≤ length (now out)) ⌝ }
-    ensures { λ _. ⌜ now (out .exit) ≡ fill (now (out .entry)) 0 (openings (side .kind) (side .n) (side .round)) (prepared 1 side (now (work .entry)) column) ⌝ }
+    requires { ⌜ (length (now work) ≡ workLength keyCount) × (column < widthOf keyCount) × (mostOpenings ≤ length (now out)) ⌝ }
+    ensures { λ _. ⌜ now (out .exit) ≡ fill (now (out .entry)) 0 (openings (paramsIn (side .settings)) (side .round)) (prepared keyCount side (now (work .entry)) column) ⌝ }
 {
     let weights = weights_of(side);
-    let ys = masked_in(work);
-    prepare(
-        out,
-        work,
-        column,
-        settings_of(side),
-        ys,
-        side.round,
-        weights[column],
-    );
+    let known = Known {
+        settings: settings_of(side),
+        round: side.round,
+        masked: masked_in(work),
+    };
+    let col = Column {
+        index: column,
+        weight: weights[column],
+    };
+    prepare(out, work, col, known);
 }
 
 // ---- Send
@@ -124,8 +128,8 @@ fn prepare_column(out: &mut [u32], work: &[u32], side: Side, column: usize)
 // The numbers of one column that are to be sent, in front of `out`: the server works them out, the phone kept its own.
 fn outgoing_column(out: &mut [u32], work: &[u32], side: Side, column: usize)
     requires { ⌜ Whole side ⌝ }
-    requires { ⌜ (length (now work) ≡ 4608) × (column < 3) × (32 ≤ length (now out)) ⌝ }
-    ensures { λ _. ⌜ now (out .exit) ≡ fill (now (out .entry)) 0 (openings (side .kind) (side .n) (side .round)) (outgoing 1 side (now (work .entry)) column) ⌝ }
+    requires { ⌜ (length (now work) ≡ workLength keyCount) × (column < widthOf keyCount) × (mostOpenings ≤ length (now out)) ⌝ }
+    ensures { λ _. ⌜ now (out .exit) ≡ fill (now (out .entry)) 0 (openings (paramsIn (side .settings)) (side .round)) (outgoing keyCount side (now (work .entry)) column) ⌝ }
 {
     if side.number == 0 {
         prepare_column(out, work, side, column);
@@ -137,7 +141,7 @@ fn outgoing_column(out: &mut [u32], work: &[u32], side: Side, column: usize)
 
 // The openings that the phone kept, in front of `out`.
 fn own_column(out: &mut [u32], work: &[u32], column: usize, count: usize)
-    requires { ⌜ (length (now work) ≡ 4608) × (column < 3) × (count ≤ 32) × (count ≤ length (now out)) ⌝ }
+    requires { ⌜ (length (now work) ≡ workLength keyCount) × (column < widthOf keyCount) × (count ≤ mostOpenings) × (count ≤ length (now out)) ⌝ }
     ensures { λ _. ⌜ now (out .exit) ≡ fill (now (out .entry)) 0 count (ownIn (now (work .entry)) column) ⌝ }
 {
     let mut o = 0;
@@ -147,40 +151,67 @@ fn own_column(out: &mut [u32], work: &[u32], column: usize, count: usize)
     }
 }
 
-// Shares and parts in turn, in front of `fields`.
-fn pair_fields(fields: &mut [u32], shares: &[u32; 32], parts: &[u32; 32], count: usize)
-    requires { ⌜ (count ≤ 32) × (2 * count ≤ length (now fields)) ⌝ }
-    ensures { λ _. ⌜ now (fields .exit) ≡ fill (now (fields .entry)) 0 (2 * count) (paired (now (shares .entry)) (now (parts .entry))) ⌝ }
+// The column of field f of an opening: 0 is the share, the others are the parts under the receiver's keys.
+fn field_column(side: Side, f: usize) -> usize
+    requires { ⌜ (side .number < 2) × (f < 1 + keyCount) ⌝ }
+    ensures { λ r. ⌜ (r ≡ fieldColumn side f) × (r < widthOf keyCount) ⌝ }
 {
-    let mut o = 0;
-    while o < count {
-        fields[2 * o] = shares[o];
-        fields[2 * o + 1] = parts[o];
-        o += 1;
+    if f == 0 {
+        return 0;
+    }
+    1 + (1 - side.number as usize) * KEYS + (f - 1)
+}
+
+// The numbers that are to be sent, 32 places for each field of an opening.
+fn outgoing_columns(sent: &mut [u32], work: &[u32], side: Side)
+    requires { ⌜ Whole side ⌝ }
+    requires { ⌜ (length (now work) ≡ workLength keyCount) × (length (now sent) ≡ mostFields keyCount) ⌝ }
+    ensures { λ _. ⌜ now (sent .exit) ≡ columnsTo (openings (paramsIn (side .settings)) (side .round)) (outgoingIn side (now (work .entry))) (now (sent .entry)) (1 + keyCount) ⌝ }
+{
+    let mut f = 0;
+    while f < FIELDS_PER_OPENING {
+        let column = field_column(side, f);
+        outgoing_column(
+            &mut sent[MOST_OPENINGS * f..MOST_OPENINGS * f + MOST_OPENINGS],
+            work,
+            side,
+            column,
+        );
+        f += 1;
+    }
+}
+
+// The fields of the first openings, in front of `fields`: opening by opening.
+fn put_in_turn(fields: &mut [u32], sent: &[u32], count: usize)
+    requires { ⌜ (count ≤ mostOpenings) × (length (now sent) ≡ mostFields keyCount) × (length (now fields) ≡ mostFields keyCount) ⌝ }
+    ensures { λ _. ⌜ now (fields .exit) ≡ fill (now (fields .entry)) 0 ((1 + keyCount) * count) (inTurn (now (sent .entry))) ⌝ }
+{
+    let mut x = 0;
+    while x < FIELDS_PER_OPENING * count {
+        fields[x] = sent[MOST_OPENINGS * (x % FIELDS_PER_OPENING) + x / FIELDS_PER_OPENING];
+        x += 1;
     }
 }
 
 // The fields of the round's message, in front of `fields`.
 fn outgoing_fields(fields: &mut [u32], work: &[u32], side: Side, count: usize)
     requires { ⌜ Whole side ⌝ }
-    requires { ⌜ (length (now work) ≡ 4608) × (count ≡ openings (side .kind) (side .n) (side .round)) × (count ≤ 32) × (64 ≤ length (now fields)) ⌝ }
-    ensures { λ _. ⌜ now (fields .exit) ≡ fill (now (fields .entry)) 0 (2 * count) (outgoingField side (now (work .entry))) ⌝ }
+    requires { ⌜ (length (now work) ≡ workLength keyCount) × (count ≡ openings (paramsIn (side .settings)) (side .round)) × (count ≤ mostOpenings) × (length (now fields) ≡ mostFields keyCount) ⌝ }
+    ensures { λ _. ⌜ now (fields .exit) ≡ fill (now (fields .entry)) 0 ((1 + keyCount) * count) (outgoingField side (now (work .entry))) ⌝ }
 {
-    let mut shares = [0u32; 32];
-    outgoing_column(&mut shares, work, side, 0);
-    let mut parts = [0u32; 32];
-    outgoing_column(&mut parts, work, side, 2 - side.number as usize);
-    pair_fields(fields, &shares, &parts, count);
+    let mut sent = [0u32; MOST_FIELDS];
+    outgoing_columns(&mut sent, work, side);
+    put_in_turn(fields, &sent, count);
 }
 
 // Writes the message that a side which may send has for its round, and gives its length.
 pub fn write_message(side: Side, work: &[u32], out: &mut [u8]) -> usize
     requires { ⌜ Whole side ⌝ }
-    requires { ⌜ (length (now work) ≡ 4608) × (allBelow q (now work) ≡ true) × (messageLength 1 (side .kind) (side .n) (side .round) ≤ length (now out)) ⌝ }
-    ensures { λ r. ⌜ (r ≡ messageLength 1 (side .kind) (side .n) (side .round)) × (now (out .exit) ≡ inFront (message 1 side (now (work .entry))) (now (out .entry))) ⌝ }
+    requires { ⌜ (length (now work) ≡ workLength keyCount) × (allBelow q (now work) ≡ true) × (messageLength keyCount (paramsIn (side .settings)) (side .round) ≤ length (now out)) ⌝ }
+    ensures { λ r. ⌜ (r ≡ messageLength keyCount (paramsIn (side .settings)) (side .round)) × (now (out .exit) ≡ inFront (message keyCount side (now (work .entry))) (now (out .entry))) ⌝ }
 {
     let count = openings_in(side.kind, side.n, side.round) as usize;
-    let mut fields = [0u32; 64];
+    let mut fields = [0u32; MOST_FIELDS];
     outgoing_fields(&mut fields, work, side, count);
     let header = Header::new(
         side.number,
@@ -191,29 +222,34 @@ pub fn write_message(side: Side, work: &[u32], out: &mut [u8]) -> usize
         side.bound,
         side.serial,
     );
-    put_message(out, header, &fields[..2 * count])
+    put_message(out, header, &fields[..FIELDS_PER_OPENING * count])
 }
 
 // ---- Take
 
-// The side's numbers for the openings in all columns, column c from place 32 × c on.
+// The side's numbers for the openings in all columns, 32 places for each.
 pub fn prepare_columns(own: &mut [u32], work: &[u32], side: Side)
     requires { ⌜ Whole side ⌝ }
-    requires { ⌜ (length (now work) ≡ 4608) × (length (now own) ≡ 96) ⌝ }
-    ensures { λ _. ⌜ now (own .exit) ≡ preparedTo side (now (work .entry)) (now (own .entry)) 3 ⌝ }
+    requires { ⌜ (length (now work) ≡ workLength keyCount) × (length (now own) ≡ mostOpenings * widthOf keyCount) ⌝ }
+    ensures { λ _. ⌜ now (own .exit) ≡ columnsTo (openings (paramsIn (side .settings)) (side .round)) (prepared keyCount side (now (work .entry))) (now (own .entry)) (widthOf keyCount) ⌝ }
 {
     let mut c = 0;
     while c < WIDTH {
-        prepare_column(&mut own[MOST * c..MOST * c + MOST], work, side, c);
+        prepare_column(
+            &mut own[MOST_OPENINGS * c..MOST_OPENINGS * c + MOST_OPENINGS],
+            work,
+            side,
+            c,
+        );
         c += 1;
     }
 }
 
-// Field f of opening o of a message: 0 is the share, 1 the check part.
+// Field f of opening o of a message: 0 is the share, 1 + i the check part under the receiver's key i.
 fn field_in(message: &[u8], side: Side, o: usize, f: usize) -> u32
-    requires { ⌜ length (now message) ≡ messageLength 1 (side .kind) (side .n) (side .round) ⌝ }
-    requires { ⌜ (side .n ≤ 8) × (o < openings (side .kind) (side .n) (side .round)) × (f < 2) ⌝ }
-    ensures { λ r. ⌜ r ≡ incoming 1 side (now (message .entry)) o f ⌝ }
+    requires { ⌜ length (now message) ≡ messageLength keyCount (paramsIn (side .settings)) (side .round) ⌝ }
+    requires { ⌜ (side .settings .shape .n ≤ 8) × (o < openings (paramsIn (side .settings)) (side .round)) × (f < 1 + keyCount) ⌝ }
+    ensures { λ r. ⌜ r ≡ incoming keyCount side (now (message .entry)) o f ⌝ }
 {
     let fields = field_count(side.kind, side.n, side.round);
     field_of(message, fields, o * FIELDS_PER_OPENING + f)
@@ -221,9 +257,9 @@ fn field_in(message: &[u8], side: Side, o: usize, f: usize) -> u32
 
 // Joins the side's shares with the message's, in front of `opened`.
 pub fn join_shares(opened: &mut [u32], own: &[u32], side: Side, message: &[u8])
-    requires { ⌜ length (now message) ≡ messageLength 1 (side .kind) (side .n) (side .round) ⌝ }
-    requires { ⌜ (side .n ≤ 8) × (length (now own) ≡ 96) × (length (now opened) ≡ 32) ⌝ }
-    ensures { λ _. ⌜ now (opened .exit) ≡ fill (now (opened .entry)) 0 (openings (side .kind) (side .n) (side .round)) (joinedAt side (now (own .entry)) (now (message .entry))) ⌝ }
+    requires { ⌜ length (now message) ≡ messageLength keyCount (paramsIn (side .settings)) (side .round) ⌝ }
+    requires { ⌜ (side .settings .shape .n ≤ 8) × (length (now own) ≡ mostOpenings * widthOf keyCount) × (length (now opened) ≡ mostOpenings) ⌝ }
+    ensures { λ _. ⌜ now (opened .exit) ≡ fill (now (opened .entry)) 0 (openings (paramsIn (side .settings)) (side .round)) (joinedAt side (now (own .entry)) (now (message .entry))) ⌝ }
 {
     let count = openings_in(side.kind, side.n, side.round) as usize;
     let mut o = 0;
@@ -233,24 +269,41 @@ pub fn join_shares(opened: &mut [u32], own: &[u32], side: Side, message: &[u8])
     }
 }
 
-// The check of one opening: the two parts under this side's key add to key × opened number.
-fn check_passes(opened: &[u32], own: &[u32], side: Side, message: &[u8], o: usize) -> bool
-    requires { ⌜ length (now message) ≡ messageLength 1 (side .kind) (side .n) (side .round) ⌝ }
-    requires { ⌜ (side .number < 2) × (side .n ≤ 8) × (o < openings (side .kind) (side .n) (side .round)) ⌝ }
-    requires { ⌜ (o < 32) × (length (now own) ≡ 96) × (length (now opened) ≡ 32) ⌝ }
-    ensures { λ r. ⌜ r ≡ checkedAt side (now (own .entry)) (now (message .entry)) (now (opened .entry)) o ⌝ }
+// The check of one opening under one key: the two parts add to key × opened number.
+fn part_passes(opened: &[u32], own: &[u32], side: Side, message: &[u8], o: usize, i: usize) -> bool
+    requires { ⌜ length (now message) ≡ messageLength keyCount (paramsIn (side .settings)) (side .round) ⌝ }
+    requires { ⌜ (side .number < 2) × (side .settings .shape .n ≤ 8) × (o < openings (paramsIn (side .settings)) (side .round)) × (i < keyCount) ⌝ }
+    requires { ⌜ (o < mostOpenings) × (length (now own) ≡ mostOpenings * widthOf keyCount) × (length (now opened) ≡ mostOpenings) ⌝ }
+    ensures { λ r. ⌜ r ≡ partAt side (now (own .entry)) (now (message .entry)) (now (opened .entry)) o i ⌝ }
 {
     let keys = side.keys;
-    let part = own[MOST * (1 + side.number as usize) + o];
-    let sum = add_mod(part, field_in(message, side, o, 1));
-    sum == mul_mod(keys[0], opened[o])
+    let part = own[MOST_OPENINGS * (1 + side.number as usize * KEYS + i) + o];
+    let sum = add_mod(part, field_in(message, side, o, 1 + i));
+    sum == mul_mod(keys[i], opened[o])
+}
+
+// The check of one opening: under each of this side's keys.
+fn check_passes(opened: &[u32], own: &[u32], side: Side, message: &[u8], o: usize) -> bool
+    requires { ⌜ length (now message) ≡ messageLength keyCount (paramsIn (side .settings)) (side .round) ⌝ }
+    requires { ⌜ (side .number < 2) × (side .settings .shape .n ≤ 8) × (o < openings (paramsIn (side .settings)) (side .round)) ⌝ }
+    requires { ⌜ (o < mostOpenings) × (length (now own) ≡ mostOpenings * widthOf keyCount) × (length (now opened) ≡ mostOpenings) ⌝ }
+    ensures { λ r. ⌜ r ≡ checkedAt side (now (own .entry)) (now (message .entry)) (now (opened .entry)) o ⌝ }
+{
+    let mut i = 0;
+    while i < KEYS {
+        if !part_passes(opened, own, side, message, o, i) {
+            return false;
+        }
+        i += 1;
+    }
+    true
 }
 
 // Does every opening pass its check?
 pub fn checks_pass(opened: &[u32], own: &[u32], side: Side, message: &[u8]) -> bool
-    requires { ⌜ length (now message) ≡ messageLength 1 (side .kind) (side .n) (side .round) ⌝ }
-    requires { ⌜ (side .number < 2) × (side .n ≤ 8) × (length (now own) ≡ 96) × (length (now opened) ≡ 32) ⌝ }
-    ensures { λ r. ⌜ r ≡ allTo (openings (side .kind) (side .n) (side .round)) (checkedAt side (now (own .entry)) (now (message .entry)) (now (opened .entry))) ⌝ }
+    requires { ⌜ length (now message) ≡ messageLength keyCount (paramsIn (side .settings)) (side .round) ⌝ }
+    requires { ⌜ (side .number < 2) × (side .settings .shape .n ≤ 8) × (length (now own) ≡ mostOpenings * widthOf keyCount) × (length (now opened) ≡ mostOpenings) ⌝ }
+    ensures { λ r. ⌜ r ≡ allTo (openings (paramsIn (side .settings)) (side .round)) (checkedAt side (now (own .entry)) (now (message .entry)) (now (opened .entry))) ⌝ }
 {
     let count = openings_in(side.kind, side.n, side.round) as usize;
     let mut o = 0;

@@ -1,6 +1,6 @@
 -- Demand 2, the first part: a run carried through in order ends at both sides with the answer by the plain meaning, which is
 -- FIPS 204's, and with all openings counted.
-use Prim.Native.Nat.{ℕ, _+_, _*_, _%_, _≤_, _<_}
+use Prim.Native.Nat.{ℕ, _+_, _*_, _-_, _%_, _≤_, _<_}
 use mathlib.Core.Path.{_≡_, refl, ap₂, _∙_}
 use mathlib.Core.List.{List, [], _∷_, _++_, map}
 use mathlib.Core.Bool.{Bool, true, false, cond, _&&_}
@@ -15,19 +15,21 @@ use Rattle.lists.proofs.Every.{below-at, allTo-at}
 use Rattle.lists.proofs.Lists.{length-listFrom, listTo-cong, listTo-getD}
 use Rattle.field.specs.Field.{q}
 use Rattle.field.specs.Sums.{sumTo}
-use Rattle.rounding.specs.Sets.{scaleOf}
+use Rattle.settings.specs.Sets.{scaleOf}
 use Rattle.rounding.specs.Plain.{highPart, decompose}
 use Rattle.rounding.specs.Rounds.{gap}
-use Rattle.rounding.proofs.Sets.{lawful}
+use Rattle.settings.proofs.Sets.{lawful}
 use Rattle.rounding.proofs.Decompose.{high-is}
-use Rattle.message.specs.Lengths.{openings, openingsUpTo}
-use Rattle.book.specs.Book.{widthOf}
+use Rattle.settings.specs.Sizes.{widthOf, openings, openingsUpTo}
+use Rattle.settings.specs.Order.{rounds, steps}
 use Rattle.book.specs.Theorems.{Sizes}
 use Rattle.column.specs.Run.{openedFrom, plainOpened}
 use Rattle.column.specs.Theorems.{Sound, T2}
-use Rattle.state.specs.State.{answerPlaces, heldAnswer, finished, countCall}
+use Rattle.state.specs.State.{heldAnswer, finished, countCall}
 use Rattle.side.specs.Side.{begunSide}
-use Rattle.runs.specs.Records.{Settings, settingsOk, answerOf, Hand}
+use Rattle.settings.specs.declared.Settings.{Settings}
+use Rattle.settings.specs.Questions.{settingsOk}
+use Rattle.runs.specs.Records.{answerOf, Hand}
 use Rattle.runs.specs.Demands.{Secret, Possible, Ended, Demand2, FipsHigh, ownHand, otherHand}
 use Rattle.runs.specs.Progress.{sideAt, seatAt, worldAt}
 use Rattle.runs.specs.Theorems.{T3}
@@ -39,11 +41,11 @@ use Rattle.runs.proofs.Carried.{carried}
 
 -- ---- Openings in all
 
-pub openings-high : (n : ℕ) → openingsUpTo 0 n 7 ≡ 19 * n
+pub openings-high : (n : ℕ) → openingsUpTo 0 n rounds ≡ 19 * n
 unfolding openingsUpTo sumTo openings
 openings-high n = omega arith
 
-pub openings-bound : (n : ℕ) → openingsUpTo 1 n 7 ≡ 17 * n + 2
+pub openings-bound : (n : ℕ) → openingsUpTo 1 n rounds ≡ 17 * n + 2
 unfolding openingsUpTo sumTo openings
 openings-bound n = omega arith
 
@@ -106,29 +108,28 @@ front-list n xs ys e =
     (listTo-cong (length xs) (λ (j : ℕ). getD (xs ++ ys) j 0) (λ (j : ℕ). getD xs j 0) (λ j l. List·getD-append xs ys 0 j l) ∙ listTo-getD xs)
 
 module _ (k : ℕ) (s : Settings) (serial : ℕ) (numbers : ℕ → List ℕ) where
-  held-at : (h : Hand) → Which h → length (numbers 6) ≡ answerPlaces (s .kind) (s .n) → heldAnswer (sideAt k s serial numbers h 14) ≡ numbers 6
-  unfolding sideAt begunSide
-  held-at _ server e = front-list _ (numbers 6) (drop (length (numbers 6)) (replicate 8 0)) e
-  held-at _ phone e = front-list _ (numbers 6) (drop (length (numbers 6)) (replicate 8 0)) e
+  held-at : (h : Hand) → Which h → length (numbers (rounds - 1)) ≡ openings (s .kind) (s .n) rounds → heldAnswer (sideAt k s serial numbers h steps) ≡ numbers (rounds - 1)
+  unfolding sideAt begunSide openings
+  held-at _ server e = front-list _ (numbers (rounds - 1)) (drop (length (numbers (rounds - 1))) (replicate 8 0)) e
+  held-at _ phone e = front-list _ (numbers (rounds - 1)) (drop (length (numbers (rounds - 1))) (replicate 8 0)) e
 
-  ended-at : (h : Hand) → Which h → Terms s serial h → (secret : List ℕ) → numbers 6 ≡ answerOf s secret → length (numbers 6) ≡ answerPlaces (s .kind) (s .n)
-      → Ended s secret (seatAt k s serial numbers h 14)
+  ended-at : (h : Hand) → Which h → Terms s serial h → (secret : List ℕ) → numbers (rounds - 1) ≡ answerOf s secret → length (numbers (rounds - 1)) ≡ openings (s .kind) (s .n) rounds
+      → Ended s secret (seatAt k s serial numbers h steps)
   unfolding seatAt
   ended-at h u t secret e l =
       record { done = done-at h u t; answer = held-at h u l ∙ e; openings = opened-at h u t }
     where
-      done-at : (h : Hand) → Which h → Terms s serial h → finished (sideAt k s serial numbers h 14) ≡ true
-      done-at h server t = finished-at k s serial numbers h (omega arith) t 14 (omega arith)
-      done-at h phone t = finished-at k s serial numbers h (omega arith) t 14 (omega arith)
+      done-at : (h : Hand) → Which h → Terms s serial h → finished (sideAt k s serial numbers h steps) ≡ true
+      done-at h server t = finished-at k s serial numbers h (omega arith) t steps (omega arith)
+      done-at h phone t = finished-at k s serial numbers h (omega arith) t steps (omega arith)
 
-      opened-at : (h : Hand) → Which h → Terms s serial h → countCall (sideAt k s serial numbers h 14) ≡ openingsUpTo (s .kind) (s .n) 7
-      opened-at h server t = count-at k s serial numbers h (omega arith) t 14 (omega arith)
-      opened-at h phone t = count-at k s serial numbers h (omega arith) t 14 (omega arith)
+      opened-at : (h : Hand) → Which h → Terms s serial h → countCall (sideAt k s serial numbers h steps) ≡ openingsUpTo (s .kind) (s .n) rounds
+      opened-at h server t = count-at k s serial numbers h (omega arith) t steps (omega arith)
+      opened-at h phone t = count-at k s serial numbers h (omega arith) t steps (omega arith)
 
--- round 7 opens as many numbers as an answer has places
 opened-size : (s : Settings) (width : ℕ) (draw secret : List ℕ)
-    → length (plainOpened (scaleOf (s .set)) (s .kind) (s .n) (s .bound) width draw secret 6) ≡ answerPlaces (s .kind) (s .n)
-unfolding plainOpened openedFrom openings
+    → length (plainOpened (scaleOf (s .set)) (s .kind) (s .n) (s .bound) width draw secret (rounds - 1)) ≡ openings (s .kind) (s .n) rounds
+unfolding plainOpened openedFrom
 opened-size s width draw secret = length-listFrom 0 _ _
 
 pub demand2 : (k : ℕ) → T3 k → T2 → Sizes → Demand2 k
@@ -137,7 +138,7 @@ demand2 k progress t2 z s serial keys0 keys1 f secret inputs draw x y d w i call
     let numbers : ℕ → List ℕ = plainOpened (scaleOf (s .set)) (s .kind) (s .n) (s .bound) (widthOf k) draw secret in
     let h : Hand = ownHand k s 0 keys0 keys1 inputs draw in
     let o : Hand = otherHand k s 0 keys0 keys1 inputs secret draw in
-    let a : numbers 6 ≡ answerOf s secret = t2 .answer (scaleOf (s .set)) (s .kind) (s .n) (s .bound) k draw secret (sound k s secret draw z (f .settings) x d) in
+    let a : numbers (rounds - 1) ≡ answerOf s secret = t2 .answer (scaleOf (s .set)) (s .kind) (s .n) (s .bound) k draw secret (sound k s secret draw z (f .settings) x d) in
     let l = opened-size s (widthOf k) draw secret in
     rw (progress s serial keys0 keys1 f 0 (omega arith) secret inputs draw x y d w i calls, carried k s calls e) (
       ended-at k s serial numbers h server (terms k s serial keys0 keys1 f 0 (omega arith) draw inputs) secret a l,

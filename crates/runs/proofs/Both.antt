@@ -4,7 +4,8 @@ use mathlib.Core.Path.{_≡_, refl}
 use mathlib.Core.List.{List, [], _∷_}
 use native.Mathlib.Omega.{arith}
 use lib.Dec.{ltb}
-use Rattle.runs.specs.Records.{Settings, Hand, Seat, Call, Who, Move, World, outcome, step, worldAfter}
+use Rattle.settings.specs.declared.Settings.{Settings}
+use Rattle.runs.specs.Records.{Hand, Seat, Call, Who, Move, World, outcome, step, worldAfter}
 use Rattle.runs.specs.Records.Who.{mine, theirs}
 use Rattle.runs.specs.Demands.{Start}
 use Rattle.runs.specs.Progress.{Counts, sentOf, next, stepCounts, countsAfter, seatAt, seatFrom, worldAt}

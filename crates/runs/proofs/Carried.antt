@@ -1,5 +1,5 @@
 -- A run carried through in order leaves both counts at their end, whatever other calls stand between: calls only help.
-use Prim.Native.Nat.{ℕ, zero, suc, _+_, _*_, _-_, _/_, _%_, _≤_, _<_}
+use Prim.Native.Nat.{ℕ, zero, suc, _+_, _-_, _≤_, _<_}
 use mathlib.Core.Path.{_≡_, refl, sym, ap, _∙_}
 use mathlib.Core.List.{List, [], _∷_, _++_}
 use mathlib.Core.Bool.{Bool, true, false, not, _&&_, _||_, true≢false}
@@ -10,15 +10,15 @@ use lib.ListN.{length, replicate, length-replicate}
 use borrow.Author.Tests.{le-leb, lt-ltb, leb-true, ltb-true, eqb-true}
 use Rattle.lists.specs.Lists.{joinFrom}
 use Rattle.lists.proofs.Questions.{both-yes}
-use Rattle.message.specs.Lengths.{messageLength}
-use Rattle.runs.specs.Records.{Settings, Call, Who, Move}
+use Rattle.settings.specs.Order.{rounds, steps, goesOn, roundAfter, sendsAfter, takenBy, sendStep, takeStep}
+use Rattle.settings.specs.Sizes.{messageLength}
+use Rattle.settings.specs.declared.Settings.{Settings}
+use Rattle.runs.specs.Records.{Call, Who, Move}
 use Rattle.runs.specs.Records.Who.{mine, theirs}
 use Rattle.runs.specs.Records.Call.{begin, send, takeLatest, answer, count}
 use Rattle.runs.specs.Demands.{outFor, roundInOrder, phoneSecond, phoneFirst, phoneLate, whoNumber, callNumber, room, isCall, holds, carriedThrough}
-use Rattle.runs.specs.Progress.{Counts, none, takenBy, sentOf, onward, roomFor, next, stepCounts, countsAfter}
-use Rattle.runs.proofs.Seats.{Round, round-of}
-use Rattle.runs.proofs.Seats.Round.{r0, r1, r2, r3, r4, r5, r6}
-use Rattle.runs.proofs.Counts.{Moved, next-moved}
+use Rattle.runs.specs.Progress.{Counts, none, sentOf, onward, roomFor, next, stepCounts, countsAfter}
+use Rattle.runs.proofs.Counts.{Moved, next-moved, next-send, next-take}
 use Rattle.runs.proofs.Counts.Moved.{stays, began, sent, took}
 use Rattle.runs.proofs.Both.{start-pace, pace-after}
 
@@ -62,11 +62,11 @@ module _ (k : ℕ) (s : Settings) (number : ℕ) where
   next-same heard heard′ _ _ (suc m) l begins = omega arith
   next-same heard heard′ _ _ zero l (sends r) = omega arith
   next-same heard heard′ _ _ (suc m) l (sends {out} {out′} r) =
-      onward-more (eqb (m % 2) number) (ltb m 14) (roomFor k s (m / 2 + 1) (length out)) (roomFor k s (m / 2 + 1) (length out′)) (suc m)
-      (λ e. le-leb (messageLength k (s .kind) (s .n) (m / 2 + 1)) (length out′) (omega (arith, leb-true (messageLength k (s .kind) (s .n) (m / 2 + 1)) (length out) e)))
+      onward-more (sendsAfter number m) (goesOn m) (roomFor k s (roundAfter m) (length out)) (roomFor k s (roundAfter m) (length out′)) (suc m)
+      (λ e. le-leb (messageLength k (s .kind) (s .n) (roundAfter m)) (length out′) (omega (arith, leb-true (messageLength k (s .kind) (s .n) (roundAfter m)) (length out) e)))
   next-same heard heard′ _ _ zero l takes = omega arith
   next-same heard heard′ _ _ (suc m) l takes =
-      onward-more (not (eqb (m % 2) number)) (ltb m 14) (ltb (takenBy number m) heard) (ltb (takenBy number m) heard′) (suc m)
+      onward-more (not (sendsAfter number m)) (goesOn m) (ltb (takenBy number m) heard) (ltb (takenBy number m) heard′) (suc m)
       (λ e. lt-ltb (takenBy number m) heard′ (omega (arith, ltb-true (takenBy number m) heard e)))
   next-same heard heard′ call call′ c l (rests f) = omega (arith, f heard c, next-near heard′ call′ c .0)
 
@@ -153,45 +153,56 @@ module _ (k : ℕ) (s : Settings) where
 
   -- both sides before round R + 1
   abbrev before : ℕ → Counts
-  before R = record { own = suc (2 * R); other = suc (2 * R) }
+  before R = record { own = suc (sendStep 0 R); other = suc (takeStep 1 R) }
 
   enough : (round : ℕ) → roomFor k s round (length (outFor k s round)) ≡ true
   enough round =
       let n : ℕ = messageLength k (s .kind) (s .n) round in
       le-leb n (length (replicate {A = ℕ} n 0)) (omega (arith, length-replicate {A = ℕ} n 0))
 
-  round-goes : (R : ℕ) → Round R → (rest : List Move) → countsAfter k s 0 (before R) (roundInOrder k s (suc R) ++ rest) ≡ countsAfter k s 0 (before (suc R)) rest
-  unfolding countsAfter stepCounts next
-  round-goes _ r0 rest = simp (enough 1)
-  round-goes _ r1 rest = simp (enough 2)
-  round-goes _ r2 rest = simp (enough 3)
-  round-goes _ r3 rest = simp (enough 4)
-  round-goes _ r4 rest = simp (enough 5)
-  round-goes _ r5 rest = simp (enough 6)
-  round-goes _ r6 rest = simp (enough 7)
+  -- a step that is due is made
+  send-goes : (number heard R : ℕ) → number < 2 → R < rounds → next k s number heard (send (outFor k s (suc R))) (suc (sendStep number R)) ≡ suc (suc (sendStep number R))
+  send-goes number heard R u r = rw (next-send k s number heard u R r (outFor k s (suc R)), enough (suc R))
 
-  rounds-go : (first j n R : ℕ) → first + j ≡ suc R → R + n ≡ 7 → countsAfter k s 0 (before R) (joinFrom j n (λ i. roundInOrder k s (first + i))) ≡ before 7
+  take-goes : (number heard R : ℕ) → number < 2 → R < rounds → R < heard → next k s number heard takeLatest (suc (takeStep number R)) ≡ suc (suc (takeStep number R))
+  take-goes number heard R u r l = rw (next-take k s number heard u R r, lt-ltb R heard l)
+
+  round-goes : (R : ℕ) → R < rounds → (rest : List Move) → countsAfter k s 0 (before R) (roundInOrder k s (suc R) ++ rest) ≡ countsAfter k s 0 (before (suc R)) rest
+  unfolding countsAfter stepCounts
+  round-goes R r rest =
+      let half : suc (suc (takeStep 1 R)) ≡ suc (sendStep 1 R) = omega arith in
+      let whole : suc (suc (takeStep 0 R)) ≡ suc (sendStep 0 (suc R)) = omega arith in
+      rw (
+        send-goes 0 (sentOf 1 (suc (takeStep 1 R))) R (omega arith) r,
+        take-goes 1 (sentOf 0 (suc (suc (sendStep 0 R)))) R (omega arith) r (omega arith),
+        half,
+        send-goes 1 (sentOf 0 (suc (suc (sendStep 0 R)))) R (omega arith) r,
+        take-goes 0 (sentOf 1 (suc (suc (sendStep 1 R)))) R (omega arith) r (omega arith),
+        whole,
+      )
+
+  rounds-go : (first j n R : ℕ) → first + j ≡ suc R → R + n ≡ rounds → countsAfter k s 0 (before R) (joinFrom j n (λ i. roundInOrder k s (first + i))) ≡ before rounds
   unfolding joinFrom countsAfter
   rounds-go first j zero R e f =
-      let g : R ≡ 7 = omega arith in
+      let g : R ≡ rounds = omega arith in
       rw g
   rounds-go first j (suc n) R e f =
       let rest = joinFrom (suc j) n (λ i. roundInOrder k s (first + i)) in
       ap (λ (r : ℕ). countsAfter k s 0 (before R) (roundInOrder k s r ++ rest)) e
-      ∙ round-goes R (round-of R (omega arith)) rest
+      ∙ round-goes R (omega arith) rest
       ∙ rounds-go first (suc j) n (suc R) (omega arith) (omega arith)
 
-  second : countsAfter k s 0 none (phoneSecond k s) ≡ before 7
+  second : countsAfter k s 0 none (phoneSecond k s) ≡ before rounds
   unfolding countsAfter stepCounts next
-  second = rounds-go 1 0 7 0 refl refl
+  second = rounds-go 1 0 rounds 0 refl refl
 
-  first : countsAfter k s 0 none (phoneFirst k s) ≡ before 7
+  first : countsAfter k s 0 none (phoneFirst k s) ≡ before rounds
   unfolding countsAfter stepCounts next
-  first = rounds-go 1 0 7 0 refl refl
+  first = rounds-go 1 0 rounds 0 refl refl
 
-  late : countsAfter k s 0 none (phoneLate k s) ≡ before 7
-  unfolding joinFrom countsAfter stepCounts next
-  late = simp (enough 1) (rounds-go 2 0 6 1 refl refl)
+  late : countsAfter k s 0 none (phoneLate k s) ≡ before rounds
+  unfolding joinFrom countsAfter stepCounts next roundAfter
+  late = simp (enough 1) (rounds-go 2 0 (rounds - 1) 1 refl refl)
 
   -- ---- A run carried through
 
@@ -201,17 +212,17 @@ module _ (k : ℕ) (s : Settings) where
   any-plan false false true P f g h e = h refl
   any-plan false false false P f g h e = absurd (true≢false (sym e))
 
-  at-end : (plan calls : List Move) → countsAfter k s 0 none plan ≡ before 7 → holds plan calls ≡ true → countsAfter k s 0 none calls ≡ before 7
+  at-end : (plan calls : List Move) → countsAfter k s 0 none plan ≡ before rounds → holds plan calls ≡ true → countsAfter k s 0 none calls ≡ before rounds
   at-end plan calls e f =
       let p = pace-after k s 0 (omega arith) calls none (start-pace 0) in
       let b = rw e at (overtakes plan calls none none (record { own = omega arith; other = omega arith }) f) in
       same-counts (countsAfter k s 0 none calls) (omega (arith, p .own-most, b .own)) (omega (arith, p .other-most, b .other))
     where
-      same-counts : (c : Counts) → c .own ≡ 15 → c .other ≡ 15 → c ≡ before 7
+      same-counts : (c : Counts) → c .own ≡ suc steps → c .other ≡ suc steps → c ≡ before rounds
       same-counts c e f = rw (e, f)
 
-  pub carried : (calls : List Move) → carriedThrough k s calls ≡ true → countsAfter k s 0 none calls ≡ record { own = 15; other = 15 }
+  pub carried : (calls : List Move) → carriedThrough k s calls ≡ true → countsAfter k s 0 none calls ≡ record { own = suc steps; other = suc steps }
   unfolding carriedThrough
   carried calls e =
-      any-plan (holds (phoneSecond k s) calls) (holds (phoneFirst k s) calls) (holds (phoneLate k s) calls) (countsAfter k s 0 none calls ≡ before 7)
+      any-plan (holds (phoneSecond k s) calls) (holds (phoneFirst k s) calls) (holds (phoneLate k s) calls) (countsAfter k s 0 none calls ≡ before rounds)
       (at-end (phoneSecond k s) calls second) (at-end (phoneFirst k s) calls first) (at-end (phoneLate k s) calls late) e

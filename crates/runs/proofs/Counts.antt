@@ -1,17 +1,18 @@
--- Progress of each side by itself: 0, not begun in this list; m + 1, begun and m of its 14 steps made.
-use Prim.Native.Nat.{ℕ, zero, suc, _+_, _-_, _/_, _%_, _≤_, _<_}
+-- Progress of each side by itself: 0, not begun in this list; m + 1, begun and m of its steps made.
+use Prim.Native.Nat.{ℕ, zero, suc, _-_, _%_, _≤_, _<_}
 use mathlib.Core.Path.{_≡_, refl}
 use mathlib.Core.List.{List}
 use mathlib.Core.Bool.{Bool, true, false, not, _&&_}
 use native.Mathlib.Omega.{arith}
 use lib.ListN.{length}
-use lib.Dec.{eqb, ltb}
-use borrow.Author.Tests.{eq-eqb, ne-eqb, lt-ltb, ltb-true, eqb-true, eqb-false}
-use Rattle.runs.specs.Records.{Settings, Call}
+use lib.Dec.{ltb}
+use borrow.Author.Tests.{ltb-true, eqb-true, eqb-false}
+use Rattle.settings.specs.Order.{rounds, steps, roundAfter, sendsAfter, takenBy, sendStep, takeStep}
+use Rattle.settings.proofs.Order.{send-on, take-on, send-sends, take-takes, send-round}
+use Rattle.settings.specs.declared.Settings.{Settings}
+use Rattle.runs.specs.Records.{Call}
 use Rattle.runs.specs.Records.Call.{begin, send, takeLatest, answer, count}
-use Rattle.runs.specs.Progress.{takenBy, takenOf, sentOf, onward, roomFor, next}
-use Rattle.runs.specs.Honest.{takeStep}
-use Rattle.runs.proofs.Seats.{Round, sendStep, round-below}
+use Rattle.runs.specs.Progress.{takenOf, sentOf, onward, roomFor, next}
 
 never : (a b : Bool) → (a && false && b) ≡ false
 never true b = refl
@@ -19,34 +20,33 @@ never false b = refl
 
 -- a call at side `number`, at each stage
 module _ (k : ℕ) (s : Settings) (number heard : ℕ) (u : number < 2) where
-  pub next-send : (R : ℕ) → Round R → (out : List ℕ)
+  pub next-send : (R : ℕ) → R < rounds → (out : List ℕ)
       → next k s number heard (send out) (suc (sendStep number R)) ≡ onward (roomFor k s (suc R) (length out)) (suc (sendStep number R))
   unfolding next
   next-send R r out =
-      let e : sendStep number R / 2 + 1 ≡ suc R = omega arith in
-      rw (eq-eqb (sendStep number R % 2) number (omega arith), lt-ltb (sendStep number R) 14 (omega (arith, u, round-below R r)), e)
+      rw (send-sends number R u r, send-on number R u r, send-round number R u r)
 
-  pub next-send-not : (R : ℕ) → Round R → (out : List ℕ) → next k s number heard (send out) (suc (takeStep number R)) ≡ suc (takeStep number R)
+  pub next-send-not : (R : ℕ) → R < rounds → (out : List ℕ) → next k s number heard (send out) (suc (takeStep number R)) ≡ suc (takeStep number R)
   unfolding next
-  next-send-not R r out = rw (ne-eqb (takeStep number R % 2) number (λ z. omega (arith, z, u)))
+  next-send-not R r out = rw (take-takes number R u r)
 
-  pub next-take : (R : ℕ) → Round R → next k s number heard takeLatest (suc (takeStep number R)) ≡ onward (ltb R heard) (suc (takeStep number R))
+  pub next-take : (R : ℕ) → R < rounds → next k s number heard takeLatest (suc (takeStep number R)) ≡ onward (ltb R heard) (suc (takeStep number R))
   unfolding next
   next-take R r =
       let e : takenBy number (takeStep number R) ≡ R = omega arith in
-      rw (ne-eqb (takeStep number R % 2) number (λ z. omega (arith, z, u)), lt-ltb (takeStep number R) 14 (omega (arith, u, round-below R r)), e)
+      rw (take-takes number R u r, take-on number R u r, e)
 
-  pub next-take-not : (R : ℕ) → Round R → next k s number heard takeLatest (suc (sendStep number R)) ≡ suc (sendStep number R)
+  pub next-take-not : (R : ℕ) → R < rounds → next k s number heard takeLatest (suc (sendStep number R)) ≡ suc (sendStep number R)
   unfolding next
-  next-take-not R r = rw (eq-eqb (sendStep number R % 2) number (omega arith))
+  next-take-not R r = rw (send-sends number R u r)
 
-  pub next-end-send : (out : List ℕ) → next k s number heard (send out) 15 ≡ 15
+  pub next-end-send : (out : List ℕ) → next k s number heard (send out) (suc steps) ≡ suc steps
   unfolding next
-  next-end-send out = rw (never (eqb (14 % 2) number) (roomFor k s (14 / 2 + 1) (length out)))
+  next-end-send out = rw (never (sendsAfter number steps) (roomFor k s (roundAfter steps) (length out)))
 
-  pub next-end-take : next k s number heard takeLatest 15 ≡ 15
+  pub next-end-take : next k s number heard takeLatest (suc steps) ≡ suc steps
   unfolding next
-  next-end-take = rw (never (not (eqb (14 % 2) number)) (ltb (takenBy number 14) heard))
+  next-end-take = rw (never (not (sendsAfter number steps)) (ltb (takenBy number steps) heard))
 
 -- ---- The two counts keep pace
 
@@ -54,18 +54,18 @@ module _ (k : ℕ) (s : Settings) (number heard : ℕ) (u : number < 2) where
 pub data Moved (number heard : ℕ) : Call → ℕ → ℕ → Type 0 where
   stays : {call : Call} {c : ℕ} → Moved number heard call c c
   began : Moved number heard begin 0 1
-  sent : {out : List ℕ} {m : ℕ} → m % 2 ≡ number → m < 14 → Moved number heard (send out) (suc m) (suc (suc m))
-  took : {m : ℕ} → (m % 2 ≡ number → ⊥) → m < 14 → takenBy number m < heard → Moved number heard takeLatest (suc m) (suc (suc m))
+  sent : {out : List ℕ} {m : ℕ} → m % 2 ≡ number → m < steps → Moved number heard (send out) (suc m) (suc (suc m))
+  took : {m : ℕ} → (m % 2 ≡ number → ⊥) → m < steps → takenBy number m < heard → Moved number heard takeLatest (suc m) (suc (suc m))
 
 module _ (number heard m : ℕ) where
-  sent-if : (out : List ℕ) (a b r : Bool) → (a ≡ true → m % 2 ≡ number) → (b ≡ true → m < 14)
+  sent-if : (out : List ℕ) (a b r : Bool) → (a ≡ true → m % 2 ≡ number) → (b ≡ true → m < steps)
       → Moved number heard (send out) (suc m) (onward (a && b && r) (suc m))
   sent-if out false b r f g = stays
   sent-if out true false r f g = stays
   sent-if out true true false f g = stays
   sent-if out true true true f g = sent (f refl) (g refl)
 
-  took-if : (a b r : Bool) → (a ≡ false → m % 2 ≡ number → ⊥) → (b ≡ true → m < 14) → (r ≡ true → takenBy number m < heard)
+  took-if : (a b r : Bool) → (a ≡ false → m % 2 ≡ number → ⊥) → (b ≡ true → m < steps) → (r ≡ true → takenBy number m < heard)
       → Moved number heard takeLatest (suc m) (onward (not a && b && r) (suc m))
   took-if true b r f g h = stays
   took-if false false r f g h = stays
@@ -84,8 +84,8 @@ next-moved k s number heard (answer out) c = stays
 next-moved k s number heard count c = stays
 
 pub record Pace (number a b : ℕ) : Type 0 where
-  pub own-most : a ≤ 15
-  pub other-most : b ≤ 15
+  pub own-most : a ≤ suc steps
+  pub other-most : b ≤ suc steps
   pub own-after : takenOf number a ≤ sentOf (1 - number) b
   pub other-after : takenOf (1 - number) b ≤ sentOf number a
 

@@ -10,17 +10,17 @@ use borrow.Author.Tests.{ne-eqb, le-ltb}
 use Rattle.lists.specs.Answers.{ask}
 use Rattle.lists.specs.Lists.{allTo, allBelow}
 use Rattle.field.specs.Field.{q}
-use Rattle.rounding.specs.Sets.{scaleOf}
-use Rattle.rounding.specs.Questions.{askSettings}
-use Rattle.message.specs.Lengths.{openings, messageLength}
+use Rattle.settings.specs.Sets.{scaleOf}
+use Rattle.settings.specs.Sizes.{widthOf, openings, messageLength, workLength}
+use Rattle.settings.specs.Questions.{askSettings}
 use Rattle.message.specs.Message.{askForm}
-use Rattle.book.specs.Book.{widthOf}
-use Rattle.slice.specs.Layout.{weights, workLength, begunWork}
+use Rattle.slice.specs.Layout.{weights, begunWork}
 use Rattle.steps.specs.Work.{takenWork}
 use Rattle.state.specs.State.{sendDue, takeDue}
 use Rattle.opening.specs.Opening.{message, passes}
 use Rattle.side.specs.Side.{handedNo, beginNo, beginCall, begunSide, sendNo, sendCall, sentSide, takeNo, takeCall, takenSide, openedList}
-use Rattle.runs.specs.Records.{Settings, Hand, Seat, Event, Outcome, outcome}
+use Rattle.settings.specs.declared.Settings.{Settings}
+use Rattle.runs.specs.Records.{Hand, Seat, Event, Outcome, outcome}
 use Rattle.runs.specs.Records.Call.{begin, send, takeLatest}
 use Rattle.runs.specs.Records.Event.{began, sent, took, answered, counted}
 use Rattle.runs.proofs.Laws.{message-sized}

@@ -9,8 +9,8 @@ use lib.Dec.{eqb}
 use borrow.Author.Tests.{ne-eqb, eqb-true}
 use Rattle.lists.specs.Lists.{joinFrom}
 use Rattle.lists.proofs.Lists.{length-listFrom}
-use Rattle.message.specs.Bits.{bytesFor, packed}
-use Rattle.message.specs.Lengths.{openings, messageBits, fieldCount, messageLength}
+use Rattle.settings.specs.Sizes.{bytesFor, openings, messageBits, fieldCount, messageLength}
+use Rattle.message.specs.Bits.{packed}
 use Rattle.message.specs.Message.{messageOf, headerIn, headerNumber}
 use Rattle.opening.specs.Opening.{message}
 use Rattle.state.specs.declared.Side.{Side}

@@ -12,16 +12,20 @@ use Rattle.lists.proofs.Every.{allTo-yes}
 use Rattle.lists.proofs.Lists.{getD-listTo, listTo-cong}
 use Rattle.field.specs.Field.{q, add, mul}
 use Rattle.field.specs.Forms.{Adds}
-use Rattle.message.specs.Lengths.{openings}
+use Rattle.settings.specs.Order.{rounds, takeStep}
+use Rattle.settings.specs.Sizes.{openings}
 use Rattle.message.specs.Theorems.{RoundTrip}
 use Rattle.column.specs.Theorems.{T1Work}
 use Rattle.state.specs.declared.Side.{Side}
+use Rattle.opening.specs.Check.{accepts}
 use Rattle.opening.specs.Opening.{partColumn, prepared, incoming, opened, passes}
 use Rattle.side.specs.Side.{begunSide, openedList}
-use Rattle.runs.specs.Records.{Settings, settingsOk, Hand}
+use Rattle.settings.specs.declared.Settings.{Settings}
+use Rattle.settings.specs.Questions.{settingsOk}
+use Rattle.runs.specs.Records.{Hand}
 use Rattle.runs.specs.Progress.{workAt, sideAt, seatAt, messageAt}
-use Rattle.runs.specs.Honest.{takeStep, Meets}
-use Rattle.runs.proofs.Seats.{Round, round-of, which-below, at-take}
+use Rattle.runs.specs.Honest.{Meets}
+use Rattle.runs.proofs.Seats.{which-below, at-take}
 use Rattle.runs.proofs.Slices.{Fair}
 use Rattle.runs.proofs.Sharing.{sharing, piece, prepared-is, header-read, fields-read, field-read}
 
@@ -50,12 +54,12 @@ module _ (t : T1Work) (m : RoundTrip) (k : ℕ) (s : Settings) (serial : ℕ) (n
   came R = messageAt k s serial numbers o (suc R)
 
   -- field x of opening j, as the receiver reads it
-  incoming-is : (R : ℕ) → Round R → (j x : ℕ) → j < openings (s .kind) (s .n) (suc R) → x < 1 + k
+  incoming-is : (R : ℕ) → R < rounds → (j x : ℕ) → j < openings (s .kind) (s .n) (suc R) → x < 1 + k
       → incoming k (side R) (came R) j x ≡ getD (piece k s serial numbers o R j) x 0
   unfolding incoming sideAt begunSide seatAt
   incoming-is R r j x l b = rw (at-take k s serial numbers h R (v .own .which) r .round) (field-read k s serial numbers t m e f o (v .other) R r j x l b)
 
-  opened-is : (R : ℕ) → Round R → (j : ℕ) → j < openings (s .kind) (s .n) (suc R) → opened k (side R) (work R) (came R) j ≡ plain R j
+  opened-is : (R : ℕ) → R < rounds → (j : ℕ) → j < openings (s .kind) (s .n) (suc R) → opened k (side R) (work R) (came R) j ≡ plain R j
   unfolding opened
   opened-is R r j l =
       rw (prepared-is k s serial numbers h R (v .own .which) r 0 j, incoming-is R r j 0 l (omega arith))
@@ -69,7 +73,7 @@ module _ (t : T1Work) (m : RoundTrip) (k : ℕ) (s : Settings) (serial : ℕ) (n
       by (suc zero) u = omega arith
       by (suc (suc n)) u = absurd (omega arith)
 
-  part-is : (R : ℕ) → Round R → (j i : ℕ) → j < openings (s .kind) (s .n) (suc R) → i < k
+  part-is : (R : ℕ) → R < rounds → (j i : ℕ) → j < openings (s .kind) (s .n) (suc R) → i < k
       → incoming k (side R) (came R) j (1 + i) ≡ sharing k s serial numbers o R (partColumn k (h .number) i) j
   part-is R r j i l b =
       let z : 1 + i ≡ suc i = omega arith in
@@ -80,20 +84,20 @@ module _ (t : T1Work) (m : RoundTrip) (k : ℕ) (s : Settings) (serial : ℕ) (n
       ∙ ap (λ (x : ℕ). sharing k s serial numbers o R (partColumn k x i) j) y
 
   -- "the two parts under my key add to my key × the joined number"
-  pass-part : (R : ℕ) → Round R → (j i : ℕ) → j < openings (s .kind) (s .n) (suc R) → i < k
+  pass-part : (R : ℕ) → R < rounds → (j i : ℕ) → j < openings (s .kind) (s .n) (suc R) → i < k
       → add q (prepared k (side R) (work R) (partColumn k (h .number) i) j) (incoming k (side R) (came R) j (1 + i))
       ≡ mul q (getD (h .keys) i 0) (opened k (side R) (work R) (came R) j)
   pass-part R r j i l b =
       rw (prepared-is k s serial numbers h R (v .own .which) r (partColumn k (h .number) i) j, part-is R r j i l b, opened-is R r j l, ← v .keyed i b)
       (v .adds R (partColumn k (h .number) i) j (own-column i b) .total .path)
 
-  all-pass : (R : ℕ) → Round R → allTo (openings (s .kind) (s .n) (suc R)) (passes k (side R) (work R) (came R)) ≡ true
-  unfolding passes sideAt begunSide
+  all-pass : (R : ℕ) → R < rounds → allTo (openings (s .kind) (s .n) (suc R)) (passes k (side R) (work R) (came R)) ≡ true
+  unfolding passes accepts opened sideAt begunSide
   all-pass R r =
       allTo-yes (openings (s .kind) (s .n) (suc R)) (passes k (side R) (work R) (came R))
       (λ j l. allTo-yes k _ (λ i b. eq-eqb _ _ (pass-part R r j i l b)))
 
-  all-open : (R : ℕ) → Round R → openedList k (side R) (work R) (came R) ≡ numbers R
+  all-open : (R : ℕ) → R < rounds → openedList k (side R) (work R) (came R) ≡ numbers R
   unfolding openedList sideAt begunSide seatAt
   all-open R r =
       ap (λ (round : ℕ). listTo (openings (s .kind) (s .n) round) (opened k (side R) (work R) (came R))) (at-take k s serial numbers h R (v .own .which) r .round)
@@ -103,8 +107,8 @@ module _ (t : T1Work) (m : RoundTrip) (k : ℕ) (s : Settings) (serial : ℕ) (n
   pub meets : Meets k s serial numbers h (messageAt k s serial numbers o)
   meets =
       record {
-        header = λ R l. rw (← v .faces) (header-read k s serial numbers t m e f o (v .other) R (round-of R l));
-        fields = λ R l. fields-read k s serial numbers t m e f o (v .other) R (round-of R l);
-        pass = λ R l. all-pass R (round-of R l);
-        opens = λ R l. all-open R (round-of R l);
+        header = λ R l. rw (← v .faces) (header-read k s serial numbers t m e f o (v .other) R l);
+        fields = λ R l. fields-read k s serial numbers t m e f o (v .other) R l;
+        pass = λ R l. all-pass R l;
+        opens = λ R l. all-open R l;
       }

@@ -9,10 +9,9 @@ use lib.Seq.{getD-append-add}
 use Rattle.lists.specs.Lists.{listTo}
 use Rattle.field.specs.Field.{q}
 use Rattle.field.specs.Forms.{Adds}
-use Rattle.rounding.specs.Sets.{scaleOf}
-use Rattle.message.specs.Lengths.{openings}
+use Rattle.settings.specs.Sets.{scaleOf}
+use Rattle.settings.specs.Sizes.{widthOf, openings, shared}
 use Rattle.message.specs.Theorems.{RoundTrip}
-use Rattle.book.specs.Book.{widthOf, shared}
 use Rattle.book.specs.Deal.{multipliers}
 use Rattle.book.specs.Theorems.{Laws}
 use Rattle.slice.specs.Layout.{column, maskedIn}
@@ -21,7 +20,8 @@ use Rattle.steps.specs.Work.{openingOn}
 use Rattle.column.specs.Run.{openedFrom, plainAfter, plainOpened}
 use Rattle.column.specs.Theorems.{T1Work}
 use Rattle.opening.specs.Opening.{partColumn}
-use Rattle.runs.specs.Records.{Settings, Hand, handOf, missing}
+use Rattle.settings.specs.declared.Settings.{Settings}
+use Rattle.runs.specs.Records.{Hand, handOf, missing}
 use Rattle.runs.specs.Demands.{Fixed, Numbers, Secret, Shares, Possible, ownHand, otherHand}
 use Rattle.runs.specs.Progress.{workAt, messageAt}
 use Rattle.runs.specs.Honest.{SideRuns, Runs}

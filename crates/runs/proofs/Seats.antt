@@ -1,23 +1,27 @@
--- The canonical seats: which step is due at each, and what its step leaves. By the two sides and seven rounds, all computed.
-use Prim.Native.Nat.{ℕ, zero, suc, _+_, _*_, _/_, _%_, _≤_, _<_}
+-- The canonical seats: which step is due at each, and what its step leaves.
+use Prim.Native.Nat.{ℕ, suc, _+_, _-_, _/_, _%_, _≤_, _<_}
 use mathlib.Core.Path.{_≡_, refl}
 use mathlib.Core.List.{List, []}
 use mathlib.Core.Bool.{Bool, true, false, cond, _&&_}
 use native.Mathlib.Omega.{arith}
 use native.Mathlib.Decide.{decLt}
-use lib.ListN.{length}
+use lib.ListN.{length, replicate}
 use lib.Dec.{eqb, leb}
-use borrow.Author.Tests.{le-leb, eqb-false}
+use borrow.Author.Tests.{ne-eqb, eqb-true, eqb-false}
 use Rattle.lists.specs.Answers.{ask}
-use Rattle.rounding.specs.Questions.{isBit, countOk, boundOk, askSettings, keysOk}
-use Rattle.message.specs.Lengths.{messageLength}
-use Rattle.state.specs.State.{isSending, isTaking, whole, sendDue, takeDue}
+use Rattle.lists.specs.Lists.{inFront}
+use Rattle.settings.specs.Questions.{isBit, countOk, boundOk, askSettings, keysOk}
+use Rattle.settings.specs.Order.{rounds, steps, sendsAfter, takenBy, sentBy, sendStep, takeStep}
+use Rattle.settings.specs.Sizes.{messageLength}
+use Rattle.settings.proofs.Order.{round-ok, send-round, take-round}
+use Rattle.state.specs.State.{isSending, isTaking, whole, sendDue, takeDue, stepOf}
+use Rattle.state.proofs.Steps.{phase-sending, phase-taking, phase-ended, step-at}
 use Rattle.side.specs.Side.{begunSide, sentSide, takenSide}
 use Rattle.state.specs.declared.Phase.{Phase}
 use Rattle.state.specs.declared.Phase.the-variants.{Sending, Taking, Finished}
-use Rattle.runs.specs.Records.{Settings, Hand, Seat}
-use Rattle.runs.specs.Progress.{workAt, sideAt, messageAt, seatAt}
-use Rattle.runs.specs.Honest.{takeStep}
+use Rattle.settings.specs.declared.Settings.{Settings}
+use Rattle.runs.specs.Records.{Hand, Seat}
+use Rattle.runs.specs.Progress.{workAt, answerAt, sideAt, messageAt, seatAt}
 use Rattle.runs.proofs.Laws.{message-sized}
 use Rattle.runs.proofs.Doors.{begunSeat, sentSeat, takenSeat}
 
@@ -30,25 +34,11 @@ pub data Which : Hand → Type 0 where
   server : {keys inputs book : List ℕ} → Which (handAs 0 keys inputs book)
   phone : {keys inputs book : List ℕ} → Which (handAs 1 keys inputs book)
 
--- round R + 1, written out
-pub data Round : ℕ → Type 0 where
-  r0 : Round 0
-  r1 : Round 1
-  r2 : Round 2
-  r3 : Round 3
-  r4 : Round 4
-  r5 : Round 5
-  r6 : Round 6
-
--- the step at which side `number` sends in round R + 1
-abbrev pub sendStep : ℕ → ℕ → ℕ
-sendStep number R = 2 * R + number
-
 -- where a side stands after so many steps
 pub data Stage (number : ℕ) : ℕ → Type 0 where
-  sending : {R : ℕ} → Round R → Stage number (sendStep number R)
-  taking : {R : ℕ} → Round R → Stage number (takeStep number R)
-  ended : Stage number 14
+  sending : {R : ℕ} → R < rounds → Stage number (sendStep number R)
+  taking : {R : ℕ} → R < rounds → Stage number (takeStep number R)
+  ended : Stage number steps
 
 -- what the kept fields must be
 pub record Terms (s : Settings) (serial : ℕ) (h : Hand) : Type 0 where
@@ -58,13 +48,9 @@ pub record Terms (s : Settings) (serial : ℕ) (h : Hand) : Type 0 where
   pub keys-ok : keysOk (h .keys) ≡ true
   pub above : leb 1 serial ≡ true
 
--- the kept round is from 1 to 7
-round-in : (m : ℕ) → m ≤ 14 → let round = cond (eqb m 14) 7 (m / 2 + 1) in (leb 1 round && leb round 7) ≡ true
-round-in m l = by (eqb m 14) refl
-  where
-    by : (d : Bool) → eqb m 14 ≡ d → let round = cond d 7 (m / 2 + 1) in (leb 1 round && leb round 7) ≡ true
-    by true e = refl
-    by false e = rw (le-leb 1 (m / 2 + 1) (omega arith)) (le-leb (m / 2 + 1) 7 (omega (arith, eqb-false m 14 e)))
+pub which-below : (h : Hand) → Which h → h .number < 2
+which-below _ server = omega arith
+which-below _ phone = omega arith
 
 module _ (k : ℕ) (s : Settings) (serial : ℕ) (numbers : ℕ → List ℕ) where
   abbrev pub seat : Hand → ℕ → Seat
@@ -83,18 +69,23 @@ module _ (k : ℕ) (s : Settings) (serial : ℕ) (numbers : ℕ → List ℕ) wh
   begun h x phone e = rw e
 
   -- the kept fields of a side in its run pass
-  pub kept-whole : (h : Hand) → Terms s serial h → (m : ℕ) → m ≤ 14 → whole (sideAt k s serial numbers h m) ≡ true
+  pub kept-whole : (h : Hand) → Terms s serial h → (m : ℕ) → whole (sideAt k s serial numbers h m) ≡ true
   unfolding whole askSettings begunSide ask sideAt
-  kept-whole h v m l = rw (v .bits, v .count, v .bound, v .keys-ok, v .above, round-in m l)
+  kept-whole h v m = rw (v .bits, v .count, v .bound, v .keys-ok, v .above, round-ok m)
 
   -- so its phase tells what is due
-  pub send-in : (h : Hand) → Terms s serial h → (m : ℕ) → m ≤ 14 → (p : Phase) → seat h m .side .phase ≡ p → sendDue (seat h m .side) ≡ isSending p
+  pub send-in : (h : Hand) → Terms s serial h → (m : ℕ) (p : Phase) → seat h m .side .phase ≡ p → sendDue (seat h m .side) ≡ isSending p
   unfolding sendDue seatAt
-  send-in h v m l p e = rw (kept-whole h v m l, e)
+  send-in h v m p e = rw (kept-whole h v m, e)
 
-  pub take-in : (h : Hand) → Terms s serial h → (m : ℕ) → m ≤ 14 → (p : Phase) → seat h m .side .phase ≡ p → takeDue (seat h m .side) ≡ isTaking p
+  pub take-in : (h : Hand) → Terms s serial h → (m : ℕ) (p : Phase) → seat h m .side .phase ≡ p → takeDue (seat h m .side) ≡ isTaking p
   unfolding takeDue seatAt
-  take-in h v m l p e = rw (kept-whole h v m l, e)
+  take-in h v m p e = rw (kept-whole h v m, e)
+
+  -- its steps are read off it
+  pub step-is : (h : Hand) → h .number < 2 → (m : ℕ) → m ≤ steps → stepOf (sideAt k s serial numbers h m) ≡ m
+  unfolding sideAt begunSide
+  step-is h u m l = step-at (begunSide (h .number) (s .set) (s .kind) (s .n) (s .bound) (h .keys) serial) m _ u l
 
   -- a side at its sending step of round R + 1
   pub record AtSend (h : Hand) (R : ℕ) : Type 0 where
@@ -104,22 +95,36 @@ module _ (k : ℕ) (s : Settings) (serial : ℕ) (numbers : ℕ → List ℕ) wh
     pub message-is : sentSeat k (seat h (sendStep (h .number) R)) .latest ≡ said h (suc R)
     pub slice-is : seat h (sendStep (h .number) R) .work ≡ slice h (R + h .number)
 
-  pub at-send : (h : Hand) (R : ℕ) → Which h → Round R → AtSend h R
+  pub at-send : (h : Hand) (R : ℕ) → Which h → R < rounds → AtSend h R
   unfolding seatAt sideAt messageAt begunSide sentSide
-  at-send _ _ server r0 = record { after = refl; phase-is = refl; round = refl; message-is = refl; slice-is = refl }
-  at-send _ _ server r1 = record { after = refl; phase-is = refl; round = refl; message-is = refl; slice-is = refl }
-  at-send _ _ server r2 = record { after = refl; phase-is = refl; round = refl; message-is = refl; slice-is = refl }
-  at-send _ _ server r3 = record { after = refl; phase-is = refl; round = refl; message-is = refl; slice-is = refl }
-  at-send _ _ server r4 = record { after = refl; phase-is = refl; round = refl; message-is = refl; slice-is = refl }
-  at-send _ _ server r5 = record { after = refl; phase-is = refl; round = refl; message-is = refl; slice-is = refl }
-  at-send _ _ server r6 = record { after = refl; phase-is = refl; round = refl; message-is = refl; slice-is = refl }
-  at-send _ _ phone r0 = record { after = refl; phase-is = refl; round = refl; message-is = refl; slice-is = refl }
-  at-send _ _ phone r1 = record { after = refl; phase-is = refl; round = refl; message-is = refl; slice-is = refl }
-  at-send _ _ phone r2 = record { after = refl; phase-is = refl; round = refl; message-is = refl; slice-is = refl }
-  at-send _ _ phone r3 = record { after = refl; phase-is = refl; round = refl; message-is = refl; slice-is = refl }
-  at-send _ _ phone r4 = record { after = refl; phase-is = refl; round = refl; message-is = refl; slice-is = refl }
-  at-send _ _ phone r5 = record { after = refl; phase-is = refl; round = refl; message-is = refl; slice-is = refl }
-  at-send _ _ phone r6 = record { after = refl; phase-is = refl; round = refl; message-is = refl; slice-is = refl }
+  at-send h R u r =
+      let n : h .number < 2 = which-below h u in
+      let m : ℕ = sendStep (h .number) R in
+      let taken : takenBy (h .number) (suc m) ≡ takenBy (h .number) m = omega arith in
+      let sent : sentBy (h .number) (suc m) ≡ suc R = omega arith in
+      let before : takenBy (h .number) m ≡ R + h .number = omega arith in
+      let back : suc R - 1 ≡ R = omega arith in
+      record {
+        after = rw (step-is h n m (omega arith), taken, sent, ne-eqb (suc R) 0 (λ e. omega (arith, e)), back);
+        phase-is = phase-sending (h .number) R n r;
+        round = send-round (h .number) R n r;
+        message-is = rw back;
+        slice-is = rw before;
+      }
+
+  -- the answer that the take of round R + 1 leaves
+  next-answer : (h : Hand) (R : ℕ) → R < rounds → let kept = answerAt k s serial numbers h in
+      cond (eqb (suc R) rounds) (inFront (numbers R) (kept R)) (kept R) ≡ kept (suc R)
+  next-answer h R r = rw (ne-eqb R rounds (λ e. omega (arith, e))) (by (eqb (suc R) rounds) refl)
+    where
+      zeros : List ℕ
+      zeros = replicate 8 0
+
+      by : (b : Bool) → eqb (suc R) rounds ≡ b → cond b (inFront (numbers R) zeros) zeros ≡ cond b (inFront (numbers (rounds - 1)) zeros) zeros
+      by true e =
+          let last : R ≡ rounds - 1 = omega (arith, eqb-true (suc R) rounds e) in
+          rw last
+      by false e = refl
 
   -- and at its taking step
   pub record AtTake (h : Hand) (R : ℕ) : Type 0 where
@@ -128,74 +133,45 @@ module _ (k : ℕ) (s : Settings) (serial : ℕ) (numbers : ℕ → List ℕ) wh
     pub round : seat h (takeStep (h .number) R) .side .round ≡ suc R
     pub slice-is : seat h (takeStep (h .number) R) .work ≡ slice h R
 
-  pub at-take : (h : Hand) (R : ℕ) → Which h → Round R → AtTake h R
+  pub at-take : (h : Hand) (R : ℕ) → Which h → R < rounds → AtTake h R
   unfolding seatAt sideAt workAt begunSide takenSide
-  at-take _ _ server r0 = record { after = refl; phase-is = refl; round = refl; slice-is = refl }
-  at-take _ _ server r1 = record { after = refl; phase-is = refl; round = refl; slice-is = refl }
-  at-take _ _ server r2 = record { after = refl; phase-is = refl; round = refl; slice-is = refl }
-  at-take _ _ server r3 = record { after = refl; phase-is = refl; round = refl; slice-is = refl }
-  at-take _ _ server r4 = record { after = refl; phase-is = refl; round = refl; slice-is = refl }
-  at-take _ _ server r5 = record { after = refl; phase-is = refl; round = refl; slice-is = refl }
-  at-take _ _ server r6 = record { after = refl; phase-is = refl; round = refl; slice-is = refl }
-  at-take _ _ phone r0 = record { after = refl; phase-is = refl; round = refl; slice-is = refl }
-  at-take _ _ phone r1 = record { after = refl; phase-is = refl; round = refl; slice-is = refl }
-  at-take _ _ phone r2 = record { after = refl; phase-is = refl; round = refl; slice-is = refl }
-  at-take _ _ phone r3 = record { after = refl; phase-is = refl; round = refl; slice-is = refl }
-  at-take _ _ phone r4 = record { after = refl; phase-is = refl; round = refl; slice-is = refl }
-  at-take _ _ phone r5 = record { after = refl; phase-is = refl; round = refl; slice-is = refl }
-  at-take _ _ phone r6 = record { after = refl; phase-is = refl; round = refl; slice-is = refl }
+  at-take h R u r =
+      let n : h .number < 2 = which-below h u in
+      let m : ℕ = takeStep (h .number) R in
+      let taken : takenBy (h .number) (suc m) ≡ suc R = omega arith in
+      let before : takenBy (h .number) m ≡ R = omega arith in
+      let sent : sentBy (h .number) (suc m) ≡ sentBy (h .number) m = omega arith in
+      record {
+        after = rw (step-is h n m (omega arith), taken, before, sent, take-round (h .number) R n r, next-answer h R r);
+        phase-is = phase-taking (h .number) R n r;
+        round = take-round (h .number) R n r;
+        slice-is = rw before;
+      }
 
-  pub at-end : (h : Hand) → seat h 14 .side .phase ≡ Finished
-  unfolding seatAt sideAt
-  at-end h = refl
+  pub at-end : (h : Hand) → seat h steps .side .phase ≡ Finished
+  unfolding seatAt sideAt begunSide
+  at-end h = phase-ended (h .number)
 
   -- its messages are as long as their round asks
-  pub said-sized : (h : Hand) (R : ℕ) → Which h → Round R → length (said h (suc R)) ≡ messageLength k (s .kind) (s .n) (suc R)
+  pub said-sized : (h : Hand) (R : ℕ) → Which h → R < rounds → length (said h (suc R)) ≡ messageLength k (s .kind) (s .n) (suc R)
   unfolding seatAt sideAt begunSide
   said-sized h R u r =
       rw (← at-send h R u r .message-is, ← at-send h R u r .round)
       (message-sized k (seat h (sendStep (h .number) R) .side) (seat h (sendStep (h .number) R) .work))
 
-pub round-below : (R : ℕ) → Round R → R < 7
-round-below _ r0 = omega arith
-round-below _ r1 = omega arith
-round-below _ r2 = omega arith
-round-below _ r3 = omega arith
-round-below _ r4 = omega arith
-round-below _ r5 = omega arith
-round-below _ r6 = omega arith
-
-pub round-of : (R : ℕ) → R < 7 → Round R
-round-of zero l = r0
-round-of (suc zero) l = r1
-round-of (suc (suc zero)) l = r2
-round-of (suc (suc (suc zero))) l = r3
-round-of (suc (suc (suc (suc zero)))) l = r4
-round-of (suc (suc (suc (suc (suc zero))))) l = r5
-round-of (suc (suc (suc (suc (suc (suc zero)))))) l = r6
-round-of (suc (suc (suc (suc (suc (suc (suc R))))))) l = absurd (omega arith)
-
-pub which-below : (h : Hand) → Which h → h .number < 2
-which-below _ server = omega arith
-which-below _ phone = omega arith
-
-pub stage : (number m : ℕ) → number < 2 → m ≤ 14 → Stage number m
-stage number m u le = by (decLt m 14) (decLt (m % 2 + number) 1) (decLt 1 (m % 2 + number))
+pub stage : (number m : ℕ) → number < 2 → m ≤ steps → Stage number m
+stage number m u le = by (decLt m steps) (sendsAfter number m) refl
   where
-    by : Dec (m < 14) → Dec (m % 2 + number < 1) → Dec (1 < m % 2 + number) → Stage number m
-    by (no a) b c =
-        let e : 14 ≡ m = omega arith in
-        let x : Stage number 14 = ended in
-        rw e at x
-    by (yes a) (yes b) c =
-        let e : sendStep number (m / 2) ≡ m = omega arith in
-        let x : Stage number (sendStep number (m / 2)) = sending (round-of (m / 2) (omega arith)) in
-        rw e at x
-    by (yes a) (no b) (yes c) =
-        let e : sendStep number (m / 2) ≡ m = omega arith in
-        let x : Stage number (sendStep number (m / 2)) = sending (round-of (m / 2) (omega arith)) in
-        rw e at x
-    by (yes a) (no b) (no c) =
-        let e : takeStep number (m / 2) ≡ m = omega arith in
-        let x : Stage number (takeStep number (m / 2)) = taking (round-of (m / 2) (omega arith)) in
-        rw e at x
+    by : Dec (m < steps) → (b : Bool) → sendsAfter number m ≡ b → Stage number m
+    by (no a) b e =
+        let end : steps ≡ m = omega arith in
+        let x : Stage number steps = ended in
+        rw end at x
+    by (yes a) true e =
+        let here : sendStep number (m / 2) ≡ m = omega (arith, eqb-true (m % 2) number e) in
+        let x : Stage number (sendStep number (m / 2)) = sending {R = m / 2} (omega arith) in
+        rw here at x
+    by (yes a) false e =
+        let here : takeStep number (m / 2) ≡ m = omega (arith, eqb-false (m % 2) number e) in
+        let x : Stage number (takeStep number (m / 2)) = taking {R = m / 2} (omega arith) in
+        rw here at x

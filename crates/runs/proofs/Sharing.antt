@@ -14,24 +14,26 @@ use Rattle.lists.proofs.Questions.{both-yes}
 use Rattle.lists.proofs.Every.{every-join, every-listTo}
 use Rattle.lists.proofs.Lists.{length-listFrom, listTo-cong, join-at}
 use Rattle.field.specs.Field.{q}
-use Rattle.rounding.specs.Sets.{scaleOf}
-use Rattle.message.specs.Lengths.{openings, fieldCount}
+use Rattle.settings.specs.Sets.{scaleOf}
+use Rattle.settings.specs.Order.{rounds, sendStep, takeStep}
+use Rattle.settings.specs.Sizes.{openings, fieldCount, places}
 use Rattle.message.specs.Message.{headerNumber, messageOf, headerIn, fieldIn, fieldsOk}
 use Rattle.message.specs.Fields.{HeaderFits}
 use Rattle.message.specs.Theorems.{Sized, RoundTrip}
 use Rattle.message.proofs.RoundTrip.{sized-q}
-use Rattle.slice.specs.Layout.{places, column, maskedIn, weights}
+use Rattle.slice.specs.Layout.{column, maskedIn, weights}
 use Rattle.steps.specs.Steps.{publicOf}
 use Rattle.steps.specs.Work.{openingOn}
 use Rattle.column.specs.Theorems.{T1Work}
 use Rattle.state.specs.declared.Side.{Side}
 use Rattle.opening.specs.Opening.{partColumn, prepared, outgoing, message}
 use Rattle.side.specs.Side.{begunSide}
-use Rattle.runs.specs.Records.{Settings, settingsOk, Hand}
+use Rattle.settings.specs.declared.Settings.{Settings}
+use Rattle.settings.specs.Questions.{settingsOk}
+use Rattle.runs.specs.Records.{Hand}
 use Rattle.runs.specs.Progress.{workAt, sideAt, seatAt, messageAt}
-use Rattle.runs.specs.Honest.{takeStep}
 use Rattle.runs.proofs.Laws.{length-join}
-use Rattle.runs.proofs.Seats.{handAs, Which, Round, which-below, round-below, sendStep, at-send, at-take}
+use Rattle.runs.proofs.Seats.{handAs, Which, which-below, at-send, at-take}
 use Rattle.runs.proofs.Seats.Which.{server, phone}
 use Rattle.runs.proofs.Whole.{allowed}
 use Rattle.runs.proofs.Slices.{Fair, opening-below}
@@ -51,14 +53,14 @@ module _ (k : ℕ) (s : Settings) (serial : ℕ) (numbers : ℕ → List ℕ) wh
       (getD (weights k (h .number) (h .keys)) c 0) (column (workAt k s serial numbers h R) c) j
 
   -- when it takes
-  pub prepared-is : (h : Hand) (R : ℕ) → Which h → Round R → (c j : ℕ)
+  pub prepared-is : (h : Hand) (R : ℕ) → Which h → R < rounds → (c j : ℕ)
       → prepared k (sideAt k s serial numbers h (takeStep (h .number) R)) (workAt k s serial numbers h R) c j ≡ sharing h R c j
   unfolding prepared sharing sideAt begunSide seatAt
   prepared-is h R u r c j = rw (at-take k s serial numbers h R u r .round)
 
   -- when it sends: the server works them out, the phone has kept them
   module _ (t : T1Work) where
-    pub outgoing-is : (h : Hand) → Which h → Fair k s serial numbers h → (R : ℕ) → Round R → (c j : ℕ) → c < 1 + 2 * k → j < openings (s .kind) (s .n) (suc R)
+    pub outgoing-is : (h : Hand) → Which h → Fair k s serial numbers h → (R : ℕ) → R < rounds → (c j : ℕ) → c < 1 + 2 * k → j < openings (s .kind) (s .n) (suc R)
         → outgoing k (sideAt k s serial numbers h (sendStep (h .number) R)) (workAt k s serial numbers h (R + h .number)) c j ≡ sharing h R c j
     unfolding outgoing prepared sharing sideAt begunSide seatAt workAt
     outgoing-is _ (server {keys} {inputs} {book}) v R r c j l m = rw (add-zero R, at-send k s serial numbers (handAs 0 keys inputs book) R server r .round)
@@ -109,7 +111,7 @@ module _ (k : ℕ) (s : Settings) (serial : ℕ) (numbers : ℕ → List ℕ) wh
       (listTo-cong k (λ (i : ℕ). outgoing k x work (partColumn k (1 - x .number) i) j) (λ (i : ℕ). share (partColumn k (1 - x .number) i) j)
       (λ i m. e (partColumn k (1 - x .number) i) j (inside i m) l)))))
 
-  pub message-is : (t : T1Work) (o : Hand) → Fair k s serial numbers o → (R : ℕ) → Round R
+  pub message-is : (t : T1Work) (o : Hand) → Fair k s serial numbers o → (R : ℕ) → R < rounds
       → messageAt k s serial numbers o (suc R) ≡ messageOf (headerNumber (o .number) (s .set) (s .kind) (s .n) (s .bound) (suc R) serial) (fieldsAt o R)
   unfolding seatAt sideAt begunSide fieldsAt
   message-is t o v R r =
@@ -127,7 +129,7 @@ module _ (k : ℕ) (s : Settings) (serial : ℕ) (numbers : ℕ → List ℕ) wh
 
   -- ---- Read by the receiver
 
-  header-ok : (number : ℕ) → number < 2 → settingsOk s ≡ true → (R : ℕ) → R < 7 → HeaderFits number (s .set) (s .kind) (s .n) (suc R) (s .bound)
+  header-ok : (number : ℕ) → number < 2 → settingsOk s ≡ true → (R : ℕ) → R < rounds → HeaderFits number (s .set) (s .kind) (s .n) (suc R) (s .bound)
   header-ok number u e R l =
       let a = allowed s e in
       let c = both-yes (leb 1 (s .n)) (leb (s .n) 8) (a .count) in
@@ -145,7 +147,7 @@ module _ (k : ℕ) (s : Settings) (serial : ℕ) (numbers : ℕ → List ℕ) wh
       bound-small true bound e = omega (arith, eqb-true bound 0 e)
       bound-small false bound e = omega (arith, leb-true bound 4190208 (both-yes (leb 1 bound) (leb bound 4190208) e .1))
 
-  module _ (t : T1Work) (m : RoundTrip) (e : settingsOk s ≡ true) (f : serial < 4294967296) (o : Hand) (v : Fair k s serial numbers o) (R : ℕ) (r : Round R) where
+  module _ (t : T1Work) (m : RoundTrip) (e : settingsOk s ≡ true) (f : serial < 4294967296) (o : Hand) (v : Fair k s serial numbers o) (R : ℕ) (r : R < rounds) where
     abbrev header : ℕ
     header = headerNumber (o .number) (s .set) (s .kind) (s .n) (s .bound) (suc R) serial
 
@@ -157,7 +159,7 @@ module _ (k : ℕ) (s : Settings) (serial : ℕ) (numbers : ℕ → List ℕ) wh
         (every-listTo (λ (x : ℕ). ltb x q) k _ (λ i b. lt-ltb _ q (sharing-below t o v R _ (0 + j) (part-inside o (v .which) i b) (omega arith)))))
 
     header-below : header < 2 ^ 64
-    header-below = m .header-size (header-ok (o .number) (which-below o (v .which)) e R (round-below R r)) serial (omega arith)
+    header-below = m .header-size (header-ok (o .number) (which-below o (v .which)) e R r) serial (omega arith)
 
     sized : Sized header (fieldsAt o R)
     sized = sized-q header (fieldsAt o R) header-below fields-below

@@ -12,17 +12,17 @@ use Rattle.lists.proofs.Questions.{both-yes}
 use Rattle.lists.proofs.Every.{below-at, every-listTo}
 use Rattle.field.specs.Field.{q}
 use Rattle.field.specs.Forms.{Adds}
-use Rattle.rounding.specs.Sets.{scaleOf}
-use Rattle.message.specs.Lengths.{openings}
-use Rattle.book.specs.Book.{widthOf, shared}
+use Rattle.settings.specs.Sets.{scaleOf}
+use Rattle.settings.specs.Sizes.{widthOf, openings, shared, places}
 use Rattle.book.specs.Deal.{multipliers}
 use Rattle.book.specs.Theorems.{Laws}
-use Rattle.slice.specs.Layout.{places, column, ownIn, maskedIn, weights}
+use Rattle.slice.specs.Layout.{column, ownIn, maskedIn, weights}
 use Rattle.steps.specs.Steps.{publicOf}
 use Rattle.steps.specs.Work.{openingOn}
 use Rattle.column.specs.Run.{plainBook, plainStart, openedFrom, plainAfter, plainOpened}
 use Rattle.column.specs.Theorems.{JoinedWork, T1Work}
-use Rattle.runs.specs.Records.{Settings, Hand, handOf}
+use Rattle.settings.specs.declared.Settings.{Settings}
+use Rattle.runs.specs.Records.{Hand, handOf}
 use Rattle.runs.specs.Demands.{Fixed, Numbers, Secret, Shares, Possible}
 use Rattle.runs.specs.Progress.{workAt}
 use Rattle.runs.proofs.Seats.{Which}

@@ -10,19 +10,20 @@ use borrow.Author.Tests.{eq-eqb, ne-eqb}
 use Rattle.lists.specs.Answers.{ask}
 use Rattle.lists.specs.Lists.{allTo, allBelow}
 use Rattle.field.specs.Field.{q}
-use Rattle.message.specs.Lengths.{openings, fieldCount, messageLength}
+use Rattle.settings.specs.Order.{rounds, steps, sendStep, takeStep}
+use Rattle.settings.specs.Sizes.{openings, fieldCount, messageLength, workLength}
 use Rattle.message.specs.Message.{headerIn, headerNumber, fieldsOk, askForm}
-use Rattle.slice.specs.Layout.{workLength}
 use Rattle.state.specs.declared.Phase.the-variants.{Sending, Taking, Finished}
 use Rattle.state.specs.State.{sendDue, takeDue}
 use Rattle.opening.specs.Opening.{passes}
 use Rattle.side.specs.Side.{begunSide, sendNo, takeNo}
-use Rattle.runs.specs.Records.{Settings, Hand, Seat, Call, outcome}
+use Rattle.settings.specs.declared.Settings.{Settings}
+use Rattle.runs.specs.Records.{Hand, Seat, Call, outcome}
 use Rattle.runs.specs.Records.Call.{begin, send, takeLatest}
 use Rattle.runs.specs.Progress.{sideAt, seatAt}
-use Rattle.runs.specs.Honest.{takeStep, Meets}
+use Rattle.runs.specs.Honest.{Meets}
 use Rattle.runs.proofs.Doors.{Leaves, Sound, send-go, send-stay, send-not, send-due, ask-in, ask-last, take-go, take-stay, take-not, take-due, begin-spent}
-use Rattle.runs.proofs.Seats.{Which, Round, Terms, sendStep, seat, slice, send-in, take-in, at-send, at-take, at-end, round-below, which-below}
+use Rattle.runs.proofs.Seats.{Which, Terms, seat, slice, send-in, take-in, at-send, at-take, at-end, which-below}
 use Rattle.runs.proofs.Laws.{told}
 
 -- a no by length or header is neither 0 nor 13
@@ -59,12 +60,12 @@ module _ (k : ℕ) (s : Settings) (serial : ℕ) (numbers : ℕ → List ℕ) (h
   -- a side's settings, key and slices pass
   pub record Kept : Type 0 where
     pub terms : Terms s serial h
-    pub exact : (R : ℕ) → R < 8 → eqb (length (slice k s serial numbers h R)) (workLength k) ≡ true
-    pub low : (R : ℕ) → R < 8 → allBelow q (slice k s serial numbers h R) ≡ true
+    pub exact : (R : ℕ) → R ≤ rounds → eqb (length (slice k s serial numbers h R)) (workLength k) ≡ true
+    pub low : (R : ℕ) → R ≤ rounds → allBelow q (slice k s serial numbers h R) ≡ true
 
   -- the other side's messages, by round: they meet this side, and are as long as their round asks
   pub record Heard (messages : ℕ → List ℕ) : Type 0 where
-    pub sized : (R : ℕ) → Round R → length (messages (suc R)) ≡ messageLength k (s .kind) (s .n) (suc R)
+    pub sized : (R : ℕ) → R < rounds → length (messages (suc R)) ≡ messageLength k (s .kind) (s .n) (suc R)
     pub meets : Meets k s serial numbers h messages
 
   -- does a message have the length and header of round R + 1?
@@ -74,9 +75,9 @@ module _ (k : ℕ) (s : Settings) (serial : ℕ) (numbers : ℕ → List ℕ) (h
       && eqb (headerIn (fieldCount k (s .kind) (s .n) (suc R)) msg) (headerNumber (1 - h .number) (s .set) (s .kind) (s .n) (s .bound) (suc R) serial)
 
   -- one of the round before has not
-  pub late : (messages : ℕ → List ℕ) → Heard messages → (R : ℕ) → Round R → isOf (suc R) (messages (suc R)) ≡ false
+  pub late : (messages : ℕ → List ℕ) → Heard messages → (R : ℕ) → R < rounds → isOf (suc R) (messages (suc R)) ≡ false
   late messages z R r =
-      told k (1 - h .number) (s .set) (s .kind) (s .n) (s .bound) serial (messages (suc R)) (suc R) (z .sized R r) (z .meets .header R (round-below R r))
+      told k (1 - h .number) (s .set) (s .kind) (s .n) (s .bound) serial (messages (suc R)) (suc R) (z .sized R r) (z .meets .header R r)
 
   module _ (u : Which h) (v : Kept) where
     abbrev pub at : ℕ → Seat
@@ -91,31 +92,25 @@ module _ (k : ℕ) (s : Settings) (serial : ℕ) (numbers : ℕ → List ℕ) (h
     unfolding seatAt sideAt begunSide
     begins incoming m = begin-spent k s serial h incoming (at m) refl
 
-    send-most : (R : ℕ) → Round R → sendStep (h .number) R ≤ 14
-    send-most R r = omega (arith, round-below R r, which-below h u)
+    sending-due : (R : ℕ) → R < rounds → sendDue (at (sendStep (h .number) R) .side) ≡ true
+    sending-due R r = send-in k s serial numbers h (v .terms) (sendStep (h .number) R) Sending (at-send k s serial numbers h R u r .phase-is)
 
-    take-most : (R : ℕ) → Round R → takeStep (h .number) R ≤ 14
-    take-most R r = omega (arith, round-below R r, which-below h u)
+    taking-due : (R : ℕ) → R < rounds → takeDue (at (takeStep (h .number) R) .side) ≡ true
+    taking-due R r = take-in k s serial numbers h (v .terms) (takeStep (h .number) R) Taking (at-take k s serial numbers h R u r .phase-is)
 
-    sending-due : (R : ℕ) → Round R → sendDue (at (sendStep (h .number) R) .side) ≡ true
-    sending-due R r = send-in k s serial numbers h (v .terms) (sendStep (h .number) R) (send-most R r) Sending (at-send k s serial numbers h R u r .phase-is)
-
-    taking-due : (R : ℕ) → Round R → takeDue (at (takeStep (h .number) R) .side) ≡ true
-    taking-due R r = take-in k s serial numbers h (v .terms) (takeStep (h .number) R) (take-most R r) Taking (at-take k s serial numbers h R u r .phase-is)
-
-    sound-send : (R : ℕ) → Round R → Sound k (at (sendStep (h .number) R))
+    sound-send : (R : ℕ) → R < rounds → Sound k (at (sendStep (h .number) R))
     sound-send R r =
-        let i : R + h .number < 8 = omega (arith, round-below R r, which-below h u) in
+        let i : R + h .number ≤ rounds = omega (arith, which-below h u) in
         let e = at-send k s serial numbers h R u r .slice-is in
         record { exact = rw e (v .exact (R + h .number) i); low = rw e (v .low (R + h .number) i) }
 
-    sound-take : (R : ℕ) → Round R → Sound k (at (takeStep (h .number) R))
+    sound-take : (R : ℕ) → R < rounds → Sound k (at (takeStep (h .number) R))
     sound-take R r =
-        let i : R < 8 = omega (arith, round-below R r) in
+        let i : R ≤ rounds = omega (arith) in
         let e = at-take k s serial numbers h R u r .slice-is in
         record { exact = rw e (v .exact R i); low = rw e (v .low R i) }
 
-    send-answer : (R : ℕ) → Round R → (out : List ℕ)
+    send-answer : (R : ℕ) → R < rounds → (out : List ℕ)
         → sendNo k (at (sendStep (h .number) R) .side) (at (sendStep (h .number) R) .work) out ≡ ask (leb (messageLength k (s .kind) (s .n) (suc R)) (length out)) 9 0
     unfolding seatAt sideAt begunSide
     send-answer R r out =
@@ -123,7 +118,7 @@ module _ (k : ℕ) (s : Settings) (serial : ℕ) (numbers : ℕ → List ℕ) (h
         (send-due k (at (sendStep (h .number) R)) (sound-send R r) out (sending-due R r))
 
     -- send, at its stage, at the other stages
-    pub sends : (incoming : List ℕ) (R : ℕ) (r : Round R) (out : List ℕ) (d : Bool)
+    pub sends : (incoming : List ℕ) (R : ℕ) (r : R < rounds) (out : List ℕ) (d : Bool)
         → leb (messageLength k (s .kind) (s .n) (suc R)) (length out) ≡ d
         → Left incoming (sendStep (h .number) R) (send out) (cond d (at (suc (sendStep (h .number) R))) (at (sendStep (h .number) R))) d
     unfolding seatAt sideAt begunSide
@@ -134,25 +129,25 @@ module _ (k : ℕ) (s : Settings) (serial : ℕ) (numbers : ℕ → List ℕ) (h
         send-stay k s serial h incoming (at (sendStep (h .number) R)) out
         (rw (send-answer R r out) (ask-last _ 8 _ e))
 
-    pub sends-not-taking : (incoming : List ℕ) (R : ℕ) → Round R → (out : List ℕ) → Left incoming (takeStep (h .number) R) (send out) (at (takeStep (h .number) R)) false
+    pub sends-not-taking : (incoming : List ℕ) (R : ℕ) → R < rounds → (out : List ℕ) → Left incoming (takeStep (h .number) R) (send out) (at (takeStep (h .number) R)) false
     sends-not-taking incoming R r out =
         send-not k s serial h incoming (at (takeStep (h .number) R)) out
-        (send-in k s serial numbers h (v .terms) (takeStep (h .number) R) (take-most R r) Taking (at-take k s serial numbers h R u r .phase-is))
+        (send-in k s serial numbers h (v .terms) (takeStep (h .number) R) Taking (at-take k s serial numbers h R u r .phase-is))
 
-    pub sends-not-ended : (incoming : List ℕ) (out : List ℕ) → Left incoming 14 (send out) (at 14) false
+    pub sends-not-ended : (incoming : List ℕ) (out : List ℕ) → Left incoming steps (send out) (at steps) false
     sends-not-ended incoming out =
-        send-not k s serial h incoming (at 14) out (send-in k s serial numbers h (v .terms) 14 (omega arith) Finished (at-end k s serial numbers h))
+        send-not k s serial h incoming (at steps) out (send-in k s serial numbers h (v .terms) steps Finished (at-end k s serial numbers h))
 
-    pub takes-not-sending : (incoming : List ℕ) (R : ℕ) → Round R → Left incoming (sendStep (h .number) R) takeLatest (at (sendStep (h .number) R)) false
+    pub takes-not-sending : (incoming : List ℕ) (R : ℕ) → R < rounds → Left incoming (sendStep (h .number) R) takeLatest (at (sendStep (h .number) R)) false
     takes-not-sending incoming R r =
         take-not k s serial h incoming (at (sendStep (h .number) R))
-        (take-in k s serial numbers h (v .terms) (sendStep (h .number) R) (send-most R r) Sending (at-send k s serial numbers h R u r .phase-is))
+        (take-in k s serial numbers h (v .terms) (sendStep (h .number) R) Sending (at-send k s serial numbers h R u r .phase-is))
 
-    pub takes-not-ended : (incoming : List ℕ) → Left incoming 14 takeLatest (at 14) false
+    pub takes-not-ended : (incoming : List ℕ) → Left incoming steps takeLatest (at steps) false
     takes-not-ended incoming =
-        take-not k s serial h incoming (at 14) (take-in k s serial numbers h (v .terms) 14 (omega arith) Finished (at-end k s serial numbers h))
+        take-not k s serial h incoming (at steps) (take-in k s serial numbers h (v .terms) steps Finished (at-end k s serial numbers h))
 
-    take-answer : (R : ℕ) → Round R → (msg : List ℕ)
+    take-answer : (R : ℕ) → R < rounds → (msg : List ℕ)
         → takeNo k (at (takeStep (h .number) R) .side) (at (takeStep (h .number) R) .work) msg
         ≡ askForm k (h .number) (s .set) (s .kind) (s .n) (s .bound) (suc R) serial msg
         (ask (allTo (openings (s .kind) (s .n) (suc R)) (passes k (at (takeStep (h .number) R) .side) (at (takeStep (h .number) R) .work) msg)) 13 0)
@@ -162,29 +157,28 @@ module _ (k : ℕ) (s : Settings) (serial : ℕ) (numbers : ℕ → List ℕ) (h
         (take-due k (at (takeStep (h .number) R)) (sound-take R r) msg (taking-due R r))
 
     -- a message of another round, or none
-    pub takes-late : (R : ℕ) → Round R → (msg : List ℕ) → isOf R msg ≡ false → Left msg (takeStep (h .number) R) takeLatest (at (takeStep (h .number) R)) false
+    pub takes-late : (R : ℕ) → R < rounds → (msg : List ℕ) → isOf R msg ≡ false → Left msg (takeStep (h .number) R) takeLatest (at (takeStep (h .number) R)) false
     unfolding askForm
     takes-late R r msg e =
         take-stay k s serial h msg (at (takeStep (h .number) R))
         (rw (take-answer R r msg) (late-0 _ _ _ e))
         (rw (take-answer R r msg) (late-13 _ _ _ e))
 
-    pub takes-empty : (R : ℕ) → Round R → Left [] (takeStep (h .number) R) takeLatest (at (takeStep (h .number) R)) false
+    pub takes-empty : (R : ℕ) → R < rounds → Left [] (takeStep (h .number) R) takeLatest (at (takeStep (h .number) R)) false
     takes-empty R r = takes-late R r [] (rw (short k (s .kind) (s .n) (suc R)) refl)
 
     -- the message that is due
     module _ (messages : ℕ → List ℕ) (z : Heard messages) where
-      take-passes : (R : ℕ) → Round R → takeNo k (at (takeStep (h .number) R) .side) (slice k s serial numbers h R) (messages (suc R)) ≡ 0
+      take-passes : (R : ℕ) → R < rounds → takeNo k (at (takeStep (h .number) R) .side) (slice k s serial numbers h R) (messages (suc R)) ≡ 0
       unfolding seatAt
       take-passes R r =
-          let l = round-below R r in
           rw (at-take k s serial numbers h R u r .slice-is) at (take-answer R r (messages (suc R)))
-          ∙ form-passes _ _ _ _ _ _ _ _ _ _ (eq-eqb _ _ (z .sized R r)) (eq-eqb _ _ (z .meets .header R l)) (z .meets .fields R l) (z .meets .pass R l)
+          ∙ form-passes _ _ _ _ _ _ _ _ _ _ (eq-eqb _ _ (z .sized R r)) (eq-eqb _ _ (z .meets .header R r)) (z .meets .fields R r) (z .meets .pass R r)
 
-      pub takes : (R : ℕ) → Round R → Left (messages (suc R)) (takeStep (h .number) R) takeLatest (at (suc (takeStep (h .number) R))) true
+      pub takes : (R : ℕ) → R < rounds → Left (messages (suc R)) (takeStep (h .number) R) takeLatest (at (suc (takeStep (h .number) R))) true
       unfolding seatAt
       takes R r =
           rw (at-take k s serial numbers h R u r .after) at
           (take-go k s serial h (messages (suc R)) (at (takeStep (h .number) R)) (numbers R)
           (rw (at-take k s serial numbers h R u r .slice-is) (take-passes R r))
-          (rw (at-take k s serial numbers h R u r .slice-is) (z .meets .opens R (round-below R r))))
+          (rw (at-take k s serial numbers h R u r .slice-is) (z .meets .opens R r)))

@@ -17,11 +17,12 @@ use Rattle.field.specs.Field.{q}
 use Rattle.field.specs.Forms.{Adds}
 use Rattle.field.proofs.Congruence.{≈-eq}
 use Rattle.field.proofs.Solve.{at, _⊕_, _⊖_, _⊗_, red, solve}
-use Rattle.rounding.specs.Sets.{Scale}
-use Rattle.book.specs.Book.{shared, value}
+use Rattle.settings.specs.Sets.{Scale}
+use Rattle.settings.specs.Sizes.{shared, places}
+use Rattle.book.specs.Book.{value}
 use Rattle.book.specs.Deal.{multipliers, serverBook, phoneBook}
 use Rattle.book.specs.Theorems.{Books}
-use Rattle.slice.specs.Layout.{places, column, maskedIn, begunPlace, begunWork}
+use Rattle.slice.specs.Layout.{column, maskedIn, begunPlace, begunWork}
 use Rattle.column.specs.Run.{plainBook, plainStart}
 use Rattle.column.specs.Theorems.{JoinedWork}
 use Rattle.runs.specs.Records.{missing}

@@ -1,84 +1,74 @@
 -- Demand 2, the second part: at every point of every list of calls a begun run goes on, finishes in time and counts by its rounds.
-use Prim.Native.Nat.{ℕ, zero, suc, _+_, _-_, _/_, _%_, _≤_, _<_}
-use mathlib.Core.Path.{_≡_, refl, sym, _∙_}
+use Prim.Native.Nat.{ℕ, zero, suc, _≤_, _<_}
+use mathlib.Core.Path.{_≡_, refl, sym, ap, _∙_}
 use mathlib.Core.List.{List}
 use mathlib.Core.Bool.{Bool, true, false, cond, _&&_, _||_, true≢false}
 use native.Mathlib.Omega.{arith}
 use native.Mathlib.Decide.{decLt}
 use lib.Dec.{eqb}
-use borrow.Author.Tests.{eq-eqb, ne-eqb, eqb-true, eqb-false}
-use Rattle.rounding.specs.Sets.{scaleOf}
-use Rattle.message.specs.Lengths.{openingsUpTo}
-use Rattle.book.specs.Book.{widthOf}
+use borrow.Author.Tests.{eq-eqb, ne-eqb, eqb-true, lt-ltb, le-ltb}
+use Rattle.settings.specs.Sets.{scaleOf}
+use Rattle.settings.specs.Sizes.{widthOf, openingsUpTo}
+use Rattle.settings.specs.Order.{rounds, steps, goesOn, sendsAfter, takenBy, sentBy}
 use Rattle.column.specs.Run.{plainOpened}
 use Rattle.state.specs.declared.Phase.{Phase}
 use Rattle.state.specs.declared.Phase.the-variants.{Sending, Taking, Finished}
-use Rattle.state.specs.State.{isSending, isTaking, isFinished, sendDue, takeDue, underWay, finished, roundsTaken, countCall}
+use Rattle.state.specs.State.{isSending, isTaking, isFinished, sendDue, takeDue, underWay, finished, phaseAfter, roundsTaken, countCall}
 use Rattle.side.specs.Side.{begunSide}
-use Rattle.runs.specs.Records.{Settings, Hand, Seat, Event}
+use Rattle.settings.specs.declared.Settings.{Settings}
+use Rattle.runs.specs.Records.{Hand, Seat, Event}
 use Rattle.runs.specs.Demands.{Steady, Demand2Steady, takesIn, sendsIn, beganIn, ownHand, otherHand}
-use Rattle.runs.specs.Progress.{takenBy, sentBy, phaseAt, sideAt, seatAt, seatFrom, none, worldAt}
+use Rattle.runs.specs.Progress.{sideAt, seatAt, seatFrom, none, worldAt}
 use Rattle.runs.specs.Honest.{Runs}
-use Rattle.runs.proofs.Seats.{Terms, kept-whole}
+use Rattle.runs.proofs.Seats.{Terms, kept-whole, step-is}
 use Rattle.runs.proofs.Both.{start-pace, pace-after}
 use Rattle.runs.proofs.Whole.{honest-pair, t3}
 use Rattle.runs.proofs.Tally.{Tally, tally}
 
--- ---- a side after m of its 14 steps
+-- ---- a side after m of its steps
 
 -- a side that is begun sends, takes or is finished
-phases : (a b : Bool) → let p : Phase = cond a Finished (cond b Sending Taking) in ((isSending p || isTaking p) || isFinished p) ≡ true
-phases true b = refl
-phases false true = refl
-phases false false = refl
+phases : (a b : Bool) → let p : Phase = cond a (cond b Sending Taking) Finished in ((isSending p || isTaking p) || isFinished p) ≡ true
+phases true true = refl
+phases true false = refl
+phases false b = refl
 
 not-finished : (b : Bool) → isFinished (cond b Sending Taking) ≡ false
 not-finished true = refl
 not-finished false = refl
 
--- both counts of rounds are 7 at the end, and not before
-all-rounds : (number m : ℕ) → number < 2 → m < 14 → (eqb (takenBy number m) 7 && eqb (sentBy number m) 7) ≡ false
-all-rounds number m u l = by (eqb (takenBy number m) 7) refl
+-- it has taken and sent all rounds at the end, and not before
+all-rounds : (number m : ℕ) → number < 2 → m < steps → (eqb (takenBy number m) rounds && eqb (sentBy number m) rounds) ≡ false
+all-rounds number m u l = by (eqb (takenBy number m) rounds) refl
   where
-    by : (d : Bool) → eqb (takenBy number m) 7 ≡ d → (d && eqb (sentBy number m) 7) ≡ false
+    by : (d : Bool) → eqb (takenBy number m) rounds ≡ d → (d && eqb (sentBy number m) rounds) ≡ false
     by false e = refl
     by true e =
-        let f : takenBy number m ≡ 7 = eqb-true (takenBy number m) 7 e in
-        ne-eqb (sentBy number m) 7 (λ x. omega arith)
+        let f : takenBy number m ≡ rounds = eqb-true (takenBy number m) rounds e in
+        ne-eqb (sentBy number m) rounds (λ x. omega arith)
 
-rounds-by : (number m : ℕ) → number < 2 → (b d : Bool) → eqb (m % 2) number ≡ b → eqb number 1 ≡ d
-    → let p : Phase = cond b Sending Taking in cond (isFinished p) 7 (cond (d && isSending p) (m / 2 + 1) (m / 2 + 1 - 1)) ≡ takenBy number m
-rounds-by number m u true true e f = omega (arith, eqb-true (m % 2) number e, eqb-true number 1 f)
-rounds-by number m u true false e f = omega (arith, eqb-true (m % 2) number e, eqb-false number 1 f)
-rounds-by number m u false true e f = omega (arith, eqb-false (m % 2) number e, eqb-true number 1 f)
-rounds-by number m u false false e f = omega (arith, eqb-false (m % 2) number e, eqb-false number 1 f)
-
-module _ (k : ℕ) (s : Settings) (serial : ℕ) (numbers : ℕ → List ℕ) (h : Hand) (u : h .number < 2) (t : Terms s serial h) (m : ℕ) (l : m ≤ 14) where
+module _ (k : ℕ) (s : Settings) (serial : ℕ) (numbers : ℕ → List ℕ) (h : Hand) (u : h .number < 2) (t : Terms s serial h) (m : ℕ) (l : m ≤ steps) where
   begun-goes : (underWay (sideAt k s serial numbers h m) || finished (sideAt k s serial numbers h m)) ≡ true
-  unfolding underWay sendDue takeDue finished sideAt
-  begun-goes = rw (kept-whole k s serial numbers h t m l) (phases (eqb m 14) (eqb (m % 2) (h .number)))
+  unfolding underWay sendDue takeDue finished sideAt begunSide phaseAfter
+  begun-goes = rw (kept-whole k s serial numbers h t m) (phases (goesOn m) (sendsAfter (h .number) m))
 
-  pub finished-at : finished (sideAt k s serial numbers h m) ≡ (eqb (takenBy (h .number) m) 7 && eqb (sentBy (h .number) m) 7)
-  unfolding finished sideAt
-  finished-at = rw (kept-whole k s serial numbers h t m l) (by (decLt m 14))
+  pub finished-at : finished (sideAt k s serial numbers h m) ≡ (eqb (takenBy (h .number) m) rounds && eqb (sentBy (h .number) m) rounds)
+  unfolding finished sideAt begunSide phaseAfter
+  finished-at = rw (kept-whole k s serial numbers h t m) (by (decLt m steps))
     where
-      by : Dec (m < 14) → isFinished (phaseAt k s serial numbers h m) ≡ (eqb (takenBy (h .number) m) 7 && eqb (sentBy (h .number) m) 7)
-      by (yes a) = rw (ne-eqb m 14 (λ e. omega arith), all-rounds (h .number) m u a) (not-finished (eqb (m % 2) (h .number)))
+      by : Dec (m < steps) → isFinished (phaseAfter (h .number) m) ≡ (eqb (takenBy (h .number) m) rounds && eqb (sentBy (h .number) m) rounds)
+      by (yes a) = rw (lt-ltb m steps a, all-rounds (h .number) m u a) (not-finished (sendsAfter (h .number) m))
       by (no a) =
-          rw (eq-eqb m 14 (omega arith), eq-eqb (takenBy (h .number) m) 7 (omega arith))
-          (sym (eq-eqb (sentBy (h .number) m) 7 (omega arith)))
+          rw (le-ltb m steps (omega arith), eq-eqb (takenBy (h .number) m) rounds (omega arith))
+          (sym (eq-eqb (sentBy (h .number) m) rounds (omega arith)))
 
   rounds-at : roundsTaken (sideAt k s serial numbers h m) ≡ takenBy (h .number) m
   unfolding roundsTaken sideAt begunSide
-  rounds-at = by (decLt m 14)
-    where
-      by : Dec (m < 14) → roundsTaken (sideAt k s serial numbers h m) ≡ takenBy (h .number) m
-      by (yes a) = rw (ne-eqb m 14 (λ e. omega arith)) (rounds-by (h .number) m u (eqb (m % 2) (h .number)) (eqb (h .number) 1) refl refl)
-      by (no a) = rw (eq-eqb m 14 (omega arith)) (omega arith)
+  rounds-at = ap (takenBy (h .number)) (step-is k s serial numbers h u m l)
 
   pub count-at : countCall (sideAt k s serial numbers h m) ≡ openingsUpTo (s .kind) (s .n) (takenBy (h .number) m)
   unfolding countCall sideAt begunSide
-  count-at = rw (kept-whole k s serial numbers h t m l, rounds-at)
+  count-at = rw (kept-whole k s serial numbers h t m, rounds-at)
 
   -- with a log of so many takes and sends
   steady-at : (log : List Event) → takesIn log ≡ takenBy (h .number) m → sendsIn log ≡ sentBy (h .number) m → Steady s log (seatAt k s serial numbers h m)
@@ -87,7 +77,7 @@ module _ (k : ℕ) (s : Settings) (serial : ℕ) (numbers : ℕ → List ℕ) (h
 
 -- a run that has begun has a count above 0
 steady-from : (k : ℕ) (s : Settings) (serial : ℕ) (numbers : ℕ → List ℕ) (h : Hand) → h .number < 2 → Terms s serial h → (x : Seat) (log : List Event) (c : ℕ)
-    → c ≤ 15 → Tally (h .number) log 0 c → beganIn log ≡ true → Steady s log (seatFrom k s serial numbers h x c)
+    → c ≤ suc steps → Tally (h .number) log 0 c → beganIn log ≡ true → Steady s log (seatFrom k s serial numbers h x c)
 steady-from k s serial numbers h u t x log zero l a b = absurd (true≢false (sym b ∙ or-false (beganIn log) (a .begun)))
   where
     or-false : (b : Bool) → (b || false) ≡ false → b ≡ false

@@ -1,5 +1,5 @@
 -- One call at one side, from any count; then any list of calls at both.
-use Prim.Native.Nat.{ℕ, zero, suc, _*_, _≤_}
+use Prim.Native.Nat.{ℕ, zero, suc, _*_, _≤_, _<_}
 use mathlib.Core.Path.{_≡_, refl}
 use mathlib.Core.List.{List, []}
 use mathlib.Core.Bool.{Bool, true, false, cond, _&&_, _||_}
@@ -10,20 +10,19 @@ use borrow.Author.Tests.{eq-eqb, ne-eqb, lt-ltb, le-ltb, ltb-true, ltb-false}
 use Rattle.lists.specs.Answers.{ask}
 use Rattle.lists.specs.Lists.{allBelow}
 use Rattle.field.specs.Field.{q}
-use Rattle.rounding.specs.Sets.{scaleOf}
-use Rattle.rounding.specs.Questions.{askSettings}
-use Rattle.book.specs.Book.{shared, widthOf}
-use Rattle.slice.specs.Layout.{workLength}
+use Rattle.settings.specs.Sets.{scaleOf}
+use Rattle.settings.specs.Sizes.{widthOf, shared, workLength}
+use Rattle.settings.specs.Questions.{askSettings}
+use Rattle.settings.specs.Order.{rounds, steps, takenBy, sendStep, takeStep}
 use Rattle.state.specs.State.{underWay, sendDue, takeDue}
 use Rattle.side.specs.Side.{handedNo, beginNo}
-use Rattle.runs.specs.Records.{Settings, Hand, Seat, Call, outcome}
+use Rattle.settings.specs.declared.Settings.{Settings}
+use Rattle.runs.specs.Records.{Hand, Seat, Call, outcome}
 use Rattle.runs.specs.Records.Call.{begin, send, takeLatest, answer, count}
 use Rattle.runs.specs.Demands.{Idle}
-use Rattle.runs.specs.Progress.{takenBy, takenOf, onward, roomFor, next, seatFrom}
-use Rattle.runs.specs.Honest.{takeStep}
+use Rattle.runs.specs.Progress.{takenOf, onward, roomFor, next, seatFrom}
 use Rattle.runs.proofs.Doors.{Leaves, begin-go, send-not, take-not, beginNoAt}
-use Rattle.runs.proofs.Seats.{Which, Round, Stage, sendStep, begun, stage, which-below}
-use Rattle.runs.proofs.Seats.Round.{r0, r1, r2, r3, r4, r5, r6}
+use Rattle.runs.proofs.Seats.{Which, Stage, begun, stage, which-below}
 use Rattle.runs.proofs.Seats.Stage.{sending, taking, ended}
 use Rattle.runs.proofs.Stages.{Kept, Heard, late, begins, sends, sends-not-taking, sends-not-ended, takes, takes-late, takes-empty, takes-not-sending, takes-not-ended}
 use Rattle.runs.proofs.Counts.{next-send, next-send-not, next-take, next-take-not, next-end-send, next-end-take}
@@ -45,14 +44,6 @@ idle-take x e = or-right (sendDue (x .side)) _ e
     or-right false b e = e
     or-right true false e = refl
     or-right true true e = e
-
-pub round-before : (R : ℕ) → Round (suc R) → Round R
-round-before _ r1 = r0
-round-before _ r2 = r1
-round-before _ r3 = r2
-round-before _ r4 = r3
-round-before _ r5 = r4
-round-before _ r6 = r5
 
 -- the latest of so many messages
 abbrev pub latestOf : (ℕ → List ℕ) → ℕ → List ℕ
@@ -93,7 +84,7 @@ module _ (k : ℕ) (s : Settings) (serial : ℕ) (numbers : ℕ → List ℕ) (h
       goes-by : (c heard : ℕ) (call : Call) (d : Bool) → next k s (h .number) heard call c ≡ onward d c → Moves c heard call d → goes c heard call
       goes-by c heard call d e r = rw (e, went d c) r
 
-      send-by : (R heard : ℕ) → Round R → (out : List ℕ) (d : Bool) → roomFor k s (suc R) (length out) ≡ d → Moves (suc (sendStep (h .number) R)) heard (send out) d
+      send-by : (R heard : ℕ) → R < rounds → (out : List ℕ) (d : Bool) → roomFor k s (suc R) (length out) ≡ d → Moves (suc (sendStep (h .number) R)) heard (send out) d
       send-by R heard r out true e = sends k s serial numbers h u v (latestOf message-of heard) R r out true e
       send-by R heard r out false e = sends k s serial numbers h u v (latestOf message-of heard) R r out false e
 
@@ -105,13 +96,13 @@ module _ (k : ℕ) (s : Settings) (serial : ℕ) (numbers : ℕ → List ℕ) (h
       send-step _ heard out ended =
           goes-by _ heard (send out) false (next-end-send k s (h .number) heard (which-below h u) out) (sends-not-ended k s serial numbers h u v (latestOf message-of heard) out)
 
-      late-by : (R : ℕ) → Round R → Moves (suc (takeStep (h .number) R)) R takeLatest false
+      late-by : (R : ℕ) → R < rounds → Moves (suc (takeStep (h .number) R)) R takeLatest false
       late-by zero r = takes-empty k s serial numbers h u v zero r
       late-by (suc R) r =
           rw (ne-eqb (suc R) 0 (λ e. omega arith))
-          (takes-late k s serial numbers h u v (suc R) r (message-of (suc R)) (late k s serial numbers h message-of z R (round-before R r)))
+          (takes-late k s serial numbers h u v (suc R) r (message-of (suc R)) (late k s serial numbers h message-of z R (omega arith)))
 
-      take-by : (R heard : ℕ) → Round R → R ≤ heard → heard ≤ suc R → (d : Bool) → ltb R heard ≡ d → Moves (suc (takeStep (h .number) R)) heard takeLatest d
+      take-by : (R heard : ℕ) → R < rounds → R ≤ heard → heard ≤ suc R → (d : Bool) → ltb R heard ≡ d → Moves (suc (takeStep (h .number) R)) heard takeLatest d
       take-by R heard r a b true e =
           let eq : heard ≡ suc R = omega (arith, ltb-true R heard e) in
           rw (eq, ne-eqb (suc R) 0 (λ e. omega arith)) (takes k s serial numbers h u v message-of z R r)
@@ -128,7 +119,7 @@ module _ (k : ℕ) (s : Settings) (serial : ℕ) (numbers : ℕ → List ℕ) (h
       take-step _ heard a b ended =
           goes-by _ heard takeLatest false (next-end-take k s (h .number) heard (which-below h u)) (takes-not-ended k s serial numbers h u v (latestOf message-of heard))
 
-      pub one-call : (c heard : ℕ) → c ≤ 15 → takenOf (h .number) c ≤ heard → heard ≤ suc (takenOf (h .number) c) → (call : Call) → goes c heard call
+      pub one-call : (c heard : ℕ) → c ≤ suc steps → takenOf (h .number) c ≤ heard → heard ≤ suc (takenOf (h .number) c) → (call : Call) → goes c heard call
       unfolding next outcome
       one-call zero heard l a b begin =
           goes-by 0 heard begin true refl (rw (begun k s serial numbers h x u (i .silent)) at (begin-go k s serial h (latestOf message-of heard) x begin-in))

@@ -8,7 +8,8 @@ use lib.Dec.{ltb}
 use borrow.Author.Tests.{lt-ltb, le-ltb}
 use Rattle.lists.specs.Answers.{bit}
 use Rattle.lists.proofs.Indicators.{lt-one}
-use Rattle.runs.specs.Records.{Settings, Hand, Seat, Call, Event, Who, Move, World, outcome, note, events}
+use Rattle.settings.specs.declared.Settings.{Settings}
+use Rattle.runs.specs.Records.{Hand, Seat, Call, Event, Who, Move, World, outcome, note, events}
 use Rattle.runs.specs.Records.Who.{mine, theirs}
 use Rattle.runs.specs.Records.Call.{begin, send, takeLatest, answer, count}
 use Rattle.runs.specs.Demands.{Start, takesIn, sendsIn, beganIn}

@@ -7,11 +7,12 @@ use native.Mathlib.Omega.{arith}
 use lib.Dec.{eqb}
 use borrow.Author.Tests.{eq-eqb, ne-eqb, lt-ltb, le-leb}
 use Rattle.lists.proofs.Questions.{both-yes}
-use Rattle.rounding.specs.Sets.{scaleOf}
-use Rattle.rounding.specs.Questions.{isBit, countOk, boundOk, keysOk}
-use Rattle.book.specs.Book.{widthOf}
+use Rattle.settings.specs.Sets.{scaleOf}
+use Rattle.settings.specs.Sizes.{widthOf}
+use Rattle.settings.specs.Questions.{isBit, countOk, boundOk, keysOk, settingsOk}
 use Rattle.column.specs.Run.{plainOpened}
-use Rattle.runs.specs.Records.{Settings, Hand, handOf, settingsOk}
+use Rattle.settings.specs.declared.Settings.{Settings}
+use Rattle.runs.specs.Records.{Hand, handOf}
 use Rattle.runs.specs.Demands.{Fixed, Secret, Shares, Possible, ownHand, otherHand}
 use Rattle.runs.specs.Progress.{none, worldAt}
 use Rattle.runs.specs.Honest.{SideRuns, Runs}

@@ -9,15 +9,15 @@ use lib.ListN.{length, replicate}
 use Rattle.lists.specs.Answers.{bit}
 use Rattle.lists.specs.Lists.{allBelow, joinTo}
 use Rattle.field.specs.Field.{q}
-use Rattle.rounding.specs.Sets.{scaleOf}
-use Rattle.rounding.specs.Questions.{keysOk}
+use Rattle.settings.specs.Sets.{scaleOf}
+use Rattle.settings.specs.Sizes.{widthOf, openingsUpTo, messageLength, drawLength, workLength}
+use Rattle.settings.specs.Questions.{keysOk, settingsOk}
 use Rattle.rounding.specs.Plain.{decompose}
-use Rattle.message.specs.Lengths.{openingsUpTo, messageLength}
-use Rattle.book.specs.Book.{widthOf, drawLength}
+use Rattle.settings.specs.Order.{rounds}
 use Rattle.book.specs.Deal.{multipliers}
-use Rattle.slice.specs.Layout.{workLength}
 use Rattle.state.specs.State.{underWay, finished, heldAnswer, countCall}
-use Rattle.runs.specs.Records.{Settings, settingsOk, answerOf, missing, Hand, handOf, Seat, World, Who, Call, Move, Event, worldAfter, events}
+use Rattle.settings.specs.declared.Settings.{Settings}
+use Rattle.runs.specs.Records.{answerOf, missing, Hand, handOf, Seat, World, Who, Call, Move, Event, worldAfter, events}
 use Rattle.runs.specs.Records.Who.{mine, theirs}
 use Rattle.runs.specs.Records.Call.{begin, send, takeLatest, answer, count}
 use Rattle.runs.specs.Records.Event.{began, sent, took, answered, counted}
@@ -88,21 +88,21 @@ abbrev pub roundInOrder : ℕ → Settings → ℕ → List Move
 roundInOrder k s round = move mine (send (outFor k s round)) ∷ restOfRound k s round
 
 abbrev pub roundsFrom : ℕ → Settings → ℕ → ℕ → List Move
-roundsFrom k s first rounds = joinTo rounds (λ (i : ℕ). roundInOrder k s (first + i))
+roundsFrom k s first many = joinTo many (λ (i : ℕ). roundInOrder k s (first + i))
 
 -- the orders in which a run can be carried through: the phone begins last, first, or after the server's first message
 abbrev pub phoneSecond : ℕ → Settings → List Move
-phoneSecond k s = move mine begin ∷ move theirs begin ∷ roundsFrom k s 1 7
+phoneSecond k s = move mine begin ∷ move theirs begin ∷ roundsFrom k s 1 rounds
 
 abbrev pub phoneFirst : ℕ → Settings → List Move
-phoneFirst k s = move theirs begin ∷ move mine begin ∷ roundsFrom k s 1 7
+phoneFirst k s = move theirs begin ∷ move mine begin ∷ roundsFrom k s 1 rounds
 
 abbrev pub phoneLate : ℕ → Settings → List Move
 phoneLate k s =
     move mine begin
     ∷ move mine (send (outFor k s 1))
     ∷ move theirs begin
-    ∷ restOfRound k s 1 ++ roundsFrom k s 2 6
+    ∷ restOfRound k s 1 ++ roundsFrom k s 2 (rounds - 1)
 
 abbrev pub whoNumber : Who → ℕ
 whoNumber mine = 0
@@ -144,7 +144,7 @@ carriedThrough k s calls =
 pub record Ended (s : Settings) (secret : List ℕ) (x : Seat) : Type 0 where
   pub done : finished (x .side) ≡ true
   pub answer : heldAnswer (x .side) ≡ answerOf s secret
-  pub openings : countCall (x .side) ≡ openingsUpTo (s .kind) (s .n) 7
+  pub openings : countCall (x .side) ≡ openingsUpTo (s .kind) (s .n) rounds
 
 -- "every run carried through in order finishes, and both sides hold the high parts, or the verdict"; `own` is the server
 abbrev pub Demand2 : ℕ → Type 0
@@ -196,11 +196,11 @@ beganIn (took r m ∷ es) = beganIn es
 beganIn (answered r ns ∷ es) = beganIn es
 beganIn (counted c ∷ es) = beganIn es
 
--- after any list of calls, at either side: a run that has begun never stops; it is finished when it has sent and taken all seven
+-- after any list of calls, at either side: a run that has begun never stops; it is finished when it has sent and taken all
 -- rounds and not before; its count is fixed by the rounds taken
 pub record Steady (s : Settings) (log : List Event) (x : Seat) : Type 0 where
   pub goes-on : (underWay (x .side) || finished (x .side)) ≡ true
-  pub in-time : finished (x .side) ≡ (eqb (takesIn log) 7 && eqb (sendsIn log) 7)
+  pub in-time : finished (x .side) ≡ (eqb (takesIn log) rounds && eqb (sendsIn log) rounds)
   pub by-rounds : countCall (x .side) ≡ openingsUpTo (s .kind) (s .n) (takesIn log)
 
 abbrev pub Demand2Steady : ℕ → Type 0

@@ -1,47 +1,43 @@
 -- What holds of an honest run by arithmetic alone, no call in it: the slices that both sides come to, what their begins are
 -- handed, and that the messages pass and open the plain numbers. T3 follows from it.
-use Prim.Native.Nat.{ℕ, suc, _+_, _*_, _-_, _<_}
+use Prim.Native.Nat.{ℕ, suc, _*_, _-_, _<_, _≤_}
 use mathlib.Core.Path.{_≡_}
 use mathlib.Core.Bool.{true}
 use mathlib.Core.List.{List}
 use lib.ListN.{length}
 use Rattle.lists.specs.Lists.{allBelow, allTo}
 use Rattle.field.specs.Field.{q}
-use Rattle.rounding.specs.Sets.{scaleOf}
-use Rattle.message.specs.Lengths.{openings, fieldCount}
+use Rattle.settings.specs.Sets.{scaleOf}
+use Rattle.settings.specs.Sizes.{widthOf, openings, fieldCount, shared, workLength}
+use Rattle.settings.specs.Order.{rounds, takeStep}
 use Rattle.message.specs.Message.{headerIn, headerNumber, fieldsOk}
-use Rattle.book.specs.Book.{widthOf, shared}
-use Rattle.slice.specs.Layout.{workLength}
 use Rattle.column.specs.Run.{plainOpened}
 use Rattle.opening.specs.Opening.{passes}
 use Rattle.side.specs.Side.{openedList}
-use Rattle.runs.specs.Records.{Settings, Hand}
+use Rattle.settings.specs.declared.Settings.{Settings}
+use Rattle.runs.specs.Records.{Hand}
 use Rattle.runs.specs.Demands.{Fixed, Numbers, Secret, Shares, Possible, ownHand, otherHand}
 use Rattle.runs.specs.Progress.{workAt, sideAt, messageAt}
-
--- the step at which side `number` takes round R + 1
-abbrev pub takeStep : ℕ → ℕ → ℕ
-takeStep number R = 2 * R + (1 - number)
 
 -- the other side's messages, by round, have the due header, fields below q and zero padding; every opening passes its check here,
 -- and the joined numbers are `numbers R`
 pub record Meets (k : ℕ) (s : Settings) (serial : ℕ) (numbers : ℕ → List ℕ) (h : Hand) (messages : ℕ → List ℕ) : Type 0 where
-  pub header : (R : ℕ) → R < 7
+  pub header : (R : ℕ) → R < rounds
       → headerIn (fieldCount k (s .kind) (s .n) (suc R)) (messages (suc R))
       ≡ headerNumber (1 - h .number) (s .set) (s .kind) (s .n) (s .bound) (suc R) serial
-  pub fields : (R : ℕ) → R < 7 → fieldsOk (fieldCount k (s .kind) (s .n) (suc R)) (messages (suc R)) ≡ true
-  pub pass : (R : ℕ) → R < 7
+  pub fields : (R : ℕ) → R < rounds → fieldsOk (fieldCount k (s .kind) (s .n) (suc R)) (messages (suc R)) ≡ true
+  pub pass : (R : ℕ) → R < rounds
       → allTo (openings (s .kind) (s .n) (suc R))
       (passes k (sideAt k s serial numbers h (takeStep (h .number) R)) (workAt k s serial numbers h R) (messages (suc R)))
       ≡ true
-  pub opens : (R : ℕ) → R < 7
+  pub opens : (R : ℕ) → R < rounds
       → openedList k (sideAt k s serial numbers h (takeStep (h .number) R)) (workAt k s serial numbers h R) (messages (suc R))
       ≡ numbers R
 
 -- one side: its slices pass questions 5 and 6, its inputs and book too, and the other's messages meet it
 pub record SideRuns (k : ℕ) (s : Settings) (serial : ℕ) (numbers : ℕ → List ℕ) (h : Hand) (messages : ℕ → List ℕ) : Type 0 where
-  pub exact : (R : ℕ) → R < 8 → length (workAt k s serial numbers h R) ≡ workLength k
-  pub low : (R : ℕ) → R < 8 → allBelow q (workAt k s serial numbers h R) ≡ true
+  pub exact : (R : ℕ) → R ≤ rounds → length (workAt k s serial numbers h R) ≡ workLength k
+  pub low : (R : ℕ) → R ≤ rounds → allBelow q (workAt k s serial numbers h R) ≡ true
   pub inputs : Numbers (s .n * widthOf k) (h .inputs)
   pub book : Numbers (shared (scaleOf (s .set)) (s .kind) (s .n) * widthOf k) (h .book)
   pub meets : Meets k s serial numbers h messages

@@ -1,59 +1,50 @@
 -- Progress: the seat of a side that has come so far in its run, and how calls move it; nothing here looks at a secret.
-use Prim.Native.Nat.{ℕ, zero, suc, _+_, _*_, _-_, _/_, _%_}
+use Prim.Native.Nat.{ℕ, zero, suc, _-_}
 use mathlib.Core.Bool.{Bool, cond, not, _&&_}
 use mathlib.Core.List.{List, [], _∷_}
 use lib.Dec.{eqb, leb, ltb}
 use lib.ListN.{length, getD, replicate}
 use Rattle.lists.specs.Lists.{inFront}
-use Rattle.rounding.specs.Sets.{scaleOf}
-use Rattle.message.specs.Lengths.{messageLength}
-use Rattle.book.specs.Book.{widthOf}
+use Rattle.settings.specs.Sets.{scaleOf}
+use Rattle.settings.specs.Sizes.{widthOf, messageLength}
+use Rattle.settings.specs.Order.{rounds, goesOn, roundAfter, sendsAfter, takenBy, sentBy, sendStep}
 use Rattle.slice.specs.Layout.{begunWork, weights}
 use Rattle.steps.specs.Work.{takenWork}
 use Rattle.state.specs.declared.Side.{Side}
-use Rattle.state.specs.declared.Phase.{Phase}
-use Rattle.state.specs.declared.Phase.the-variants.{Sending, Taking, Finished}
-use Rattle.state.specs.State.{moved}
+use Rattle.state.specs.State.{atStep}
 use Rattle.opening.specs.Opening.{message}
 use Rattle.side.specs.Side.{begunSide}
-use Rattle.runs.specs.Records.{Settings, Hand, Seat, World, Who, Call, Move}
+use Rattle.settings.specs.declared.Settings.{Settings}
+use Rattle.runs.specs.Records.{Hand, Seat, World, Who, Call, Move}
 use Rattle.runs.specs.Records.Who.{mine, theirs}
 use Rattle.runs.specs.Records.Call.{begin, send, takeLatest, answer, count}
 
--- ---- One side after m of its 14 steps: server send, take, send ..; phone take, send, take ..
-
--- the rounds it has taken, and sent
-abbrev pub takenBy : ℕ → ℕ → ℕ
-takenBy number m = (m + number) / 2
-
-abbrev pub sentBy : ℕ → ℕ → ℕ
-sentBy number m = (m + (1 - number)) / 2
+-- ---- One side after m of its steps
 
 -- numbers R: the numbers that round R + 1 opens
 module _ (k : ℕ) (s : Settings) (serial : ℕ) (numbers : ℕ → List ℕ) (h : Hand) where
   -- the working slice after so many rounds
   unfoldable pub workAt : ℕ → List ℕ
   workAt zero = begunWork (scaleOf (s .set)) (s .kind) (s .n) (widthOf k) (h .inputs) (h .book)
-  workAt (suc rounds) =
-      let ns = numbers rounds in
-      takenWork (scaleOf (s .set)) (s .kind) (s .n) (s .bound) (suc rounds) (λ (o : ℕ). getD ns o 0)
-      (weights k (h .number) (h .keys)) (workAt rounds)
+  workAt (suc R) =
+      let ns = numbers R in
+      takenWork (scaleOf (s .set)) (s .kind) (s .n) (s .bound) (suc R) (λ (o : ℕ). getD ns o 0)
+      (weights k (h .number) (h .keys)) (workAt R)
 
-  abbrev pub phaseAt : ℕ → Phase
-  phaseAt m =
-      cond (eqb m 14) Finished
-      (cond (eqb (m % 2) (h .number)) Sending Taking)
+  -- the kept answer after so many rounds: the last of all opens it
+  abbrev pub answerAt : ℕ → List ℕ
+  answerAt taken = cond (eqb taken rounds) (inFront (numbers (rounds - 1)) (replicate 8 0)) (replicate 8 0)
 
+  -- the side after m steps
   unfoldable pub sideAt : ℕ → Side
   sideAt m =
-      moved (begunSide (h .number) (s .set) (s .kind) (s .n) (s .bound) (h .keys) serial)
-      (cond (eqb m 14) 7 (m / 2 + 1)) (phaseAt m)
-      (cond (eqb (takenBy (h .number) m) 7) (inFront (numbers 6) (replicate 8 0)) (replicate 8 0))
+      atStep (begunSide (h .number) (s .set) (s .kind) (s .n) (s .bound) (h .keys) serial) m
+      (answerAt (takenBy (h .number) m))
 
-  -- the message of a round: what it sends at the step 2 × (round − 1), the phone one step later
+  -- the message of a round, from the step at which it is sent
   unfoldable pub messageAt : ℕ → List ℕ
   messageAt round =
-      let m = 2 * (round - 1) + h .number in
+      let m = sendStep (h .number) (round - 1) in
       message k (sideAt m) (workAt (takenBy (h .number) m))
 
   unfoldable pub seatAt : ℕ → Seat
@@ -91,9 +82,9 @@ module _ (k : ℕ) (s : Settings) (number heard : ℕ) where
   next begin zero = 1
   next begin (suc m) = suc m
   next (send out) zero = zero
-  next (send out) (suc m) = onward (eqb (m % 2) number && ltb m 14 && roomFor k s (m / 2 + 1) (length out)) (suc m)
+  next (send out) (suc m) = onward (sendsAfter number m && goesOn m && roomFor k s (roundAfter m) (length out)) (suc m)
   next takeLatest zero = zero
-  next takeLatest (suc m) = onward (not (eqb (m % 2) number) && ltb m 14 && ltb (takenBy number m) heard) (suc m)
+  next takeLatest (suc m) = onward (not (sendsAfter number m) && goesOn m && ltb (takenBy number m) heard) (suc m)
   next (answer out) c = c
   next count c = c
 

@@ -5,10 +5,10 @@ use mathlib.Core.List.{List, [], _∷_, _++_, map}
 use lib.Dec.{eqb}
 use lib.ListN.{length, getD, take}
 use Rattle.field.specs.Field.{q, sub}
-use Rattle.rounding.specs.Sets.{scaleOf}
-use Rattle.rounding.specs.Questions.{isBit, countOk, boundOk}
+use Rattle.settings.specs.Sets.{scaleOf}
+use Rattle.settings.specs.Sizes.{widthOf}
+use Rattle.settings.specs.Questions.{isBit, countOk, boundOk}
 use Rattle.rounding.specs.Plain.{highPart, verdict}
-use Rattle.book.specs.Book.{widthOf}
 use Rattle.book.specs.Deal.{multipliers, inOrder, serverBook, phoneBook}
 use Rattle.state.specs.declared.Side.{Side}
 use Rattle.state.specs.State.{answerCall, countCall}

@@ -2,10 +2,11 @@
 use Prim.Native.Nat.{ℕ, _<_}
 use mathlib.Core.Path.{_≡_}
 use mathlib.Core.List.{List}
-use Rattle.rounding.specs.Sets.{scaleOf}
-use Rattle.book.specs.Book.{widthOf}
+use Rattle.settings.specs.Sets.{scaleOf}
+use Rattle.settings.specs.Sizes.{widthOf}
 use Rattle.column.specs.Run.{plainOpened}
-use Rattle.runs.specs.Records.{Settings, World, Move, worldAfter}
+use Rattle.settings.specs.declared.Settings.{Settings}
+use Rattle.runs.specs.Records.{World, Move, worldAfter}
 use Rattle.runs.specs.Demands.{Fixed, Secret, Shares, Possible, Start, ownHand, otherHand}
 use Rattle.runs.specs.Progress.{none, countsAfter, worldAt}
 

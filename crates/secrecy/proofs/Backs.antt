@@ -10,9 +10,10 @@ use lib.ListN.{getD}
 use lib.Seq.{ext-getD}
 use Rattle.lists.proofs.Lists.{length-listFrom}
 use Rattle.field.specs.Field.{add, sub}
-use Rattle.rounding.specs.Sets.{Scale}
-use Rattle.message.specs.Lengths.{openings}
-use Rattle.book.specs.Book.{shared, drawn, phoneNumber, value}
+use Rattle.settings.specs.Sets.{Scale}
+use Rattle.settings.specs.Order.{rounds}
+use Rattle.settings.specs.Sizes.{openings, shared}
+use Rattle.book.specs.Book.{drawn, phoneNumber, value}
 use Rattle.book.specs.Deal.{phoneBook, serverNumber, serverBook}
 use Rattle.column.specs.Run.{openedFrom, plainOpened}
 use Rattle.secrecy.specs.Paired.{openedOf, tripleOpening, drawnMoved, phoneMoved, paired}
@@ -160,7 +161,7 @@ module _ (p : Scale) (kind n bound width : ℕ) (pos : 0 < p .modulus) where
         (opens-factor p kind n bound width pos x x′ s s′ d g P (good-paired x x′ factors d g number) (paired-same x x′ factors d g number)
         (o / 4) (2 * (r - 1) + o / 2 % 2) (o % 2) (omega arith) (omega arith) (omega arith)))
 
-    pub rounds-same : (r : ℕ) → r < 6 → plainOpened p kind n bound width P x′ r ≡ plainOpened p kind n bound width d x r
+    pub rounds-same : (r : ℕ) → r < rounds - 1 → plainOpened p kind n bound width P x′ r ≡ plainOpened p kind n bound width d x r
     unfolding openings
     rounds-same zero h =
         same-list P d x′ x 0 (opens-first p kind n bound width pos x x′ s s′ d g P (good-paired x x′ factors d g number) (paired-same x x′ factors d g number))

@@ -2,16 +2,19 @@
 use mathlib.Core.Path.{_≡_, sym, _∙_}
 use mathlib.Core.List.{List}
 use mathlib.Core.Bool.{true}
-use Prim.Native.Nat.{ℕ, _<_}
+use Prim.Native.Nat.{ℕ, _-_, _<_}
 use native.Mathlib.Decide.{decLt}
 use native.Mathlib.Omega.{arith}
 use lib.Dec.{eqb}
-use Rattle.rounding.specs.Sets.{scaleOf}
-use Rattle.book.specs.Book.{widthOf}
+use Rattle.settings.specs.Sets.{scaleOf}
+use Rattle.settings.specs.Sizes.{widthOf}
+use Rattle.settings.specs.Order.{rounds}
 use Rattle.book.specs.Deal.{multipliers}
 use Rattle.column.specs.Run.{plainOpened}
 use Rattle.column.specs.Theorems.{T2}
-use Rattle.runs.specs.Records.{Settings, settingsOk, answerOf, bookOf}
+use Rattle.settings.specs.declared.Settings.{Settings}
+use Rattle.settings.specs.Questions.{settingsOk}
+use Rattle.runs.specs.Records.{answerOf, bookOf}
 use Rattle.runs.specs.Demands.{Secret, Possible}
 use Rattle.secrecy.specs.Paired.{paired}
 use Rattle.secrecy.specs.Theorems.{T5}
@@ -34,22 +37,22 @@ module _ (k : ℕ) (t2 : T2) (s : Settings) (number : ℕ) (keys0 keys1 : List �
       back-paired (scaleOf (s .set)) (s .kind) (s .n) (s .bound) (widthOf k) (omega arith) x x′
       (shapes k t2 s x ok hx) (shapes k t2 s x′ ok hx′) (multipliers keys0 keys1) d (good k s d hd) number
 
-  -- round 7 opens the answer
-  answers : (x d : List ℕ) → settingsOk s ≡ true → Secret s x → Possible k s d → Opened d x 6 ≡ answerOf s x
+  -- the last round opens the answer
+  answers : (x d : List ℕ) → settingsOk s ≡ true → Secret s x → Possible k s d → Opened d x (rounds - 1) ≡ answerOf s x
   unfolding answerOf
   answers x d ok hx hd = t2 .answer (scaleOf (s .set)) (s .kind) (s .n) (s .bound) k d x (sound k s x d ok hx hd)
 
   same-openings : (x x′ d : List ℕ) → settingsOk s ≡ true → Secret s x → Secret s x′ → Possible k s d → answerOf s x ≡ answerOf s x′
-      → (r : ℕ) → r < 7 → Opened (There x x′ d) x′ r ≡ Opened d x r
-  same-openings x x′ d ok hx hx′ hd e r b = by (decLt r 6)
+      → (r : ℕ) → r < rounds → Opened (There x x′ d) x′ r ≡ Opened d x r
+  same-openings x x′ d ok hx hx′ hd e r b = by (decLt r (rounds - 1))
     where
-      by : Dec (r < 6) → Opened (There x x′ d) x′ r ≡ Opened d x r
+      by : Dec (r < rounds - 1) → Opened (There x x′ d) x′ r ≡ Opened d x r
       by (yes h) =
           rounds-same (scaleOf (s .set)) (s .kind) (s .n) (s .bound) (widthOf k) (omega arith) x x′
           (shapes k t2 s x ok hx) (shapes k t2 s x′ ok hx′) (multipliers keys0 keys1) d (good k s d hd) number r h
       by (no h) =
-          let six : r ≡ 6 = omega arith in
-          rw six (answers x′ (There x x′ d) ok hx′ (possible x x′ d hd) ∙ sym e ∙ sym (answers x d ok hx hd))
+          let last : r ≡ rounds - 1 = omega arith in
+          rw last (answers x′ (There x x′ d) ok hx′ (possible x x′ d hd) ∙ sym e ∙ sym (answers x d ok hx hd))
 
   same-book : (x x′ d : List ℕ) → Possible k s d → bookOf k s number keys0 keys1 (There x x′ d) ≡ bookOf k s number keys0 keys1 d
   unfolding paired

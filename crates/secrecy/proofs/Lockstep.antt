@@ -2,7 +2,8 @@
 use mathlib.Core.Path.{_≡_, refl, ap₂}
 use mathlib.Core.List.{List, [], _∷_, _++_}
 use Prim.Native.Nat.{ℕ}
-use Rattle.runs.specs.Records.{Settings, Hand, Who, Call, Move, World, Event, step, note, worldAfter, events}
+use Rattle.settings.specs.declared.Settings.{Settings}
+use Rattle.runs.specs.Records.{Hand, Who, Call, Move, World, Event, step, note, worldAfter, events}
 use Rattle.runs.specs.Records.Who.{mine, theirs}
 
 -- what one side sees of a world: its own seat, and the other's latest message

@@ -14,12 +14,13 @@ use Rattle.field.specs.Field.{add, sub}
 use Rattle.field.proofs.Congruence.{≈-lt}
 use Rattle.field.proofs.Solve.{at, _⊕_, _⊖_, _⊗_, red, solve}
 use Rattle.field.proofs.Sums.{sum-cong}
-use Rattle.rounding.specs.Sets.{Scale}
+use Rattle.settings.specs.Sets.{Scale}
 use Rattle.rounding.specs.Digits.{digit}
-use Rattle.book.specs.Book.{Entry, groupGap, shared, entryOf, maskAt, tripleAt, groupAt, isDrawn, drawLength, drawn, value, valueOf}
+use Rattle.book.specs.Book.{Entry, groupGap, entryOf, maskAt, tripleAt, groupAt, isDrawn, drawn, value, valueOf}
+use Rattle.settings.specs.Sizes.{shared, drawLength, groups}
 use Rattle.book.specs.Book.Entry.{mask, place, left, right, product, groupMask, groupPlace}
 use Rattle.book.specs.Deal.{inOrder}
-use Rattle.book.specs.Theorems.{groups, At, at-place, at-product, at-groupPlace, Holds}
+use Rattle.book.specs.Theorems.{At, at-place, at-product, at-groupPlace, Holds}
 use Rattle.book.proofs.Places.{at-entry, holds-mask, holds-left, holds-right, holds-ρ}
 use Rattle.steps.specs.Steps.{shiftOf}
 use Rattle.column.specs.Clear.{clearFactor, clearChecked, maskOf, maskedOf}

@@ -8,10 +8,11 @@ use native.Mathlib.Omega.{arith}
 use lib.ListN.{getD}
 use Rattle.lists.proofs.Every.{below-at}
 use Rattle.field.specs.Field.{add, sub}
-use Rattle.rounding.specs.Sets.{Scale}
-use Rattle.book.specs.Book.{Entry, shared, entryOf, maskAt, tripleAt, groupAt, isDrawn, drawn, phoneNumber}
+use Rattle.settings.specs.Sets.{Scale}
+use Rattle.book.specs.Book.{Entry, entryOf, maskAt, tripleAt, groupAt, isDrawn, drawn, phoneNumber}
+use Rattle.settings.specs.Sizes.{shared, groups}
 use Rattle.book.specs.Book.Entry.{mask, place, left, right, product, groupMask, groupPlace}
-use Rattle.book.specs.Theorems.{groups, At, at-mask, at-left, at-right, at-group, Holds}
+use Rattle.book.specs.Theorems.{At, at-mask, at-left, at-right, at-group, Holds}
 use Rattle.book.proofs.Places.{at-entry, holds-mask, holds-left, holds-right, holds-ρ}
 use Rattle.steps.specs.Steps.{shiftOf}
 use Rattle.secrecy.specs.Paired.{drawFrom, openedOf, tripleOpening, movedMask, masksMoved, movedDrawn, drawnMoved}

@@ -12,8 +12,9 @@ use Rattle.lists.specs.Answers.{bit}
 use Rattle.lists.specs.Lists.{listTo, joinFrom, every, allBelow}
 use Rattle.lists.proofs.Lists.{length-listFrom, getD-listTo, ahead, ahead-more, join-at, join-is}
 use Rattle.lists.proofs.Every.{every-listTo, every-join}
-use Rattle.rounding.specs.Sets.{Scale}
-use Rattle.book.specs.Book.{shared, isDrawn, entryOf, drawAt, drawLength, drawn, phoneNumber}
+use Rattle.settings.specs.Sets.{Scale}
+use Rattle.settings.specs.Sizes.{shared, drawLength}
+use Rattle.book.specs.Book.{isDrawn, entryOf, drawAt, drawn, phoneNumber}
 use Rattle.book.proofs.Draws.{drawAt-none, drawAt-more, drawAt-end}
 use Rattle.secrecy.specs.Paired.{drawFrom}
 

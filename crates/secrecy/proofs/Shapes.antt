@@ -12,28 +12,28 @@ use Rattle.lists.proofs.Questions.{both-yes}
 use Rattle.lists.proofs.Every.{below-at, allTo-at}
 use Rattle.lists.proofs.Lists.{getD-listTo}
 use Rattle.field.specs.Field.{q, add, sub}
-use Rattle.rounding.specs.Sets.{Scale, scaleOf}
-use Rattle.rounding.specs.Questions.{isBit, countOk, boundOk}
-use Rattle.rounding.proofs.Sets.{lawful}
-use Rattle.message.specs.Lengths.{openings}
-use Rattle.book.specs.Book.{widthOf, maskAt, tripleAt, groupAt, drawn}
-use Rattle.book.specs.Theorems.{groups}
+use Rattle.settings.specs.Sets.{Scale, scaleOf}
+use Rattle.settings.specs.Sizes.{widthOf, openings, groups}
+use Rattle.settings.specs.Questions.{isBit, countOk, boundOk, settingsOk}
+use Rattle.settings.proofs.Sets.{lawful}
+use Rattle.settings.specs.Order.{rounds}
+use Rattle.book.specs.Book.{maskAt, tripleAt, groupAt, drawn}
 use Rattle.book.proofs.Sizes.{shared-most}
 use Rattle.steps.specs.Steps.{shiftOf}
 use Rattle.column.specs.Clear.{clearFactor, clearOpened, maskOf, maskedOf}
 use Rattle.column.specs.Theorems.{Sound, T2}
-use Rattle.runs.specs.Records.{Settings, settingsOk}
+use Rattle.settings.specs.declared.Settings.{Settings}
 use Rattle.runs.specs.Demands.{Secret, Possible}
 use Rattle.secrecy.specs.Paired.{openedOf, tripleOpening}
 use Rattle.secrecy.proofs.Moves.{factorOf, checkOf, Good, Opens, Shapes}
 
--- ---- the openings of rounds 1 to 6
+-- ---- the openings of all rounds but the last
 
 module _ (p : Scale) (kind n bound k : ℕ) (t2 : T2) (x d : List ℕ) (sound : Sound p kind n bound k d x) where
   abbrev w : ℕ
   w = widthOf k
 
-  opened-is : (r o : ℕ) → r < 6 → o < openings kind n (suc r) → openedOf p kind n bound w d x r o ≡ clearOpened p kind n bound w d x (suc r) o
+  opened-is : (r o : ℕ) → r < rounds - 1 → o < openings kind n (suc r) → openedOf p kind n bound w d x r o ≡ clearOpened p kind n bound w d x (suc r) o
   opened-is r o h b =
       ap (λ l. getD l o 0) (t2 .opened p kind n bound k d x sound r h)
       ∙ getD-listTo (openings kind n (suc r)) (clearOpened p kind n bound w d x (suc r)) o 0 b

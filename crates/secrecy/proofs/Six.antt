@@ -4,13 +4,14 @@ use mathlib.Core.List.{List}
 use mathlib.Core.Bool.{cond}
 use Prim.Native.Nat.{ℕ, _<_}
 use lib.Dec.{eqb}
-use Rattle.rounding.specs.Sets.{scaleOf}
-use Rattle.book.specs.Book.{widthOf}
+use Rattle.settings.specs.Sets.{scaleOf}
+use Rattle.settings.specs.Sizes.{widthOf}
 use Rattle.book.specs.Deal.{multipliers}
 use Rattle.book.specs.Theorems.{Laws}
 use Rattle.column.specs.Run.{plainOpened}
 use Rattle.column.specs.Theorems.{T1Work, T2}
-use Rattle.runs.specs.Records.{Settings, Hand, World, Move, Event, answerOf, worldAfter, events, recordOf}
+use Rattle.settings.specs.declared.Settings.{Settings}
+use Rattle.runs.specs.Records.{Hand, World, Move, Event, answerOf, worldAfter, events, recordOf}
 use Rattle.runs.specs.Demands.{Fixed, Secret, Shares, Possible, Start, ownHand, otherHand}
 use Rattle.runs.specs.Progress.{none, countsAfter, worldAt}
 use Rattle.runs.specs.Theorems.{T3}
@@ -62,7 +63,7 @@ module _ (k : ℕ) (t1 : T1Work) (t3 : T3 k) (t5 : T5 k) (laws : Laws)
         (λ r l. sym (t5 .same-openings s number keys0 keys1 x x′ d (f .settings) hx hx′ hd alike r l))
         (plainOpening k s d x) (plainOpening k s d′ x′) (own d) (other x d) (other x′ d′)
         (faced x d hx hd) (subst (λ h. Faces x′ d′ h) same-hand (faced x′ d′ hx′ possible))
-        number u w
+        u w
         (λ calls. t3 s serial keys0 keys1 f number u x inputs d hx hi hd w start calls)
         (λ calls. subst (λ h. worldAfter k s serial h (other x′ d′) w calls ≡ worldAt k s serial (N x′ d′) h (other x′ d′) w (countsAfter k s number none calls)) same-hand
         (t3 s serial keys0 keys1 f number u x′ inputs d′ hx′ hi possible w start calls))

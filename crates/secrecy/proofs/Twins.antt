@@ -12,17 +12,19 @@ use Rattle.lists.proofs.Lists.{getD-listTo, listTo-cong}
 use Rattle.field.specs.Field.{q}
 use Rattle.field.specs.Forms.{Adds}
 use Rattle.field.proofs.Congruence.{≈-eq, ≈-sym, ≈-trans, ≈-lt, ≈-cancel}
-use Rattle.message.specs.Lengths.{openings}
+use Rattle.settings.specs.Sizes.{widthOf, openings}
+use Rattle.settings.specs.Order.{rounds, steps, sentBy}
 use Rattle.message.specs.Message.{messageOf, headerNumber}
-use Rattle.book.specs.Book.{widthOf}
 use Rattle.column.specs.Theorems.{T1Work}
 use Rattle.opening.specs.Opening.{partColumn}
-use Rattle.runs.specs.Records.{Settings, Hand, Seat, World, Move, worldAfter, events}
-use Rattle.runs.specs.Progress.{sentBy, messageAt, seatAt, seatFrom, none, countsAfter, worldAt}
-use Rattle.runs.proofs.Seats.{which-below, round-of}
+use Rattle.settings.specs.declared.Settings.{Settings}
+use Rattle.runs.specs.Records.{Hand, Seat, World, Move, worldAfter, events}
+use Rattle.runs.specs.Progress.{messageAt, seatAt, seatFrom, none, countsAfter, worldAt}
+use Rattle.runs.proofs.Seats.{which-below}
+use Rattle.runs.proofs.Both.{start-pace, pace-after}
 use Rattle.runs.proofs.Sharing.{join-cong, sharing, sharing-below, fieldsAt, part-inside, message-is}
 use Rattle.runs.proofs.Opens.{Facing}
-use Rattle.secrecy.proofs.Own.{SameNumbers, work-same, own-same, counts-most}
+use Rattle.secrecy.proofs.Own.{SameNumbers, work-same, own-same}
 use Rattle.secrecy.proofs.Lockstep.{Alike, events-same}
 
 -- what is missing to the same total is the same
@@ -39,23 +41,23 @@ module _ (t1 : T1Work) (k : ℕ) (s : Settings) (serial : ℕ) (factors : List �
   faces = v .faces ∙ sym (v′ .faces)
 
   -- the openings of a round
-  plain-same : (R j : ℕ) → R < 7 → j < openings (s .kind) (s .n) (suc R) → plain R j ≡ plain′ R j
+  plain-same : (R j : ℕ) → R < rounds → j < openings (s .kind) (s .n) (suc R) → plain R j ≡ plain′ R j
   plain-same R j l b =
       let at : (f : ℕ → ℕ) → getD (listTo (openings (s .kind) (s .n) (suc R)) f) j 0 ≡ f j = λ f. getD-listTo (openings (s .kind) (s .n) (suc R)) f j 0 b in
       sym (at (plain R)) ∙ ap (λ (ns : List ℕ). getD ns j 0) (sym (v .opens R) ∙ same R l ∙ v′ .opens R) ∙ at (plain′ R)
 
-  own-same-share : (R c j : ℕ) → R < 7 → sharing k s serial N h R c j ≡ sharing k s serial N′ h R c j
+  own-same-share : (R c j : ℕ) → R < rounds → sharing k s serial N h R c j ≡ sharing k s serial N′ h R c j
   unfolding sharing
   own-same-share R c j l = rw (work-same k s serial N N′ same h R (omega arith))
 
-  share-same : (R c j : ℕ) → R < 7 → c < widthOf k → j < openings (s .kind) (s .n) (suc R) → sharing k s serial N o R c j ≡ sharing k s serial N′ o′ R c j
+  share-same : (R c j : ℕ) → R < rounds → c < widthOf k → j < openings (s .kind) (s .n) (suc R) → sharing k s serial N o R c j ≡ sharing k s serial N′ o′ R c j
   share-same R c j l b m =
       missing-same q (getD factors c 0) (sharing k s serial N h R c j) (sharing k s serial N o R c j) (sharing k s serial N′ o′ R c j) (plain R j)
       (v .adds R c j b) (rw (own-same-share R c j l, plain-same R j l m) (v′ .adds R c j b))
       (sharing-below k s serial N t1 o (v .other) R c j b m) (sharing-below k s serial N′ t1 o′ (v′ .other) R c j b m)
 
   -- its fields
-  fields-same : (R : ℕ) → R < 7 → fieldsAt k s serial N o R ≡ fieldsAt k s serial N′ o′ R
+  fields-same : (R : ℕ) → R < rounds → fieldsAt k s serial N o R ≡ fieldsAt k s serial N′ o′ R
   unfolding fieldsAt
   fields-same R l =
       join-cong 0 (openings (s .kind) (s .n) (suc R)) _ _ (λ j m.
@@ -64,17 +66,17 @@ module _ (t1 : T1Work) (k : ℕ) (s : Settings) (serial : ℕ) (factors : List �
       share-same R (partColumn k (1 - o .number) i) (0 + j) l (part-inside k s serial N o (v .other .which) i b) (omega arith)
       ∙ ap (λ (number : ℕ). sharing k s serial N′ o′ R (partColumn k (1 - number) i) (0 + j)) faces)))
 
-  message-same : (R : ℕ) → R < 7 → messageAt k s serial N o (suc R) ≡ messageAt k s serial N′ o′ (suc R)
+  message-same : (R : ℕ) → R < rounds → messageAt k s serial N o (suc R) ≡ messageAt k s serial N′ o′ (suc R)
   message-same R l =
-      message-is k s serial N t1 o (v .other) R (round-of R l)
+      message-is k s serial N t1 o (v .other) R l
       ∙ ap₂ (λ (number : ℕ) (fields : List ℕ). messageOf (headerNumber number (s .set) (s .kind) (s .n) (s .bound) (suc R) serial) fields) faces (fields-same R l)
-      ∙ sym (message-is k s serial N′ t1 o′ (v′ .other) R (round-of R l))
+      ∙ sym (message-is k s serial N′ t1 o′ (v′ .other) R l)
 
-  latest-by : (sends : ℕ) → sends ≤ 7 → cond (eqb sends 0) [] (messageAt k s serial N o sends) ≡ cond (eqb sends 0) [] (messageAt k s serial N′ o′ sends)
+  latest-by : (sends : ℕ) → sends ≤ rounds → cond (eqb sends 0) [] (messageAt k s serial N o sends) ≡ cond (eqb sends 0) [] (messageAt k s serial N′ o′ sends)
   latest-by zero l = refl
-  latest-by (suc rounds) l = rw (message-same rounds (omega arith))
+  latest-by (suc R) l = rw (message-same R (omega arith))
 
-  latest-after : (m : ℕ) → m ≤ 14 → seatAt k s serial N o m .latest ≡ seatAt k s serial N′ o′ m .latest
+  latest-after : (m : ℕ) → m ≤ steps → seatAt k s serial N o m .latest ≡ seatAt k s serial N′ o′ m .latest
   unfolding seatAt
   latest-after m l =
       let u : o .number < 2 = which-below o (v .other .which) in
@@ -82,19 +84,19 @@ module _ (t1 : T1Work) (k : ℕ) (s : Settings) (serial : ℕ) (factors : List �
       ∙ ap (λ (n : ℕ). cond (eqb (sentBy n m) 0) [] (messageAt k s serial N′ o′ (sentBy n m))) faces
 
   -- its latest message, before it begins the one that it started with
-  latest-same : (x : Seat) (c : ℕ) → c ≤ 15 → seatFrom k s serial N o x c .latest ≡ seatFrom k s serial N′ o′ x c .latest
+  latest-same : (x : Seat) (c : ℕ) → c ≤ suc steps → seatFrom k s serial N o x c .latest ≡ seatFrom k s serial N′ o′ x c .latest
   latest-same x zero l = refl
   latest-same x (suc m) l = latest-after m (omega arith)
 
-  module _ (number : ℕ) (own : h .number < 2) (w : World)
-      (runs : (calls : List Move) → worldAfter k s serial h o w calls ≡ worldAt k s serial N h o w (countsAfter k s number none calls))
-      (runs′ : (calls : List Move) → worldAfter k s serial h o′ w calls ≡ worldAt k s serial N′ h o′ w (countsAfter k s number none calls)) where
-    alike-at : (past : List Move) → Alike (worldAt k s serial N h o w (countsAfter k s number none past)) (worldAt k s serial N′ h o′ w (countsAfter k s number none past))
+  module _ (own : h .number < 2) (w : World)
+      (runs : (calls : List Move) → worldAfter k s serial h o w calls ≡ worldAt k s serial N h o w (countsAfter k s (h .number) none calls))
+      (runs′ : (calls : List Move) → worldAfter k s serial h o′ w calls ≡ worldAt k s serial N′ h o′ w (countsAfter k s (h .number) none calls)) where
+    alike-at : (past : List Move) → Alike (worldAt k s serial N h o w (countsAfter k s (h .number) none past)) (worldAt k s serial N′ h o′ w (countsAfter k s (h .number) none past))
     unfolding worldAt
     alike-at past =
-        let c = countsAfter k s number none past in
-        let m = counts-most k s number none (record { own = omega arith; other = omega arith }) past in
-        record { own = own-same k s serial N N′ same h own (w .own) (c .own) (m .own); heard = latest-same (w .other) (c .other) (m .other) }
+        let c = countsAfter k s (h .number) none past in
+        let p = pace-after k s (h .number) own past none (start-pace (h .number)) in
+        record { own = own-same k s serial N N′ same h own (w .own) (c .own) (p .own-most); heard = latest-same (w .other) (c .other) (p .other-most) }
 
     pub log-same : (calls : List Move) → events k s serial h o w calls ≡ events k s serial h o′ w calls
     log-same calls = events-same k s serial h o o′ w w (λ past. rw (runs past, runs′ past) (alike-at past)) calls

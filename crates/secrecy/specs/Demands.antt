@@ -2,7 +2,8 @@
 use Prim.Native.Nat.{ℕ, _<_}
 use mathlib.Core.Path.{_≡_}
 use mathlib.Core.List.{List}
-use Rattle.runs.specs.Records.{Settings, answerOf, World, Move, recordOf}
+use Rattle.settings.specs.declared.Settings.{Settings}
+use Rattle.runs.specs.Records.{answerOf, World, Move, recordOf}
 use Rattle.runs.specs.Demands.{Fixed, Secret, Shares, Possible, Start, ownHand, otherHand}
 
 -- draws under the first secret x pair off one to one with draws under the second x′: "one pairing of draws serves all lists"

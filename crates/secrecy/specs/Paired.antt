@@ -6,8 +6,9 @@ use lib.Dec.{eqb}
 use lib.ListN.{getD}
 use Rattle.lists.specs.Lists.{listTo, joinTo}
 use Rattle.field.specs.Field.{add, sub}
-use Rattle.rounding.specs.Sets.{Scale}
-use Rattle.book.specs.Book.{Entry, shared, isDrawn, entryOf, drawn, phoneNumber, value}
+use Rattle.settings.specs.Sets.{Scale}
+use Rattle.book.specs.Book.{Entry, isDrawn, entryOf, drawn, phoneNumber, value}
+use Rattle.settings.specs.Sizes.{shared}
 use Rattle.book.specs.Book.Entry.{mask, place, left, right, product, groupMask, groupPlace}
 use Rattle.column.specs.Run.{plainOpened}
 

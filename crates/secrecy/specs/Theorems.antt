@@ -3,11 +3,14 @@ use Prim.Native.Nat.{ℕ, _<_}
 use mathlib.Core.Path.{_≡_}
 use mathlib.Core.Bool.{true}
 use mathlib.Core.List.{List}
-use Rattle.rounding.specs.Sets.{scaleOf}
-use Rattle.book.specs.Book.{widthOf}
+use Rattle.settings.specs.Sets.{scaleOf}
+use Rattle.settings.specs.Sizes.{widthOf}
+use Rattle.settings.specs.Order.{rounds}
 use Rattle.book.specs.Deal.{multipliers}
 use Rattle.column.specs.Run.{plainOpened}
-use Rattle.runs.specs.Records.{Settings, settingsOk, answerOf, bookOf}
+use Rattle.settings.specs.declared.Settings.{Settings}
+use Rattle.settings.specs.Questions.{settingsOk}
+use Rattle.runs.specs.Records.{answerOf, bookOf}
 use Rattle.runs.specs.Demands.{Secret, Possible}
 use Rattle.secrecy.specs.Paired.{paired}
 
@@ -24,7 +27,7 @@ pub record T5 (k : ℕ) : Type 0 where
       → settingsOk s ≡ true → Secret s x → Secret s x′ → Possible k s draw
       → answerOf s x ≡ answerOf s x′
       → (round : ℕ)
-      → round < 7
+      → round < rounds
       → plainOpened (scaleOf (s .set)) (s .kind) (s .n) (s .bound) (widthOf k)
       (paired (scaleOf (s .set)) (s .kind) (s .n) (s .bound) (widthOf k) x x′ number (multipliers keys0 keys1) draw) x′ round
       ≡ plainOpened (scaleOf (s .set)) (s .kind) (s .n) (s .bound) (widthOf k) draw x round

@@ -36,3 +36,6 @@ termsWith scale kind n bound = record { params = paramsWith scale kind n; bound 
 
 abbrev pub termsFor : Params → ℕ → Terms
 termsFor p bound = record { params = p; bound = bound }
+
+abbrev pub paramsIn : Settings → Params
+paramsIn s = paramsOf (s .shape)

@@ -95,7 +95,7 @@ abbrev pub workLength : ℕ → ℕ
 workLength k = widthOf k * places
 
 -- places of an answer: "N places for HIGH, 1 for BOUND"
-unfoldable pub answerPlaces : Params → ℕ
+abbrev pub answerPlaces : Params → ℕ
 answerPlaces p = cond (eqb (p .kind) 0) (p .n) 1
 
 -- ---- What a caller sizes slices by, with the keys a side that the product has: 0 where question 1 or 2 says no of the shape

@@ -6,15 +6,11 @@ use Prim.Native.Nat.{ℕ, _*_}
 use lib.Dec.{eqb, ltb}
 use lib.ListN.{length}
 use borrow.Author.Tests.{eqb-true}
-use Rattle.lists.specs.Answers.{ask}
-use Rattle.lists.specs.Lists.{allBelow}
 use Rattle.lists.proofs.Questions.{passed, both-yes}
-use Rattle.field.specs.Field.{q}
-use Rattle.rounding.specs.Sets.{scaleOf}
-use Rattle.rounding.specs.Questions.{askSettings, keysOk, SettingsReady}
-use Rattle.rounding.proofs.Ready.{settings-ready, settings-rest}
-use Rattle.book.specs.Book.{shared, widthOf}
-use Rattle.slice.specs.Layout.{workLength}
+use Rattle.settings.specs.Sets.{scaleOf}
+use Rattle.settings.specs.Sizes.{widthOf, shared, workLength}
+use Rattle.settings.specs.Questions.{askSettings, keysOk, SettingsReady}
+use Rattle.settings.proofs.Ready.{settings-ready, settings-rest}
 use Rattle.state.specs.declared.Side.{Side}
 use Rattle.state.specs.State.{underWay}
 use Rattle.side.specs.Side.{handedNo, beginNo}

@@ -9,8 +9,8 @@ use borrow.Author.Tests.{eqb-true, leb-true}
 use Rattle.lists.specs.Lists.{allBelow}
 use Rattle.lists.proofs.Questions.{passed}
 use Rattle.field.specs.Field.{q}
-use Rattle.message.specs.Lengths.{messageLength}
-use Rattle.slice.specs.Layout.{workLength}
+use Rattle.settings.specs.Sizes.{messageLength, workLength}
+use Rattle.settings.specs.Settings.{paramsIn}
 use Rattle.state.specs.declared.Side.{Side}
 use Rattle.state.specs.State.{sendDue, Whole}
 use Rattle.state.proofs.States.{send-whole}
@@ -20,7 +20,7 @@ pub record SendReady (k : ℕ) (s : Side) (work out : List ℕ) : Type 0 where
   pub kept : Whole s
   pub exact : length work ≡ workLength k
   pub below : allBelow q work ≡ true
-  pub room : messageLength k (s .kind) (s .n) (s .round) ≤ length out
+  pub room : messageLength k (paramsIn (s .settings)) (s .round) ≤ length out
 
 pub send-ready : (k : ℕ) (s : Side) (work out : List ℕ) → sendNo k s work out ≡ 0 → SendReady k s work out
 unfolding sendNo
@@ -28,7 +28,7 @@ send-ready k s work out e =
     let eight = passed (sendDue s) _ _ e in
     let five = passed (eqb (length work) (workLength k)) _ _ (eight .1) in
     let six = passed (allBelow q work) _ _ (five .1) in
-    let nine = passed (leb (messageLength k (s .kind) (s .n) (s .round)) (length out)) _ 0 (six .1) in
+    let nine = passed (leb (messageLength k (paramsIn (s .settings)) (s .round)) (length out)) _ 0 (six .1) in
     record {
       kept = send-whole s (eight .0);
       exact = eqb-true _ _ (five .0);

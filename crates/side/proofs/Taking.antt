@@ -3,39 +3,40 @@ use mathlib.Core.Path.{_≡_, refl, sym, ap, fun-ext, _∙_}
 use mathlib.Core.Logic.{_≢_}
 use mathlib.Core.Bool.{Bool, true, false}
 use mathlib.Core.List.{List}
-use Prim.Native.Nat.{ℕ, _+_, _-_, _<_}
+use Prim.Native.Nat.{ℕ, _-_, _<_}
 use native.Mathlib.Decide.{decLt}
 use native.Mathlib.Omega.{arith}
 use lib.Dec.{eqb}
 use lib.ListN.{length, getD, List·getD-eq-default}
-use borrow.Author.Tests.{eqb-true, eq-eqb, ne-eqb}
+use borrow.Author.Tests.{eqb-true, ne-eqb}
 use Rattle.lists.specs.Answers.{ask}
 use Rattle.lists.specs.Lists.{fill, listTo, allBelow, allTo}
 use Rattle.lists.proofs.Lists.{length-listFrom, getD-listTo, listTo-cong}
 use Rattle.lists.proofs.Questions.{passed}
 use Rattle.field.specs.Field.{q}
-use Rattle.rounding.specs.Sets.{scaleOf}
-use Rattle.message.specs.Lengths.{openings, fieldCount, messageLength}
+use Rattle.settings.specs.Sets.{scaleOf}
+use Rattle.settings.specs.Sizes.{keyCount, mostOpenings, openings, fieldCount, messageLength, workLength}
 use Rattle.message.specs.Message.{headerNumber, headerIn, fieldsOk, askForm}
 use Rattle.message.specs.Fields.{HeaderFits}
 use Rattle.message.proofs.Form.{settings-fit}
-use Rattle.steps.specs.declared.Settings.{Settings}
-use Rattle.slice.specs.Layout.{weights, workLength}
+use Rattle.settings.specs.declared.Settings.{Settings}
+use Rattle.settings.specs.Settings.{paramsIn, termsOf}
+use Rattle.slice.specs.Layout.{weights}
 use Rattle.steps.specs.Work.{takenWork}
 use Rattle.state.specs.declared.Side.{Side}
-use Rattle.state.specs.declared.Phase.the-variants.{Sending, Stopped, Finished}
-use Rattle.state.specs.State.{takeDue, moved, inPhase, Whole}
+use Rattle.state.specs.declared.Phase.the-variants.{Stopped}
+use Rattle.state.specs.State.{takeDue, inPhase, Whole}
 use Rattle.state.proofs.States.{due-whole}
 use Rattle.opening.specs.Opening.{opened, passes}
 use Rattle.opening.specs.Work.{settingsIn, joinedAt}
 use Rattle.opening.proofs.Taking.{Holds, joined-at, behind-at, joined-is}
-use Rattle.side.specs.Side.{after, takeNo, openedList, answerAfter, takenSide, takeCall}
+use Rattle.side.specs.Side.{after, takeNo, openedList, takenSide, takeCall}
 use Rattle.side.specs.Work.{takeDoor, frontOf}
 
 -- ---- The questions
 
-pub whole-fits : (s : Side) → Whole s → HeaderFits (s .number) (s .set) (s .kind) (s .n) (s .round) (s .bound)
-whole-fits s h = settings-fit (s .number) (s .set) (s .kind) (s .n) (s .bound) (s .round) (h .settings) (omega (arith, h .round-most))
+pub whole-fits : (s : Side) → Whole s → HeaderFits (s .number) (s .settings .shape .set) (s .settings .shape .kind) (s .settings .shape .n) (s .round) (s .settings .bound)
+whole-fits s h = settings-fit (s .number) (s .settings) (s .round) (h .settings) (omega (arith, h .round-most))
 
 -- a no at the door is the no of the chain, and is not 13; behind the door the rest decides
 abbrev doors : (a b c d e f : Bool) → ℕ → ℕ
@@ -65,20 +66,20 @@ door-pass true true true true true true rest h = refl
 pub record TakeReady (k : ℕ) (s : Side) (work msg : List ℕ) : Type 0 where
   pub fields : Whole s
   pub work-long : length work ≡ workLength k
-  pub message-long : length msg ≡ messageLength k (s .kind) (s .n) (s .round)
+  pub message-long : length msg ≡ messageLength k (paramsIn (s .settings)) (s .round)
 
 module _ (k : ℕ) (s : Side) (work msg : List ℕ) where
   abbrev long : Bool
-  long = eqb (length msg) (messageLength k (s .kind) (s .n) (s .round))
+  long = eqb (length msg) (messageLength k (paramsIn (s .settings)) (s .round))
 
   abbrev mine : Bool
-  mine = eqb (headerIn (fieldCount k (s .kind) (s .n) (s .round)) msg) (headerNumber (1 - s .number) (s .set) (s .kind) (s .n) (s .bound) (s .round) (s .serial))
+  mine = eqb (headerIn (fieldCount k (paramsIn (s .settings)) (s .round)) msg) (headerNumber (1 - s .number) (s .settings) (s .round) (s .serial))
 
   abbrev fields : Bool
-  fields = fieldsOk (fieldCount k (s .kind) (s .n) (s .round)) msg
+  fields = fieldsOk (fieldCount k (paramsIn (s .settings)) (s .round)) msg
 
   abbrev checks : Bool
-  checks = allTo (openings (s .kind) (s .n) (s .round)) (passes k s work msg)
+  checks = allTo (openings (paramsIn (s .settings)) (s .round)) (passes k s work msg)
 
   no-stop : takeDoor k s work msg ≢ 0 → (takeNo k s work msg ≡ takeDoor k s work msg) × (eqb (takeDoor k s work msg) 13 ≡ false)
   unfolding takeDoor takeNo askForm
@@ -109,7 +110,7 @@ module _ (k : ℕ) (s : Side) (work msg : List ℕ) where
   take-stopped e f = rw (no-pass e, f)
 
   pub take-done : takeDoor k s work msg ≡ 0 → checks ≡ true → after 0 (takenSide s (openedList k s work msg))
-      (takenWork (scaleOf (s .set)) (s .kind) (s .n) (s .bound) (s .round) (λ (o : ℕ). getD (openedList k s work msg) o 0) (weights k (s .number) (s .keys)) work)
+      (takenWork (termsOf (s .settings)) (s .round) (λ (o : ℕ). getD (openedList k s work msg) o 0) (weights k (s .number) (s .keys)) work)
       ≡ takeCall k s work msg
   unfolding takeCall ask
   take-done e f = rw (no-pass e, f)
@@ -118,46 +119,31 @@ module _ (k : ℕ) (s : Side) (work msg : List ℕ) where
 
 -- `numbers` holds the joined shares in front of zeros
 module _ (s : Side) (work own msg z numbers : List ℕ) (fields : Whole s) (holds : Holds s work own)
-    (room : length z ≡ 32) (none : (o : ℕ) → getD z o 0 ≡ 0) (e : numbers ≡ fill z 0 (openings (s .kind) (s .n) (s .round)) (joinedAt s own msg)) where
+    (room : length z ≡ mostOpenings) (none : (o : ℕ) → getD z o 0 ≡ 0) (e : numbers ≡ fill z 0 (openings (paramsIn (s .settings)) (s .round)) (joinedAt s own msg)) where
   abbrev count : ℕ
-  count = openings (s .kind) (s .n) (s .round)
+  count = openings (paramsIn (s .settings)) (s .round)
 
-  opened-is : (o : ℕ) → o < count → getD numbers o 0 ≡ opened 1 s work msg o
+  opened-is : (o : ℕ) → o < count → getD numbers o 0 ≡ opened keyCount s work msg o
   opened-is o h = joined-at s work own msg z numbers fields holds room none e o h ∙ joined-is s work own msg z numbers fields holds room none e o h
 
-  pub opened-at : (o : ℕ) → getD numbers o 0 ≡ getD (openedList 1 s work msg) o 0
+  pub opened-at : (o : ℕ) → getD numbers o 0 ≡ getD (openedList keyCount s work msg) o 0
   unfolding openedList
   opened-at o = go (decLt o count)
     where
-      go : Dec (o < count) → getD numbers o 0 ≡ getD (listTo count (opened 1 s work msg)) o 0
-      go (yes h) = opened-is o h ∙ sym (getD-listTo count (opened 1 s work msg) o 0 h)
+      go : Dec (o < count) → getD numbers o 0 ≡ getD (listTo count (opened keyCount s work msg)) o 0
+      go (yes h) = opened-is o h ∙ sym (getD-listTo count (opened keyCount s work msg) o 0 h)
       go (no h) =
           behind-at s work own msg z numbers fields holds room none e o (omega arith)
-          ∙ sym (List·getD-eq-default (listTo count (opened 1 s work msg)) 0 (omega (arith, length-listFrom 0 count (opened 1 s work msg))))
+          ∙ sym (List·getD-eq-default (listTo count (opened keyCount s work msg)) 0 (omega (arith, length-listFrom 0 count (opened keyCount s work msg))))
 
-  pub front-same : frontOf s numbers ≡ openedList 1 s work msg
+  pub front-same : frontOf s numbers ≡ openedList keyCount s work msg
   unfolding openedList
   front-same = listTo-cong count _ _ opened-is
 
   -- the slice that `take_work` leaves
-  pub work-same : (settings : Settings) (ws later : List ℕ) → settings ≡ settingsIn s → ws ≡ weights 1 (s .number) (s .keys)
+  pub work-same : (settings : Settings) (ws later : List ℕ) → settings ≡ settingsIn s → ws ≡ weights keyCount (s .number) (s .keys)
       → later ≡ takenWork (scaleOf (settings .set)) (settings .kind) (settings .n) (settings .bound) (s .round) (λ (o : ℕ). getD numbers o 0) ws work
-      → later ≡ takenWork (scaleOf (s .set)) (s .kind) (s .n) (s .bound) (s .round) (λ (o : ℕ). getD (openedList 1 s work msg) o 0) (weights 1 (s .number) (s .keys)) work
+      → later ≡ takenWork (termsOf (s .settings)) (s .round) (λ (o : ℕ). getD (openedList keyCount s work msg) o 0) (weights keyCount (s .number) (s .keys)) work
   work-same settings ws later f g p =
       rw (f, g) at p
-      ∙ ap (λ (h : ℕ → ℕ). takenWork (scaleOf (s .set)) (s .kind) (s .n) (s .bound) (s .round) h (weights 1 (s .number) (s .keys)) work) (fun-ext opened-at)
-
--- ---- The side after a round
-
-module _ (s : Side) (numbers : List ℕ) where
-  pub phone-taken : s .number ≢ 0 → moved s (s .round) Sending (answerAfter s numbers) ≡ takenSide s numbers
-  unfolding takenSide
-  phone-taken h = rw (ne-eqb (s .number) 0 h)
-
-  pub server-finished : s .number ≡ 0 → s .round ≡ 7 → moved s (s .round) Finished (answerAfter s numbers) ≡ takenSide s numbers
-  unfolding takenSide
-  server-finished h e = rw (eq-eqb (s .number) 0 h, eq-eqb (s .round) 7 e)
-
-  pub server-goes-on : s .number ≡ 0 → s .round ≢ 7 → moved s (s .round + 1) Sending (answerAfter s numbers) ≡ takenSide s numbers
-  unfolding takenSide
-  server-goes-on h e = rw (eq-eqb (s .number) 0 h, ne-eqb (s .round) 7 e)
+      ∙ ap (λ (h : ℕ → ℕ). takenWork (termsOf (s .settings)) (s .round) h (weights keyCount (s .number) (s .keys)) work) (fun-ext opened-at)

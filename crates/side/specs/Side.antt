@@ -1,6 +1,6 @@
 -- Begin, send and take, as functions from what is handed in to all that comes out.
--- k is the number of keys a side, 1 in this request.
-use Prim.Native.Nat.{ℕ, _+_, _*_}
+-- k is the number of keys a side.
+use Prim.Native.Nat.{ℕ, suc, _*_}
 use mathlib.Core.Bool.{cond, not, _&&_}
 use mathlib.Core.List.{List}
 use lib.Dec.{eqb, leb, ltb}
@@ -8,16 +8,17 @@ use lib.ListN.{length, getD, replicate}
 use Rattle.lists.specs.Answers.{ask}
 use Rattle.lists.specs.Lists.{allBelow, allTo, listTo, inFront}
 use Rattle.field.specs.Field.{q}
-use Rattle.rounding.specs.Sets.{scaleOf}
-use Rattle.rounding.specs.Questions.{askSettings, keysOk}
-use Rattle.message.specs.Lengths.{openings, messageLength}
+use Rattle.settings.specs.Sets.{scaleOf}
+use Rattle.settings.specs.Sizes.{widthOf, openings, messageLength, shared, workLength}
+use Rattle.settings.specs.Questions.{askSettings, keysOk}
+use Rattle.settings.specs.Order.{rounds, roundAfter}
+use Rattle.settings.specs.Settings.{paramsIn, termsOf}
 use Rattle.message.specs.Message.{askForm}
-use Rattle.book.specs.Book.{shared, widthOf}
-use Rattle.slice.specs.Layout.{workLength, begunWork, weights}
+use Rattle.slice.specs.Layout.{begunWork, weights}
 use Rattle.steps.specs.Work.{takenWork}
 use Rattle.state.specs.declared.Side.{Side}
-use Rattle.state.specs.declared.Phase.the-variants.{Sending, Taking, Stopped, Finished}
-use Rattle.state.specs.State.{sendDue, takeDue, underWay, moved, inPhase}
+use Rattle.state.specs.declared.Phase.the-variants.{Stopped}
+use Rattle.state.specs.State.{sendDue, takeDue, underWay, inPhase, stepOf, phaseAfter, atStep}
 use Rattle.opening.specs.Opening.{message, opened, passes}
 use Rattle.side.specs.declared.Done.{Done}
 use Rattle.side.specs.declared.Sent.{Sent}
@@ -44,10 +45,10 @@ beginNo k s number set kind n bound keys serial inputs book work =
     (askSettings number set kind n bound
     (handedNo k s set kind n keys serial inputs book work))
 
--- round 1, the server to send, the phone to take
+-- no step made: round 1, the server to send, the phone to take
 unfoldable pub begunSide : ℕ → ℕ → ℕ → ℕ → ℕ → List ℕ → ℕ → Side
 begunSide number set kind n bound keys serial =
-    record { number = number; set = set; kind = kind; n = n; bound = bound; keys = keys; serial = serial; round = 1; phase = cond (eqb number 0) Sending Taking; answer = replicate 8 0 }
+    record { number = number; set = set; kind = kind; n = n; bound = bound; keys = keys; serial = serial; round = roundAfter 0; phase = phaseAfter number 0; answer = replicate 8 0 }
 
 -- a call's result, and the lent slice at exit
 pub record After : Type 0 where
@@ -73,15 +74,12 @@ sendNo k s work out =
     ask (sendDue s) 8
     (ask (eqb (length work) (workLength k)) 5
     (ask (allBelow q work) 6
-    (ask (leb (messageLength k (s .kind) (s .n) (s .round)) (length out)) 9
+    (ask (leb (messageLength k (paramsIn (s .settings)) (s .round)) (length out)) 9
     0)))
 
--- the server then takes; the phone goes to the next round, or "finishes on sending round 7"
+-- one step more: the server then takes; the phone goes to the next round, or "finishes on sending round 7"
 unfoldable pub sentSide : Side → Side
-sentSide s =
-    cond (eqb (s .number) 0) (inPhase s Taking)
-    (cond (eqb (s .round) 7) (inPhase s Finished)
-    (moved s (s .round + 1) Taking (s .answer)))
+sentSide s = atStep s (suc (stepOf s)) (s .answer)
 
 pub record AfterSend : Type 0 where
   pub sent : Sent
@@ -94,7 +92,7 @@ unfoldable pub sendCall : ℕ → Side → List ℕ → List ℕ → AfterSend
 sendCall k s work out =
     let refusal = sendNo k s work out in
     cond (eqb refusal 0)
-    (afterSend 0 (messageLength k (s .kind) (s .n) (s .round)) (sentSide s) (inFront (message k s work) out))
+    (afterSend 0 (messageLength k (paramsIn (s .settings)) (s .round)) (sentSide s) (inFront (message k s work) out))
     (afterSend refusal 0 s out)
 
 -- ---- Take
@@ -105,27 +103,22 @@ takeNo k s work msg =
     ask (takeDue s) 8
     (ask (eqb (length work) (workLength k)) 5
     (ask (allBelow q work) 6
-    (askForm k (s .number) (s .set) (s .kind) (s .n) (s .bound) (s .round) (s .serial) msg
-    (ask (allTo (openings (s .kind) (s .n) (s .round)) (passes k s work msg)) 13
+    (askForm k (s .number) (s .settings) (s .round) (s .serial) msg
+    (ask (allTo (openings (paramsIn (s .settings)) (s .round)) (passes k s work msg)) 13
     0))))
 
 -- the opened numbers as a list
 unfoldable pub openedList : ℕ → Side → List ℕ → List ℕ → List ℕ
-openedList k s work msg = listTo (openings (s .kind) (s .n) (s .round)) (opened k s work msg)
+openedList k s work msg = listTo (openings (paramsIn (s .settings)) (s .round)) (opened k s work msg)
 
--- "The opened answer is kept in the side"
+-- "The opened answer is kept in the side": the last round opens it
 abbrev pub answerAfter : Side → List ℕ → List ℕ
 answerAfter s numbers =
-    cond (eqb (s .round) 7) (inFront numbers (s .answer)) (s .answer)
+    cond (eqb (s .round) rounds) (inFront numbers (s .answer)) (s .answer)
 
--- the phone then sends; the server goes to the next round, or finishes on taking round 7
+-- one step more: the phone then sends; the server goes to the next round, or finishes on taking round 7
 unfoldable pub takenSide : Side → List ℕ → Side
-takenSide s numbers =
-    cond (eqb (s .number) 0)
-    (cond (eqb (s .round) 7)
-    (moved s (s .round) Finished (answerAfter s numbers))
-    (moved s (s .round + 1) Sending (s .answer)))
-    (moved s (s .round) Sending (answerAfter s numbers))
+takenSide s numbers = atStep s (suc (stepOf s)) (answerAfter s numbers)
 
 -- "only 13 also marks the side stopped"
 unfoldable pub takeCall : ℕ → Side → List ℕ → List ℕ → After
@@ -134,7 +127,7 @@ takeCall k s work msg =
     let numbers = openedList k s work msg in
     cond (eqb refusal 0)
     (after 0 (takenSide s numbers)
-    (takenWork (scaleOf (s .set)) (s .kind) (s .n) (s .bound) (s .round) (λ (o : ℕ). getD numbers o 0)
+    (takenWork (termsOf (s .settings)) (s .round) (λ (o : ℕ). getD numbers o 0)
     (weights k (s .number) (s .keys)) work))
     (cond (eqb refusal 13)
     (after 13 (inPhase s Stopped) work)

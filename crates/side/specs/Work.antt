@@ -6,9 +6,9 @@ use lib.ListN.{length, getD}
 use Rattle.lists.specs.Answers.{ask}
 use Rattle.lists.specs.Lists.{listTo, allBelow}
 use Rattle.field.specs.Field.{q}
-use Rattle.message.specs.Lengths.{openings}
+use Rattle.settings.specs.Sizes.{openings, workLength}
+use Rattle.settings.specs.Settings.{paramsIn}
 use Rattle.message.specs.Message.{askForm}
-use Rattle.slice.specs.Layout.{workLength}
 use Rattle.state.specs.declared.Side.{Side}
 use Rattle.state.specs.State.{takeDue}
 
@@ -18,9 +18,9 @@ takeDoor k s work msg =
     ask (takeDue s) 8
     (ask (eqb (length work) (workLength k)) 5
     (ask (allBelow q work) 6
-    (askForm k (s .number) (s .set) (s .kind) (s .n) (s .bound) (s .round) (s .serial) msg
+    (askForm k (s .number) (s .settings) (s .round) (s .serial) msg
     0)))
 
 -- the numbers of a round's openings that a list holds in front
 abbrev pub frontOf : Side → List ℕ → List ℕ
-frontOf s numbers = listTo (openings (s .kind) (s .n) (s .round)) (λ (o : ℕ). getD numbers o 0)
+frontOf s numbers = listTo (openings (paramsIn (s .settings)) (s .round)) (λ (o : ℕ). getD numbers o 0)

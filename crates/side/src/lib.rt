@@ -1,19 +1,22 @@
 // The calls that move a run on: begin, send and take. A side goes in by value and comes back by value.
 ghost use mathlib.Core.Path.{_≡_};
-ghost use mathlib.Core.List.{[], _∷_};
 ghost use Prim.Native.Nat.{_≤_, _<_};
 ghost use lib.ListN.{length};
+ghost use Rattle.settings.specs.Sizes.{keyCount, mostOpenings};
 ghost use Rattle.state.specs.State.{Whole};
 ghost use Rattle.side.specs.Work.{takeDoor, frontOf};
 ghost use Rattle.side.specs.Side.{handedNo, beginNo, begunSide, beginCall, sendNo, sentSide, sendCall, answerAfter, takenSide, takeCall};
-use book::shared_of;
+use settings::shared_of;
 use column::take_work;
 use field::all_below_q;
+use settings::MOST_OPENINGS;
+use settings::ROUNDS;
 use message::form_no;
-use message::message_length;
-use message::openings_in;
-use opening::WIDTH;
-use opening::WORK_LENGTH;
+use settings::message_length;
+use settings::openings_in;
+use settings::round_after;
+use opening::OWN_LENGTH;
+use settings::WORK_LENGTH;
 use opening::checks_pass;
 use opening::clear;
 use opening::join_shares;
@@ -22,14 +25,18 @@ use opening::prepare_columns;
 use opening::settings_of;
 use opening::weights_of;
 use opening::write_message;
-use rounding::key_ok;
-use rounding::settings_no;
+use settings::KEYS;
+use settings::WIDTH;
+use settings::keys_ok;
+use settings::settings_no;
 use state::Phase;
 use state::Side;
+use state::at_step;
 use state::copy_front;
 use state::in_phase;
-use state::move_to;
+use state::phase_after;
 use state::send_due;
+use state::step_of;
 use state::take_due;
 use state::under_way;
 
@@ -54,16 +61,16 @@ fn handed_no(
     set: u32,
     kind: u32,
     n: u32,
-    key: u32,
+    keys: [u32; KEYS],
     serial: u32,
     inputs: &[u32],
     book: &[u32],
     work: &[u32],
 ) -> u32
     requires { ⌜ (set < 2) × (n ≤ 8) ⌝ }
-    ensures { λ r. ⌜ r ≡ handedNo 1 side set kind n (key ∷ []) serial (now (inputs .entry)) (now (book .entry)) (now (work .entry)) ⌝ }
+    ensures { λ r. ⌜ r ≡ handedNo keyCount side set kind n keys serial (now (inputs .entry)) (now (book .entry)) (now (work .entry)) ⌝ }
 {
-    if !key_ok(key) {
+    if !keys_ok(keys) {
         return 4;
     }
     if inputs.len() != n as usize * WIDTH {
@@ -95,13 +102,13 @@ fn begin_no(
     kind: u32,
     n: u32,
     bound: u32,
-    key: u32,
+    keys: [u32; KEYS],
     serial: u32,
     inputs: &[u32],
     book: &[u32],
     work: &[u32],
 ) -> u32
-    ensures { λ r. ⌜ r ≡ beginNo 1 side number set kind n bound (key ∷ []) serial (now (inputs .entry)) (now (book .entry)) (now (work .entry)) ⌝ }
+    ensures { λ r. ⌜ r ≡ beginNo keyCount side number set kind n bound keys serial (now (inputs .entry)) (now (book .entry)) (now (work .entry)) ⌝ }
 {
     if under_way(side) {
         return 8;
@@ -110,26 +117,32 @@ fn begin_no(
     if no != 0 {
         return no;
     }
-    handed_no(side, set, kind, n, key, serial, inputs, book, work)
+    handed_no(side, set, kind, n, keys, serial, inputs, book, work)
 }
 
-// A side that has just begun: the server sends first, the phone takes.
-fn begun(number: u32, set: u32, kind: u32, n: u32, bound: u32, key: u32, serial: u32) -> Side
-    ensures { λ r. ⌜ r ≡ begunSide number set kind n bound (key ∷ []) serial ⌝ }
+// A side that has just begun: no step made.
+fn begun(
+    number: u32,
+    set: u32,
+    kind: u32,
+    n: u32,
+    bound: u32,
+    keys: [u32; KEYS],
+    serial: u32,
+) -> Side
+    ensures { λ r. ⌜ r ≡ begunSide number set kind n bound keys serial ⌝ }
 {
-    let mut phase = Phase::Taking;
-    if number == 0 {
-        phase = Phase::Sending;
-    }
+    let round = round_after(0);
+    let phase = phase_after(number, 0);
     Side {
         number,
         set,
         kind,
         n,
         bound,
-        keys: [key; 1],
+        keys,
         serial,
-        round: 1,
+        round,
         phase,
         answer: [0; 8],
     }
@@ -143,14 +156,14 @@ pub fn begin(
     kind: u32,
     n: u32,
     bound: u32,
-    key: u32,
+    keys: [u32; KEYS],
     serial: u32,
     inputs: &[u32],
     book: &[u32],
     work: &mut [u32],
 ) -> Done
     ensures { λ r. ⌜ record { done = r; work = now (work .exit) }
-        ≡ beginCall 1 side number set kind n bound (key ∷ []) serial (now (inputs .entry)) (now (book .entry)) (now (work .entry)) ⌝ }
+        ≡ beginCall keyCount side number set kind n bound keys serial (now (inputs .entry)) (now (book .entry)) (now (work .entry)) ⌝ }
 {
     let refused = begin_no(
         side,
@@ -159,7 +172,7 @@ pub fn begin(
         kind,
         n,
         bound,
-        key,
+        keys,
         serial,
         inputs,
         book,
@@ -173,7 +186,7 @@ pub fn begin(
     load_columns(work, book, count, inputs, n as usize);
     Done {
         refused: 0,
-        side: begun(number, set, kind, n, bound, key, serial),
+        side: begun(number, set, kind, n, bound, keys, serial),
     }
 }
 
@@ -181,7 +194,7 @@ pub fn begin(
 
 // The first no of send, or 0.
 fn send_no(side: Side, work: &[u32], out: &[u8]) -> u32
-    ensures { λ r. ⌜ r ≡ sendNo 1 side (now (work .entry)) (now (out .entry)) ⌝ }
+    ensures { λ r. ⌜ r ≡ sendNo keyCount side (now (work .entry)) (now (out .entry)) ⌝ }
 {
     if !send_due(side) {
         return 8;
@@ -198,24 +211,18 @@ fn send_no(side: Side, work: &[u32], out: &[u8]) -> u32
     0
 }
 
-// The side after it has sent.
+// The side after it has sent: one step more. `send` has asked for whole fields.
 fn sent_side(side: Side) -> Side
-    requires { ⌜ side .round ≤ 7 ⌝ }
+    requires { ⌜ Whole side ⌝ }
     ensures { λ r. ⌜ r ≡ sentSide side ⌝ }
 {
-    if side.number == 0 {
-        return in_phase(side, Phase::Taking);
-    }
-    if side.round < 7 {
-        let answer = side.answer;
-        return move_to(side, side.round + 1, Phase::Taking, answer);
-    }
-    in_phase(side, Phase::Finished)
+    let answer = side.answer;
+    at_step(side, step_of(side) + 1, answer)
 }
 
 // Sends the round's message: writes it in front of `out`.
 pub fn send(side: Side, work: &[u32], out: &mut [u8]) -> Sent
-    ensures { λ r. ⌜ record { sent = r; out = now (out .exit) } ≡ sendCall 1 side (now (work .entry)) (now (out .entry)) ⌝ }
+    ensures { λ r. ⌜ record { sent = r; out = now (out .exit) } ≡ sendCall keyCount side (now (work .entry)) (now (out .entry)) ⌝ }
 {
     let refused = send_no(side, work, out);
     if refused != 0 {
@@ -237,7 +244,7 @@ pub fn send(side: Side, work: &[u32], out: &mut [u8]) -> Sent
 
 // Questions 8, 5, 6 and 10 to 12 of take: the first no, or 0.
 fn take_no(side: Side, work: &[u32], message: &[u8]) -> u32
-    ensures { λ r. ⌜ r ≡ takeDoor 1 side (now (work .entry)) (now (message .entry)) ⌝ }
+    ensures { λ r. ⌜ r ≡ takeDoor keyCount side (now (work .entry)) (now (message .entry)) ⌝ }
 {
     if !take_due(side) {
         return 8;
@@ -260,47 +267,41 @@ fn take_no(side: Side, work: &[u32], message: &[u8]) -> u32
     )
 }
 
-// The answer that a side keeps: round 7 opens it.
+// The answer that a side keeps: the last round opens it.
 fn kept_answer(side: Side, opened: &[u32]) -> [u32; 8]
     requires { ⌜ Whole side ⌝ }
-    requires { ⌜ length (now opened) ≡ 32 ⌝ }
+    requires { ⌜ length (now opened) ≡ mostOpenings ⌝ }
     ensures { λ r. ⌜ r ≡ answerAfter side (frontOf side (now (opened .entry))) ⌝ }
 {
     let mut answer = side.answer;
-    if side.round == 7 {
+    if side.round == ROUNDS {
         let count = openings_in(side.kind, side.n, side.round) as usize;
         copy_front(&mut answer, opened, count);
     }
     answer
 }
 
-// The side after it has taken a round: the phone sends; the server goes to the next round, or finishes.
+// The side after it has taken a round: one step more. `take` has asked for whole fields.
 fn taken_side(side: Side, opened: &[u32]) -> Side
     requires { ⌜ Whole side ⌝ }
-    requires { ⌜ length (now opened) ≡ 32 ⌝ }
+    requires { ⌜ length (now opened) ≡ mostOpenings ⌝ }
     ensures { λ r. ⌜ r ≡ takenSide side (frontOf side (now (opened .entry))) ⌝ }
 {
-    let answer = kept_answer(side, opened);
-    if side.number != 0 {
-        return move_to(side, side.round, Phase::Sending, answer);
-    }
-    if side.round == 7 {
-        return move_to(side, side.round, Phase::Finished, answer);
-    }
-    move_to(side, side.round + 1, Phase::Sending, answer)
+    let kept = kept_answer(side, opened);
+    at_step(side, step_of(side) + 1, kept)
 }
 
 // Takes the other side's message of the round. Only a failed check stops the run.
 pub fn take(side: Side, work: &mut [u32], message: &[u8]) -> Done
-    ensures { λ r. ⌜ record { done = r; work = now (work .exit) } ≡ takeCall 1 side (now (work .entry)) (now (message .entry)) ⌝ }
+    ensures { λ r. ⌜ record { done = r; work = now (work .exit) } ≡ takeCall keyCount side (now (work .entry)) (now (message .entry)) ⌝ }
 {
     let refused = take_no(side, work, message);
     if refused != 0 {
         return Done { refused, side };
     }
-    let mut own = [0u32; 96];
+    let mut own = [0u32; OWN_LENGTH];
     prepare_columns(&mut own, work, side);
-    let mut opened = [0u32; 32];
+    let mut opened = [0u32; MOST_OPENINGS];
     join_shares(&mut opened, &own, side, message);
     if !checks_pass(&opened, &own, side, message) {
         return Done {

@@ -1,2 +1,3 @@
 -- Laws of a side's states.
 pub mod States
+pub mod Steps

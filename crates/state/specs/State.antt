@@ -1,24 +1,20 @@
 -- A side: its kept fields, what is due, its answer and its opening count.
-use Prim.Native.Nat.{ℕ, _-_, _≤_}
+use Prim.Native.Nat.{ℕ, _≤_, _<_}
 use mathlib.Core.Path.{_≡_}
 use mathlib.Core.Bool.{Bool, true, false, cond, _&&_, _||_}
-use mathlib.Core.List.{List, [], _∷_}
+use mathlib.Core.List.{List}
 use lib.Dec.{eqb, leb}
 use lib.ListN.{length, getD, replicate}
 use Rattle.lists.specs.Answers.{ask}
 use Rattle.lists.specs.Lists.{listTo, inFront}
-use Rattle.rounding.specs.Questions.{askSettings, keysOk, SettingsReady}
-use Rattle.message.specs.Lengths.{roundOk, openingsUpTo}
+use Rattle.settings.specs.Sizes.{keyCount, openingsUpTo, answerPlaces}
+use Rattle.settings.specs.Questions.{askSettings, keysOk, Ready}
+use Rattle.settings.specs.Order.{rounds, steps, roundOk, goesOn, roundAfter, sendsAfter, takenBy, stepsIn}
+use Rattle.settings.specs.Settings.{paramsIn, settingsWith}
 use Rattle.state.specs.declared.Side.{Side}
 use Rattle.state.specs.declared.Told.{Told}
 use Rattle.state.specs.declared.Phase.{Phase}
 use Rattle.state.specs.declared.Phase.the-variants.{Sending, Taking, Stopped, Finished}
-
--- ---- Sizes
-
--- places of an answer: "N places for HIGH, 1 for BOUND"
-abbrev pub answerPlaces : ℕ → ℕ → ℕ
-answerPlaces kind n = cond (eqb kind 0) n 1
 
 -- ---- States
 
@@ -44,7 +40,7 @@ isFinished Finished = true
 unfoldable pub whole : Side → Bool
 whole s =
     eqb
-    (askSettings (s .number) (s .set) (s .kind) (s .n) (s .bound)
+    (askSettings (s .number) (s .settings)
     (ask (keysOk (s .keys)) 4
     (ask (leb 1 (s .serial) && roundOk (s .round)) 8
     0)))
@@ -64,38 +60,60 @@ finished s = whole s && isFinished (s .phase)
 
 -- what the kept fields of a side are whose call is due
 pub record Whole (s : Side) : Type 0 where
-  pub settings : SettingsReady (s .number) (s .set) (s .kind) (s .n) (s .bound)
+  pub side2 : s .number < 2
+  pub ready : Ready (s .settings)
   pub keys : keysOk (s .keys) ≡ true
   pub begun : 1 ≤ s .serial
   pub round-some : 1 ≤ s .round
-  pub round-most : s .round ≤ 7
+  pub round-most : s .round ≤ rounds
 
 -- a side at first: "(0 at first)"
 abbrev pub freshSide : Side
 freshSide =
-    record { number = 0; set = 0; kind = 0; n = 0; bound = 0; keys = 0 ∷ []; serial = 0; round = 0; phase = Stopped; answer = replicate 8 0 }
+    record { number = 0; settings = settingsWith 0 0 0 0; keys = replicate keyCount 0; serial = 0; round = 0; phase = Stopped; answer = replicate 8 0 }
 
 -- the side at another round, in another phase, with another answer
 abbrev pub moved : Side → ℕ → Phase → List ℕ → Side
 moved s round phase answer =
-    record { number = s .number; set = s .set; kind = s .kind; n = s .n; bound = s .bound; keys = s .keys; serial = s .serial; round = round; phase = phase; answer = answer }
+    record { number = s .number; settings = s .settings; keys = s .keys; serial = s .serial; round = round; phase = phase; answer = answer }
 
 -- the side in another phase
 abbrev pub inPhase : Side → Phase → Side
 inPhase s phase = moved s (s .round) phase (s .answer)
 
+-- ---- Steps
+
+-- the steps that a side has made in its latest run. A stopped side stopped at a take
+unfoldable pub stepOf : Side → ℕ
+stepOf s = cond (isFinished (s .phase)) steps (stepsIn (s .number) (s .round) (isSending (s .phase)))
+
+-- the phase of side `number` after m steps
+unfoldable pub phaseAfter : ℕ → ℕ → Phase
+phaseAfter number m =
+    cond (goesOn m)
+    (cond (sendsAfter number m) Sending Taking)
+    Finished
+
+-- the side after m steps, with another answer
+abbrev pub atStep : Side → ℕ → List ℕ → Side
+atStep s m answer = moved s (roundAfter m) (phaseAfter (s .number) m) answer
+
 -- ---- Answer
+
+-- how many places its answer has, by side, settings and kept answer: "N places for HIGH, 1 for BOUND"
+abbrev pub placesOf : Side → ℕ
+placesOf s = answerPlaces (paramsIn (s .settings))
+
+-- the answer that a finished side holds
+abbrev pub heldAnswer : Side → List ℕ
+heldAnswer s = listTo (placesOf s) (λ (j : ℕ). getD (s .answer) j 0)
 
 -- "Answer: 8 (run finished), 9"
 unfoldable pub answerNo : Side → List ℕ → ℕ
 answerNo s out =
     ask (finished s) 8
-    (ask (leb (answerPlaces (s .kind) (s .n)) (length out)) 9
+    (ask (leb (placesOf s) (length out)) 9
     0)
-
--- the answer that a finished side holds
-abbrev pub heldAnswer : Side → List ℕ
-heldAnswer s = listTo (answerPlaces (s .kind) (s .n)) (λ (j : ℕ). getD (s .answer) j 0)
 
 pub record AfterAnswer : Type 0 where
   pub told : Told
@@ -108,18 +126,15 @@ unfoldable pub answerCall : Side → List ℕ → AfterAnswer
 answerCall s out =
     let refusal = answerNo s out in
     cond (eqb refusal 0)
-    (afterAnswer 0 (answerPlaces (s .kind) (s .n)) (inFront (heldAnswer s) out))
+    (afterAnswer 0 (placesOf s) (inFront (heldAnswer s) out))
     (afterAnswer refusal 0 out)
 
 -- ---- Opening count
 
 -- rounds whose openings were accepted in the latest run
 unfoldable pub roundsTaken : Side → ℕ
-roundsTaken s =
-    cond (isFinished (s .phase)) 7
-    (cond (eqb (s .number) 1 && isSending (s .phase)) (s .round)
-    (s .round - 1))
+roundsTaken s = takenBy (s .number) (stepOf s)
 
 -- "worked out from its settings and the rounds taken; 0 if none has begun or kept fields are broken"
 unfoldable pub countCall : Side → ℕ
-countCall s = cond (whole s) (openingsUpTo (s .kind) (s .n) (roundsTaken s)) 0
+countCall s = cond (whole s) (openingsUpTo (paramsIn (s .settings)) (roundsTaken s)) 0

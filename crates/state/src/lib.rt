@@ -3,12 +3,25 @@ ghost use mathlib.Core.Path.{_≡_};
 ghost use Prim.Native.Nat.{ℕ, _≤_};
 ghost use lib.ListN.{length, getD};
 ghost use Rattle.lists.specs.Lists.{fill};
-ghost use Rattle.rounding.specs.Questions.{keysOk};
-ghost use Rattle.message.specs.Lengths.{openingsUpTo};
-ghost use Rattle.state.specs.State.{answerPlaces, isSending, isTaking, isFinished, whole, sendDue, takeDue, underWay, finished, freshSide, moved, inPhase, answerNo, answerCall, roundsTaken, countCall};
-use message::openings_in;
-use rounding::key_ok;
-use rounding::settings_no;
+ghost use Rattle.settings.specs.Order.{rounds, steps};
+ghost use Rattle.settings.specs.Settings.{paramsOf};
+ghost use Rattle.settings.specs.Sizes.{openingsUpTo};
+ghost use Rattle.state.specs.State.{isSending, isTaking, isFinished, whole, sendDue, takeDue, underWay, finished, Whole, freshSide, moved, inPhase, stepOf, phaseAfter, atStep, placesOf, answerNo, answerCall, roundsTaken, countCall};
+use settings::ROUNDS;
+use settings::STEPS;
+use settings::KEYS;
+use settings::NOT_DUE;
+use settings::NO_ROOM;
+use settings::Settings;
+use settings::Shape;
+use settings::answer_places;
+use settings::openings_in;
+use settings::round_after;
+use settings::sends_after;
+use settings::steps_in;
+use settings::taken_by;
+use settings::keys_ok;
+use settings::settings_no;
 
 // Where a side stands in its round.
 pub enum Phase {
@@ -18,15 +31,12 @@ pub enum Phase {
     Finished,
 }
 
-// What a side keeps: its number, 0 server and 1 phone, and settings; its key; the serial of its latest run; where that run
+// What a side keeps: its number, 0 server and 1 phone, and settings; its keys; the serial of its latest run; where that run
 // stands; and the opened answer.
 pub struct Side {
     pub number: u32,
-    pub set: u32,
-    pub kind: u32,
-    pub n: u32,
-    pub bound: u32,
-    pub keys: [u32; 1],
+    pub settings: Settings,
+    pub keys: [u32; KEYS],
     pub serial: u32,
     pub round: u32,
     pub phase: Phase,
@@ -47,11 +57,15 @@ pub fn fresh() -> Side
 {
     Side {
         number: 0,
-        set: 0,
-        kind: 0,
-        n: 0,
-        bound: 0,
-        keys: [0; 1],
+        settings: Settings {
+            shape: Shape {
+                set: 0,
+                kind: 0,
+                n: 0,
+            },
+            bound: 0,
+        },
+        keys: [0; KEYS],
         serial: 0,
         round: 0,
         phase: Phase::Stopped,
@@ -92,18 +106,11 @@ fn is_finished(phase: Phase) -> bool
     }
 }
 
-// Question 4 of the one key.
-fn keys_ok(keys: [u32; 1]) -> bool
-    ensures { λ r. ⌜ r ≡ keysOk keys ⌝ }
-{
-    key_ok(keys[0])
-}
-
 // Are the kept fields whole? Broken ones count as stopped, whatever the phase says.
 fn is_whole(side: Side) -> bool
     ensures { λ r. ⌜ r ≡ whole side ⌝ }
 {
-    if settings_no(side.number, side.set, side.kind, side.n, side.bound) != 0 {
+    if settings_no(side.number, side.settings) != 0 {
         return false;
     }
     let keys = side.keys;
@@ -116,7 +123,7 @@ fn is_whole(side: Side) -> bool
     if side.round < 1 {
         return false;
     }
-    side.round <= 7
+    side.round <= ROUNDS
 }
 
 pub fn send_due(side: Side) -> bool
@@ -163,12 +170,10 @@ pub fn move_to(side: Side, round: u32, phase: Phase, answer: [u32; 8]) -> Side
     ensures { λ r. ⌜ r ≡ moved side round phase answer ⌝ }
 {
     let keys = side.keys;
+    let settings = side.settings;
     Side {
         number: side.number,
-        set: side.set,
-        kind: side.kind,
-        n: side.n,
-        bound: side.bound,
+        settings,
         keys,
         serial: side.serial,
         round,
@@ -185,38 +190,64 @@ pub fn in_phase(side: Side, phase: Phase) -> Side
     move_to(side, side.round, phase, answer)
 }
 
+// ---- Steps
+
+// The steps that the side has made in its latest run. `opening_count`, and `send` and `take` of crate side, have asked for whole fields.
+pub fn step_of(side: Side) -> u32
+    requires { ⌜ Whole side ⌝ }
+    ensures { λ r. ⌜ (r ≡ stepOf side) × (r ≤ steps) ⌝ }
+{
+    let phase = side.phase;
+    if is_finished(phase) {
+        return STEPS;
+    }
+    steps_in(side.number, side.round, is_sending(phase))
+}
+
+// The phase of side `number` after `m` steps.
+pub fn phase_after(number: u32, m: u32) -> Phase
+    ensures { λ r. ⌜ r ≡ phaseAfter number m ⌝ }
+{
+    if m >= STEPS {
+        return Phase::Finished;
+    }
+    if sends_after(number, m) {
+        return Phase::Sending;
+    }
+    Phase::Taking
+}
+
+// The side after `m` steps, with another answer.
+pub fn at_step(side: Side, m: u32, answer: [u32; 8]) -> Side
+    ensures { λ r. ⌜ r ≡ atStep side m answer ⌝ }
+{
+    let round = round_after(m);
+    let phase = phase_after(side.number, m);
+    move_to(side, round, phase, answer)
+}
+
 // ---- Opening count
 
-// The openings of the first rounds.
-fn openings_up_to(kind: u32, n: u32, rounds: u32) -> u32
-    requires { ⌜ (n ≤ 8) × (rounds ≤ 7) ⌝ }
-    ensures { λ r. ⌜ r ≡ openingsUpTo kind n rounds ⌝ }
+// The openings of the first `count` rounds; `opening_count` asks it of whole fields.
+fn openings_up_to(shape: Shape, count: u32) -> u32
+    requires { ⌜ (shape .n ≤ 8) × (count ≤ rounds) ⌝ }
+    ensures { λ r. ⌜ r ≡ openingsUpTo (paramsOf shape) count ⌝ }
 {
     let mut total: u32 = 0;
     let mut round: u32 = 0;
-    while round < rounds {
-        total += openings_in(kind, n, round + 1);
+    while round < count {
+        total += openings_in(shape, round + 1);
         round += 1;
     }
     total
 }
 
-// The rounds whose openings the latest run has accepted.
+// The rounds whose openings the latest run has accepted. `opening_count` has asked for whole fields.
 fn rounds_taken(side: Side) -> u32
-    requires { ⌜ 1 ≤ side .round ⌝ }
-    ensures { λ r. ⌜ r ≡ roundsTaken side ⌝ }
+    requires { ⌜ Whole side ⌝ }
+    ensures { λ r. ⌜ (r ≡ roundsTaken side) × (r ≤ rounds) ⌝ }
 {
-    let phase = side.phase;
-    if is_finished(phase) {
-        return 7;
-    }
-    if side.number == 1 {
-        if is_sending(phase) {
-            return side.round;
-        }
-        return side.round - 1;
-    }
-    side.round - 1
+    taken_by(side.number, step_of(side))
 }
 
 // How many openings the side has accepted in its latest run; 0 if none has begun or kept fields are broken.
@@ -226,19 +257,16 @@ pub fn opening_count(side: Side) -> u32
     if !is_whole(side) {
         return 0;
     }
-    openings_up_to(side.kind, side.n, rounds_taken(side))
+    openings_up_to(side.settings.shape, rounds_taken(side))
 }
 
 // ---- Answer
 
-// The places of an answer.
-fn answer_places(kind: u32, n: u32) -> usize
-    ensures { λ r. ⌜ r ≡ answerPlaces kind n ⌝ }
+// How many places the side's answer has.
+fn places_of(side: Side) -> usize
+    ensures { λ r. ⌜ r ≡ placesOf side ⌝ }
 {
-    if kind == 0 {
-        return n as usize;
-    }
-    1
+    answer_places(side.settings.shape)
 }
 
 // The first no of answer, or 0.
@@ -246,10 +274,10 @@ fn answer_no(side: Side, out: &[u32]) -> u32
     ensures { λ r. ⌜ r ≡ answerNo side (now (out .entry)) ⌝ }
 {
     if !run_finished(side) {
-        return 8;
+        return NOT_DUE;
     }
-    if out.len() < answer_places(side.kind, side.n) {
-        return 9;
+    if out.len() < places_of(side) {
+        return NO_ROOM;
     }
     0
 }
@@ -274,7 +302,7 @@ pub fn answer(side: Side, out: &mut [u32]) -> Told
     if refused != 0 {
         return Told { refused, length: 0 };
     }
-    let count = answer_places(side.kind, side.n);
+    let count = places_of(side);
     let held = side.answer;
     copy_front(out, &held, count);
     Told {

@@ -2,12 +2,14 @@
 // counts: a transcript that another program can be compared with, byte for byte. Arguments name files to read instead, each an
 // input of its own.
 //
-// An input, decimal numbers between blanks or line ends: set, kind, n, bound, serial, key0, key1; 3n numbers of the server's input;
-// 3n of the phone's; all others are the draw.
+// An input, decimal numbers between blanks or line ends: set, kind, n, bound, serial, the server's keys, the phone's keys; n shared
+// numbers of the server's input, n of the phone's; all others are the draw.
 mod lines;
 mod play;
 
 use lines::put_malformed;
+use settings::MOST_BYTES;
+use settings::ROUNDS;
 use play::transcript;
 use text::MOST;
 use text::Reading;
@@ -20,8 +22,8 @@ const STDIN: i32 = 0;
 
 const STDOUT: i32 = 1;
 
-// More bytes than a transcript has: 14 messages of at most 192 bytes and a few short lines.
-const OUT_LENGTH: usize = 8192;
+// More bytes than a transcript has: two messages in each round, two digits for each byte, and a few short lines.
+const OUT_LENGTH: usize = 2 * ROUNDS as usize * (2 * MOST_BYTES + 8) + 1024;
 
 // What one read left: go on, or the input has ended.
 struct Turn {

@@ -1,15 +1,20 @@
 // One run, played through the calls of the library.
-ghost use Prim.Native.Nat.{_≤_};
+ghost use Prim.Native.Nat.{_+_, _*_, _≤_};
 ghost use lib.ListN.{length};
+ghost use Rattle.settings.specs.Sizes.{keyCount, widthOf};
 use crate::lines::put_answer_line;
 use crate::lines::put_malformed;
 use crate::lines::put_message_line;
 use crate::lines::put_openings_line;
 use crate::lines::put_refused;
 use crate::lines::put_refused_deal;
-use book::shared_of;
+use settings::shared_of;
 use dealer::deal;
-use opening::WORK_LENGTH;
+use settings::MOST_BYTES;
+use settings::ROUNDS;
+use settings::WORK_LENGTH;
+use settings::KEYS;
+use settings::WIDTH;
 use side::begin;
 use side::send;
 use side::take;
@@ -19,20 +24,17 @@ use state::fresh;
 use state::opening_count;
 use text::cut;
 
-// The fewest numbers of an input: those before the inputs and the draw.
-const HEAD: usize = 7;
+// Where the server's keys stand in an input, and the phone's; and the fewest numbers of an input: those before the inputs and the draw.
+const KEYS0: usize = 5;
 
-// The numbers of a shared number on one side.
-const WIDTH: usize = 3;
+const KEYS1: usize = KEYS0 + KEYS;
 
-// The most numbers of a book, the most bytes of a message, the most numbers of an answer.
+const HEAD: usize = KEYS1 + KEYS;
+
+// The most numbers of a book, and of an answer.
 const BOOK_LENGTH: usize = 1320 * WIDTH;
 
-const MESSAGE_LENGTH: usize = 192;
-
 const ANSWER_LENGTH: usize = 8;
-
-const ROUNDS: u32 = 7;
 
 // What the input asks for, before its inputs and draw.
 struct Order {
@@ -41,8 +43,8 @@ struct Order {
     n: u32,
     bound: u32,
     serial: u32,
-    key0: u32,
-    key1: u32,
+    keys0: [u32; KEYS],
+    keys1: [u32; KEYS],
 }
 
 // How far a run has come: both sides, where the next byte of the text goes, and whether a call has refused.
@@ -63,23 +65,38 @@ struct Pass {
 
 // ---- The parts of the input
 
-fn order_in(numbers: &[u32]) -> Order
-    requires { ⌜ 7 ≤ length (now numbers) ⌝ }
+// The keys from a place on.
+fn keys_in(numbers: &[u32], at: usize) -> [u32; KEYS]
+    requires { ⌜ at + keyCount ≤ length (now numbers) ⌝ }
 {
+    let mut keys = [0u32; KEYS];
+    let mut i = 0;
+    while i < KEYS {
+        keys[i] = numbers[at + i];
+        i += 1;
+    }
+    keys
+}
+
+fn order_in(numbers: &[u32]) -> Order
+    requires { ⌜ 5 + 2 * keyCount ≤ length (now numbers) ⌝ }
+{
+    let keys0 = keys_in(numbers, KEYS0);
+    let keys1 = keys_in(numbers, KEYS1);
     Order {
         set: numbers[0],
         kind: numbers[1],
         n: numbers[2],
         bound: numbers[3],
         serial: numbers[4],
-        key0: numbers[5],
-        key1: numbers[6],
+        keys0,
+        keys1,
     }
 }
 
 // How many numbers a side's input has. No call takes more than eight coefficients: then the input counts as empty.
 fn input_length(n: u32) -> usize
-    ensures { λ r. ⌜ r ≤ 24 ⌝ }
+    ensures { λ r. ⌜ r ≤ 8 * widthOf keyCount ⌝ }
 {
     if n > 8 {
         return 0;
@@ -89,7 +106,7 @@ fn input_length(n: u32) -> usize
 
 // How many numbers each book has; none where the dealer refuses the settings.
 fn book_length(o: Order) -> usize
-    ensures { λ r. ⌜ r ≤ 3960 ⌝ }
+    ensures { λ r. ⌜ r ≤ 1320 * widthOf keyCount ⌝ }
 {
     if o.set >= 2 {
         return 0;
@@ -111,6 +128,7 @@ fn begin_phone(
     work: &mut [u32],
     out: &mut [u8],
 ) -> Table {
+    let keys = o.keys1;
     let done = begin(
         fresh(),
         1,
@@ -118,7 +136,7 @@ fn begin_phone(
         o.kind,
         o.n,
         o.bound,
-        o.key1,
+        keys,
         o.serial,
         inputs,
         book,
@@ -152,6 +170,7 @@ fn begin_both(
     phone_work: &mut [u32],
     out: &mut [u8],
 ) -> Table {
+    let keys = o.keys0;
     let done = begin(
         fresh(),
         0,
@@ -159,7 +178,7 @@ fn begin_both(
         o.kind,
         o.n,
         o.bound,
-        o.key0,
+        keys,
         o.serial,
         server_inputs,
         server_book,
@@ -219,7 +238,7 @@ fn pass_message(
     out: &mut [u8],
     at: usize,
 ) -> Pass {
-    let mut message = [0u8; MESSAGE_LENGTH];
+    let mut message = [0u8; MOST_BYTES];
     let sent = send(sender, sender_work, &mut message);
     let after = sent.side;
     if sent.refused != 0 {
@@ -230,7 +249,7 @@ fn pass_message(
             refused: true,
         };
     }
-    let length = cut(sent.length, MESSAGE_LENGTH);
+    let length = cut(sent.length, MOST_BYTES);
     let next = put_message_line(out, at, from, round, &message[..length]);
     deliver(
         after,
@@ -425,12 +444,14 @@ fn deal_and_play(
     phone_book: &mut [u32],
     out: &mut [u8],
 ) -> usize {
+    let keys0 = o.keys0;
+    let keys1 = o.keys1;
     let refused = deal(
         o.set,
         o.kind,
         o.n,
-        o.key0,
-        o.key1,
+        keys0,
+        keys1,
         draw,
         server_book,
         phone_book,

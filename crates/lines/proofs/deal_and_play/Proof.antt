@@ -8,6 +8,7 @@ use Rattle.lines.proofs.Laws.{length-front}
 use Rattle.lines.proofs.Ends.{order-ready, deal-play}
 use Rattle.lines.proofs.deal_and_play.Statement.{statement}
 use Rattle.lines.proofs.deal_and_play.Tie as tie
+use Rattle.lines.specs.Play.{width}
 
 array-share-prefix-numbers : tie.Need-array-share-prefix-numbers
 array-share-prefix-numbers c =
@@ -25,7 +26,7 @@ spread-requires : tie.Need-spread-requires
 spread-requires c κs =
     let a = c .before .before .before .before .before .before .before .before .before .args in
     let eight : length (a .order .numbers) ≡ 8 = search needs in
-    c .before .before .before .before .before .before .before .before .before .pre .1 .inputs-long ∙ ap (λ (n : ℕ). n * 3) (length-front (a .order .count) (a .order .numbers) (omega (arith, eight, order-ready (a .serial) (a .order) (c .before .before .before .before .before .before .before .before .before .pre .0) .most)))
+    c .before .before .before .before .before .before .before .before .before .pre .1 .inputs-long ∙ ap (λ (n : ℕ). n * width) (length-front (a .order .count) (a .order .numbers) (omega (arith, eight, order-ready (a .serial) (a .order) (c .before .before .before .before .before .before .before .before .before .pre .0) .most)))
 
 returns : tie.Need-returns
 returns c =

@@ -5,7 +5,7 @@ use native.Mathlib.Omega.{arith}
 use lib.ListN.{length}
 use borrow.Author.Tests.{not-true, not-false, lt-ltb, le-ltb}
 use Rattle.lists.proofs.Questions.{stop, skip}
-use Rattle.rounding.proofs.Ready.{settings-ready}
+use Rattle.settings.proofs.Ready.{settings-ready}
 use Rattle.message.proofs.Form.{settings-stop, settings-skip}
 use Rattle.lines.specs.Plain.{orderNo}
 use Rattle.lines.proofs.Laws.{length-front}

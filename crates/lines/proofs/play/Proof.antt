@@ -6,6 +6,7 @@ use Rattle.lines.proofs.Handed.{zeros-long}
 use Rattle.lines.proofs.Ends.{order-ready, lent-is}
 use Rattle.lines.proofs.play.Statement.{statement}
 use Rattle.lines.proofs.play.Tie as tie
+use Rattle.lines.specs.Play.{mostDraw, mostBook, mostInputs, width}
 
 draw-length-requires : tie.Need-draw-length-requires
 draw-length-requires c κs =
@@ -18,25 +19,25 @@ shared-of-requires c κs =
     (ready .set2, ready .most)
 
 slice-aggregate-deal-and-play : tie.Need-slice-aggregate-deal-and-play
-slice-aggregate-deal-and-play c = zeros-long (c .before .before .draw-length .result) 4104 (c .before .before .draw-length .ensures .1)
+slice-aggregate-deal-and-play c = zeros-long (c .before .before .draw-length .result) mostDraw (c .before .before .draw-length .ensures .1)
 
 array-borrow-prefix-inputs : tie.Need-array-borrow-prefix-inputs
 array-borrow-prefix-inputs c = omega (arith, order-ready (c .before .before .before .before .before .args .serial) (c .before .before .before .before .before .args .order) (c .before .before .before .before .before .pre) .most)
 
 slice-aggregate-deal-and-play-2 : tie.Need-slice-aggregate-deal-and-play-2
-slice-aggregate-deal-and-play-2 c = zeros-long (c .before .before .before .before .before .before .args .order .count * 3) 24 (omega (arith, order-ready (c .before .before .before .before .before .before .args .serial) (c .before .before .before .before .before .before .args .order) (c .before .before .before .before .before .before .pre) .most))
+slice-aggregate-deal-and-play-2 c = zeros-long (c .before .before .before .before .before .before .args .order .count * width) mostInputs (omega (arith, order-ready (c .before .before .before .before .before .before .args .serial) (c .before .before .before .before .before .before .args .order) (c .before .before .before .before .before .before .pre) .most))
 
 array-share-prefix-zeros : tie.Need-array-share-prefix-zeros
 array-share-prefix-zeros c = omega (arith, order-ready (c .before .before .before .before .before .before .args .serial) (c .before .before .before .before .before .before .args .order) (c .before .before .before .before .before .before .pre) .most)
 
 slice-aggregate-deal-and-play-3 : tie.Need-slice-aggregate-deal-and-play-3
-slice-aggregate-deal-and-play-3 c = zeros-long (c .before .before .before .before .before .before .before .args .order .count * 3) 24 (omega (arith, order-ready (c .before .before .before .before .before .before .before .args .serial) (c .before .before .before .before .before .before .before .args .order) (c .before .before .before .before .before .before .before .pre) .most))
+slice-aggregate-deal-and-play-3 c = zeros-long (c .before .before .before .before .before .before .before .args .order .count * width) mostInputs (omega (arith, order-ready (c .before .before .before .before .before .before .before .args .serial) (c .before .before .before .before .before .before .before .args .order) (c .before .before .before .before .before .before .before .pre) .most))
 
 slice-aggregate-deal-and-play-4 : tie.Need-slice-aggregate-deal-and-play-4
-slice-aggregate-deal-and-play-4 c = zeros-long (c .before .before .before .before .shared-of .result * 3) 3960 (omega (arith, c .before .before .before .before .shared-of .ensures .1))
+slice-aggregate-deal-and-play-4 c = zeros-long (c .before .before .before .before .shared-of .result * width) mostBook (omega (arith, c .before .before .before .before .shared-of .ensures .1))
 
 slice-aggregate-deal-and-play-5 : tie.Need-slice-aggregate-deal-and-play-5
-slice-aggregate-deal-and-play-5 c = zeros-long (c .before .before .before .before .before .shared-of .result * 3) 3960 (omega (arith, c .before .before .before .before .before .shared-of .ensures .1))
+slice-aggregate-deal-and-play-5 c = zeros-long (c .before .before .before .before .before .shared-of .result * width) mostBook (omega (arith, c .before .before .before .before .before .shared-of .ensures .1))
 
 deal-and-play-requires : tie.Need-deal-and-play-requires
 deal-and-play-requires c κs =

@@ -4,16 +4,17 @@ use mathlib.Core.Path.{_≡_, refl, ap, _∙_}
 use Prim.Native.Nat.{ℕ, _≤_, _-_}
 use native.Mathlib.Omega.{arith}
 use lib.ListN.{length}
-use Rattle.lines.specs.Play.{worldOf, Fits, roundsAfter}
+use Rattle.settings.specs.Order.{rounds}
+use Rattle.lines.specs.Play.{worldOf, Fits, roundsPlayed}
 use Rattle.lines.proofs.Laws.{no-round, round-again}
 use Rattle.lines.proofs.play_rounds.Statement.{statement}
 use Rattle.lines.proofs.play_rounds.Tie as tie
 
 abbrev Inv-loop : tie.InvT-loop
-Inv-loop server₀ phone₀ at₀ round₀ server phone at round = (worldOf at server phone ≡ roundsAfter round (worldOf at₀ server₀ phone₀)) × Fits at × (round ≤ 7) × (length server ≡ length server₀) × (length phone ≡ length phone₀)
+Inv-loop server₀ phone₀ at₀ round₀ server phone at round = (worldOf at server phone ≡ roundsPlayed round (worldOf at₀ server₀ phone₀)) × Fits at × (round ≤ rounds) × (length server ≡ length server₀) × (length phone ≡ length phone₀)
 
 abbrev μ-loop : tie.MeasureT-loop
-μ-loop server₀ phone₀ at₀ round₀ server phone at round = 7 - round
+μ-loop server₀ phone₀ at₀ round₀ server phone at round = rounds - round
 
 loop-again : tie.Need-loop-again Inv-loop μ-loop
 loop-again c =
@@ -24,8 +25,8 @@ loop-again c =
 returns : tie.Need-returns Inv-loop μ-loop
 returns c =
     let a = c .before .before .before .before .args in
-    let e : c .before .loop .round ≡ 7 = omega arith in
-    c .before .loop .inv .0 ∙ ap (λ (n : ℕ). roundsAfter n (worldOf (a .table) (a .server .now) (a .phone .now))) e
+    let e : c .before .loop .round ≡ rounds = omega arith in
+    c .before .loop .inv .0 ∙ ap (λ (n : ℕ). roundsPlayed n (worldOf (a .table) (a .server .now) (a .phone .now))) e
 
 pub play-rounds-spec : {M : Type 1} → statement M
 play-rounds-spec =

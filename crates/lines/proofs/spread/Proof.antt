@@ -6,12 +6,12 @@ use native.Mathlib.Omega.{arith}
 use lib.ListN.{length, getD, length-set}
 use Rattle.lists.specs.Lists.{fill}
 use Rattle.lists.proofs.Fill.{fill-none, front-more, whole-is}
-use Rattle.lines.specs.Play.{thrice}
+use Rattle.lines.specs.Play.{width, inColumns}
 use Rattle.lines.proofs.spread.Statement.{statement}
 use Rattle.lines.proofs.spread.Tie as tie
 
 abbrev Inv-loop : tie.InvT-loop
-Inv-loop out₀ numbers i₀ out i = (i ≤ length out) × (out ≡ fill out₀ 0 i (λ (x : ℕ). getD numbers (x / 3) 0)) × (length out ≡ length out₀) × (length out₀ ≡ length numbers * 3)
+Inv-loop out₀ numbers i₀ out i = (i ≤ length out) × (out ≡ fill out₀ 0 i (λ (x : ℕ). getD numbers (x / width) 0)) × (length out ≡ length out₀) × (length out₀ ≡ length numbers * width)
 
 abbrev μ-loop : tie.MeasureT-loop
 μ-loop out₀ numbers i₀ out i = length out - i
@@ -20,12 +20,12 @@ loop-again : tie.Need-loop-again Inv-loop μ-loop
 loop-again c = (simp length-set (omega arith), rw front-more (cc), simp length-set (omega arith), omega arith)
 
 returns : tie.Need-returns Inv-loop μ-loop
-unfolding thrice
+unfolding inColumns
 returns c =
     let a = c .before .before .args in
-    let e : c .before .loop .i ≡ length (a .numbers .now) * 3 = omega arith in
-    c .before .loop .inv .1 ∙ ap (λ (n : ℕ). fill (a .out .now) 0 n (λ (x : ℕ). getD (a .numbers .now) (x / 3) 0)) e
-    ∙ whole-is (a .out .now) (length (a .numbers .now) * 3) (λ (x : ℕ). getD (a .numbers .now) (x / 3) 0) (omega arith)
+    let e : c .before .loop .i ≡ length (a .numbers .now) * width = omega arith in
+    c .before .loop .inv .1 ∙ ap (λ (n : ℕ). fill (a .out .now) 0 n (λ (x : ℕ). getD (a .numbers .now) (x / width) 0)) e
+    ∙ whole-is (a .out .now) (length (a .numbers .now) * width) (λ (x : ℕ). getD (a .numbers .now) (x / width) 0) (omega arith)
 
 pub spread-spec : {M : Type 1} → statement M
 spread-spec =

@@ -1,29 +1,51 @@
 -- `opening::check_passes` meets its contract.
-use borrow.Author.Needs.{needs}
-use mathlib.Core.Path.{ap₂}
-use lib.Dec.{eqb}
-use Rattle.opening.specs.Work.{checkedAt}
+use mathlib.Core.Bool.{true}
+use mathlib.Core.Path.{_≡_, refl, sym}
+use Prim.Native.Nat.{_≤_, _-_}
+use native.Mathlib.Numerals.{add-one}
+use native.Mathlib.Omega.{arith}
+use Rattle.lists.specs.Lists.{allTo}
+use Rattle.lists.proofs.Every.{allTo-no}
+use Rattle.lists.proofs.Questions.{and-yes, told-yes, told-no}
+use Rattle.settings.specs.Sizes.{keyCount}
+use Rattle.opening.specs.Work.{partAt, checkedAt}
 use Rattle.opening.proofs.check_passes.Statement.{statement}
 use Rattle.opening.proofs.check_passes.Tie as tie
 
-returns : tie.Need-returns
+abbrev Inv-loop : tie.InvT-loop
+Inv-loop opened own side message o i₀ i = (i ≤ keyCount) × (allTo i (partAt side own message opened o) ≡ true)
+
+abbrev μ-loop : tie.MeasureT-loop
+μ-loop opened own side message o i₀ i = keyCount - i
+
+loop-holds : tie.Need-loop-holds Inv-loop μ-loop
+unfolding allTo
+loop-holds c = (omega arith, refl)
+
+returns : tie.Need-returns Inv-loop μ-loop
 unfolding checkedAt
-returns c = rw (← c .before .before .before .field-in .ensures) (ap₂ eqb (c .before .before .add-mod .ensures) (c .mul-mod .ensures))
+returns c = sym (allTo-no keyCount _ (c .before .before .before .loop .i) (omega arith) (told-no _ _ (c .before .part-passes .ensures) (c .if1 .taken)))
+
+loop-again : tie.Need-loop-again Inv-loop μ-loop
+unfolding allTo
+loop-again c = (omega arith, rw (add-one (c .before .before .before .loop .i)) (and-yes _ _ (c .before .before .before .loop .inv .1) (told-yes _ _ (c .before .part-passes .ensures) (c .if1 .left))))
+
+returns-2 : tie.Need-returns-2 Inv-loop μ-loop
+unfolding checkedAt
+returns-2 c =
+    let e : c .before .loop .i ≡ keyCount = omega arith in
+    sym (rw e at (c .before .loop .inv .1))
 
 pub check-passes-spec : {M : Type 1} → statement M
 check-passes-spec =
     tie.close
     (tie.spec
-    (λ c. search needs)
-    (λ c. search needs)
-    (λ c. search needs)
-    (λ c. search needs)
-    (λ c. search needs)
-    (λ c. search needs)
-    (λ c κs. search needs)
-    (λ c κs. search needs)
-    (λ c. search needs)
-    (λ c. search needs)
-    (λ c. search needs)
-    (λ c κs. search needs)
-    returns)
+    Inv-loop
+    μ-loop
+    loop-holds
+    (λ c κs. omega arith)
+    returns
+    (λ c. omega arith)
+    (λ c. omega arith)
+    loop-again
+    returns-2)

@@ -8,7 +8,8 @@ use borrow.Author.Tests.{not-true, not-false}
 use Rattle.lists.specs.Lists.{allTo}
 use Rattle.lists.proofs.Every.{allTo-no}
 use Rattle.lists.proofs.Questions.{and-yes}
-use Rattle.message.specs.Lengths.{openings}
+use Rattle.settings.specs.Sizes.{openings}
+use Rattle.settings.specs.Settings.{paramsIn}
 use Rattle.opening.specs.Work.{checkedAt}
 use Rattle.opening.proofs.checks_pass.Statement.{statement}
 use Rattle.opening.proofs.checks_pass.Tie as tie
@@ -33,7 +34,7 @@ loop-again c = (omega arith, rw (add-one (c .before .before .before .loop .o)) (
 returns-2 : tie.Need-returns-2 Inv-loop μ-loop
 returns-2 c =
     let a = c .before .before .before .before .before .before .args in
-    let e : c .before .loop .o ≡ openings (a .side .kind) (a .side .n) (a .side .round) = omega arith in
+    let e : c .before .loop .o ≡ openings (paramsIn (a .side .settings)) (a .side .round) = omega arith in
     sym (rw e at (c .before .loop .inv .1))
 
 pub checks-pass-spec : {M : Type 1} → statement M

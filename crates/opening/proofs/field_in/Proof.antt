@@ -3,8 +3,7 @@ use borrow.Author.Needs.{needs}
 use mathlib.Core.Path.{sym, ap, _∙_}
 use Prim.Native.Nat.{ℕ, _+_, _*_}
 use native.Mathlib.Omega.{arith}
-use Rattle.message.specs.Bits.{bytesFor}
-use Rattle.message.specs.Lengths.{messageBits, messageLength}
+use Rattle.settings.specs.Sizes.{keyCount, bytesFor, messageBits, messageLength}
 use Rattle.message.specs.Message.{fieldIn}
 use Rattle.opening.specs.Opening.{incoming}
 use Rattle.opening.proofs.field_in.Statement.{statement}
@@ -16,7 +15,7 @@ field-of-requires c κs = (c .before .before .pre .0 ∙ ap (λ (x : ℕ). bytes
 
 returns : tie.Need-returns
 unfolding incoming
-returns c = c .field-of .ensures ∙ ap (λ (x : ℕ). fieldIn x (c .before .before .before .args .message .now) (c .before .before .before .args .o * 2 + c .before .before .before .args .f)) (c .before .field-count .ensures .0)
+returns c = c .field-of .ensures ∙ ap (λ (x : ℕ). fieldIn x (c .before .before .before .args .message .now) (c .before .before .before .args .o * (1 + keyCount) + c .before .before .before .args .f)) (c .before .field-count .ensures .0)
 
 pub field-in-spec : {M : Type 1} → statement M
 field-in-spec =

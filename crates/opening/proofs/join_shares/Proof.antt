@@ -6,7 +6,8 @@ use native.Mathlib.Omega.{arith}
 use lib.ListN.{length, set, length-set}
 use Rattle.lists.specs.Lists.{fill}
 use Rattle.lists.proofs.Fill.{fill-none, front-more}
-use Rattle.message.specs.Lengths.{openings}
+use Rattle.settings.specs.Sizes.{openings}
+use Rattle.settings.specs.Settings.{paramsIn}
 use Rattle.opening.specs.Work.{joinedAt}
 use Rattle.opening.proofs.join_shares.Statement.{statement}
 use Rattle.opening.proofs.join_shares.Tie as tie
@@ -27,7 +28,7 @@ loop-again c = (omega arith, rw front-more (cc), simp length-set (omega arith))
 returns : tie.Need-returns Inv-loop μ-loop
 returns c =
     let a = c .before .before .before .before .before .before .args in
-    let e : c .before .loop .o ≡ openings (a .side .kind) (a .side .n) (a .side .round) = omega arith in
+    let e : c .before .loop .o ≡ openings (paramsIn (a .side .settings)) (a .side .round) = omega arith in
     rw (← e) (c .before .loop .inv .1)
 
 pub join-shares-spec : {M : Type 1} → statement M

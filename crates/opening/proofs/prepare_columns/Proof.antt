@@ -10,40 +10,41 @@ use borrow.Rule.Slice.PartMut.{putMid}
 use Rattle.lists.specs.Lists.{fill}
 use Rattle.lists.proofs.Fill.{length-fill}
 use Rattle.lists.proofs.Part.{fill-part}
-use Rattle.message.specs.Lengths.{openings}
-use Rattle.steps.proofs.Bounds.{openings-most}
+use Rattle.settings.specs.Sizes.{keyCount, widthOf, openings, mostOpenings}
+use Rattle.settings.proofs.Sizes.{openings-most}
+use Rattle.settings.specs.Settings.{paramsIn}
 use Rattle.opening.specs.Opening.{prepared}
-use Rattle.opening.specs.Work.{preparedTo}
+use Rattle.opening.specs.Work.{columnsTo}
 use Rattle.opening.proofs.prepare_columns.Statement.{statement}
 use Rattle.opening.proofs.prepare_columns.Tie as tie
 
 abbrev Inv-loop : tie.InvT-loop
-Inv-loop own₀ work side c₀ own c = (c ≤ 3) × (own ≡ preparedTo side work own₀ c) × (length own ≡ length own₀)
+Inv-loop own₀ work side c₀ own c = (c ≤ widthOf keyCount) × (own ≡ columnsTo (openings (paramsIn (side .settings)) (side .round)) (prepared keyCount side work) own₀ c) × (length own ≡ length own₀)
 
 abbrev μ-loop : tie.MeasureT-loop
-μ-loop own₀ work side c₀ own c = 3 - c
+μ-loop own₀ work side c₀ own c = widthOf keyCount - c
 
 loop-holds : tie.Need-loop-holds Inv-loop μ-loop
-unfolding preparedTo
+unfolding columnsTo
 loop-holds c = (omega arith, refl, refl)
 
 prepare-column-requires : tie.Need-prepare-column-requires Inv-loop μ-loop
 prepare-column-requires c κs = (c .before .before .before .before .before .pre .0, search needs)
 
 loop-again : tie.Need-loop-again Inv-loop μ-loop
-unfolding preparedTo
+unfolding columnsTo
 loop-again c =
     let a = c .before .before .before .before .before .before .before .before .args in
     let m = c .before .before .before .before .before .loop .c in
-    let few = openings-most (a .side .kind) (a .side .n) (a .side .round) (c .before .before .before .before .before .before .before .before .pre .0 .settings .most) in
-    let more : _ ≡ fill (c .before .before .before .before .before .loop .own) (32 * m) (openings (a .side .kind) (a .side .n) (a .side .round)) (prepared 1 (a .side) (a .work .now) m) =
-    ap (λ (l : List ℕ). putMid (32 * m) (32 * m + 32 - 32 * m) (c .before .before .before .before .before .loop .own) l) (c .before .before .prepare-column .ensures)
-    ∙ fill-part (c .before .before .before .before .before .loop .own) (32 * m) (32 * m + 32 - 32 * m) (prepared 1 (a .side) (a .work .now) m) (omega arith) _ (omega arith) in
+    let few = openings-most (paramsIn (a .side .settings)) (a .side .round) (c .before .before .before .before .before .before .before .before .pre .0 .ready .most) in
+    let more : _ ≡ fill (c .before .before .before .before .before .loop .own) (mostOpenings * m) (openings (paramsIn (a .side .settings)) (a .side .round)) (prepared keyCount (a .side) (a .work .now) m) =
+    ap (λ (l : List ℕ). putMid (mostOpenings * m) (mostOpenings * m + mostOpenings - mostOpenings * m) (c .before .before .before .before .before .loop .own) l) (c .before .before .prepare-column .ensures)
+    ∙ fill-part (c .before .before .before .before .before .loop .own) (mostOpenings * m) (mostOpenings * m + mostOpenings - mostOpenings * m) (prepared keyCount (a .side) (a .work .now) m) (omega arith) _ (omega arith) in
     (omega arith, rw (add-one m, ← c .before .before .before .before .before .loop .inv .1) more, ap length more ∙ length-fill _ _ _ _ ∙ c .before .before .before .before .before .loop .inv .2)
 
 returns : tie.Need-returns Inv-loop μ-loop
 returns c =
-    let e : c .before .loop .c ≡ 3 = omega arith in
+    let e : c .before .loop .c ≡ widthOf keyCount = omega arith in
     rw e at (c .before .loop .inv .1)
 
 pub prepare-columns-spec : {M : Type 1} → statement M

@@ -2,12 +2,13 @@
 use borrow.Author.Needs.{needs}
 use mathlib.Core.Path.{_≡_, sym, ap, _∙_}
 use mathlib.Core.List.{List}
-use Prim.Native.Nat.{ℕ, _*_, _^_}
+use Prim.Native.Nat.{ℕ, _+_, _*_, _^_}
 use native.Mathlib.Omega.{arith}
 use lib.ListN.{length, take}
 use lib.Seq.{length-take-le}
 use Rattle.lists.specs.Lists.{allBelow, listTo, inFront}
-use Rattle.message.specs.Lengths.{openings, fieldBits}
+use Rattle.settings.specs.Sizes.{keyCount, openings, fieldBits}
+use Rattle.settings.specs.Settings.{paramsIn}
 use Rattle.opening.specs.Work.{outgoingField}
 use Rattle.opening.proofs.Sending.{header-fits, take-filled, bytes-are, fields-small, message-is}
 use Rattle.opening.proofs.write_message.Statement.{statement}
@@ -25,13 +26,13 @@ put-message-requires c κs =
     let count = c .before .before .before .before .before .before .openings-in .result in
     let few = c .before .before .before .before .before .before .openings-in .ensures .1 in
     let l = c .before .before .before .before .outgoing-fields .last .0 in
-    let long : length (take (2 * count) l) ≡ 2 * count = length-take-le (2 * count) l (omega (arith, c .before .before .before .before .outgoing-fields .kept .0)) in
-    let fs : take (2 * count) l ≡ listTo (2 * openings (s .kind) (s .n) (s .round)) (outgoingField s work) =
-    take-filled l _ (2 * count) (outgoingField s work) (c .before .before .before .before .outgoing-fields .ensures) (omega arith)
-    ∙ ap (λ (n : ℕ). listTo (2 * n) (outgoingField s work)) (c .before .before .before .before .before .before .openings-in .ensures .0) in (
+    let long : length (take ((1 + keyCount) * count) l) ≡ (1 + keyCount) * count = length-take-le ((1 + keyCount) * count) l (omega (arith, c .before .before .before .before .outgoing-fields .kept .0)) in
+    let fs : take ((1 + keyCount) * count) l ≡ listTo ((1 + keyCount) * openings (paramsIn (s .settings)) (s .round)) (outgoingField s work) =
+    take-filled l _ ((1 + keyCount) * count) (outgoingField s work) (c .before .before .before .before .outgoing-fields .ensures) (omega arith)
+    ∙ ap (λ (n : ℕ). listTo ((1 + keyCount) * n) (outgoingField s work)) (c .before .before .before .before .before .before .openings-in .ensures .0) in (
       header-fits s (c .before .before .new .result) (c .before .before .new .ensures) (c .before .before .before .before .before .before .before .before .before .pre .0),
       (
-        (omega (arith, bytes-are s (take (2 * count) l) (outgoingField s work) fs, c .before .before .before .before .before .before .before .before .before .pre .1 .2), omega arith),
+        (omega (arith, bytes-are s (take ((1 + keyCount) * count) l) (outgoingField s work) fs, c .before .before .before .before .before .before .before .before .before .pre .1 .2), omega arith),
         ap (allBelow (2 ^ fieldBits)) fs ∙ fields-small work (c .before .before .before .before .before .before .before .before .before .pre .1 .1) s _,
       ),
     )
@@ -43,11 +44,11 @@ returns c =
     let count = c .before .before .before .before .before .before .before .before .before .openings-in .result in
     let few = c .before .before .before .before .before .before .before .before .before .openings-in .ensures .1 in
     let l = c .before .before .before .before .before .before .before .outgoing-fields .last .0 in
-    let fs : take (2 * count) l ≡ listTo (2 * openings (s .kind) (s .n) (s .round)) (outgoingField s work) =
-    take-filled l _ (2 * count) (outgoingField s work) (c .before .before .before .before .before .before .before .outgoing-fields .ensures) (omega arith)
-    ∙ ap (λ (n : ℕ). listTo (2 * n) (outgoingField s work)) (c .before .before .before .before .before .before .before .before .before .openings-in .ensures .0) in (
-      c .before .before .put-message .ensures .0 ∙ bytes-are s (take (2 * count) l) (outgoingField s work) fs,
-      c .before .before .put-message .ensures .1 ∙ ap (λ (m : List ℕ). inFront m (c .before .before .before .before .before .before .before .before .before .before .before .before .args .out .now)) (message-is s work (c .before .before .before .before .before .before .before .before .before .before .before .before .pre .0) (c .before .before .before .before .before .new .result) (take (2 * count) l) (c .before .before .before .before .before .new .ensures) fs),
+    let fs : take ((1 + keyCount) * count) l ≡ listTo ((1 + keyCount) * openings (paramsIn (s .settings)) (s .round)) (outgoingField s work) =
+    take-filled l _ ((1 + keyCount) * count) (outgoingField s work) (c .before .before .before .before .before .before .before .outgoing-fields .ensures) (omega arith)
+    ∙ ap (λ (n : ℕ). listTo ((1 + keyCount) * n) (outgoingField s work)) (c .before .before .before .before .before .before .before .before .before .openings-in .ensures .0) in (
+      c .before .before .put-message .ensures .0 ∙ bytes-are s (take ((1 + keyCount) * count) l) (outgoingField s work) fs,
+      c .before .before .put-message .ensures .1 ∙ ap (λ (m : List ℕ). inFront m (c .before .before .before .before .before .before .before .before .before .before .before .before .args .out .now)) (message-is s work (c .before .before .before .before .before .new .result) (take ((1 + keyCount) * count) l) (c .before .before .before .before .before .new .ensures) fs),
     )
 
 pub write-message-spec : {M : Type 1} → statement M

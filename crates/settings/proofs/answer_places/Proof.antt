@@ -1,5 +1,4 @@
 -- `settings::answer_places` meets its contract. Assumes nothing.
-use Rattle.settings.specs.Sizes.{answerPlaces}
 use borrow.Author.Tests.{eq-eqb, ne-eqb}
 use borrow.Author.Needs.{needs}
 use Rattle.settings.proofs.answer_places.Statement.{statement}
@@ -9,11 +8,9 @@ cast-result : tie.Need-cast-result
 cast-result c = search needs
 
 returns : tie.Need-returns
-unfolding answerPlaces
 returns c = rw (eq-eqb _ _ (c .before .if1 .taken))
 
 returns-2 : tie.Need-returns-2
-unfolding answerPlaces
 returns-2 c = rw (ne-eqb _ _ (c .if1 .left))
 
 pub answer-places-spec : {M : Type 1} → statement M

@@ -3,7 +3,7 @@ use borrow.Author.Needs.{needs}
 use mathlib.Core.Path.{sym, ap, _∙_}
 use borrow.Author.Tests.{not-true, not-false}
 use Rattle.lists.specs.Answers.{ask}
-use Rattle.rounding.proofs.Ready.{settings-ready, settings-pass, settings-refuse}
+use Rattle.settings.proofs.Ready.{settings-ready, settings-pass, settings-refuse}
 use Rattle.side.specs.Side.{beginNo}
 use Rattle.side.proofs.begin_no.Statement.{statement}
 use Rattle.side.proofs.begin_no.Tie as tie

@@ -2,6 +2,7 @@
 use borrow.Author.Needs.{needs}
 use mathlib.Core.Path.{sym, _∙_}
 use borrow.Author.Tests.{eq-eqb, ne-eqb}
+use Rattle.settings.specs.Sizes.{keyCount}
 use Rattle.side.specs.Side.{sendCall}
 use Rattle.side.proofs.Sending.{send-ready, after-same}
 use Rattle.side.proofs.send.Statement.{statement}
@@ -13,12 +14,12 @@ returns c = rw (← c .before .send-no .ensures, ne-eqb (c .before .send-no .res
 
 write-message-requires : tie.Need-write-message-requires
 write-message-requires c κs =
-    let ready = send-ready 1 (c .before .before .before .before .before .before .args .side) (c .before .before .before .before .before .before .args .work .now) (c .before .before .before .before .before .before .args .out .now) (sym (c .before .before .send-no .ensures) ∙ c .before .if1 .left) in
+    let ready = send-ready keyCount (c .before .before .before .before .before .before .args .side) (c .before .before .before .before .before .before .args .work .now) (c .before .before .before .before .before .before .args .out .now) (sym (c .before .before .send-no .ensures) ∙ c .before .if1 .left) in
     (ready .kept, (ready .exact, ready .below, ready .room))
 
 sent-side-requires : tie.Need-sent-side-requires
 sent-side-requires c κs =
-    send-ready 1 (c .before .before .before .before .before .before .before .before .before .args .side) (c .before .before .before .before .before .before .before .before .before .args .work .now) (c .before .before .before .before .before .before .before .before .before .args .out .now) (sym (c .before .before .before .before .before .send-no .ensures) ∙ c .before .before .before .before .if1 .left) .kept .round-most
+    send-ready keyCount (c .before .before .before .before .before .before .before .before .before .args .side) (c .before .before .before .before .before .before .before .before .before .args .work .now) (c .before .before .before .before .before .before .before .before .before .args .out .now) (sym (c .before .before .before .before .before .send-no .ensures) ∙ c .before .before .before .before .if1 .left) .kept
 
 returns-2 : tie.Need-returns-2
 unfolding sendCall

@@ -26,7 +26,7 @@ returns-3 c =
     (stop _ 6 _ (sym (c .before .all-below-q .ensures) ∙ not-true _ (c .if3 .taken))))
 
 message-length-requires : tie.Need-message-length-requires
-message-length-requires c κs = send-whole (c .before .before .before .before .before .before .before .args .side) (sym (c .before .before .before .before .send-due .ensures) ∙ not-false _ (c .before .before .before .if1 .left)) .settings .most
+message-length-requires c κs = send-whole (c .before .before .before .before .before .before .before .args .side) (sym (c .before .before .before .before .send-due .ensures) ∙ not-false _ (c .before .before .before .if1 .left)) .ready .most
 
 returns-4 : tie.Need-returns-4
 unfolding sendNo

@@ -4,9 +4,8 @@ use mathlib.Core.Path.{_≡_, sym, ap, ap₂, _∙_}
 use Prim.Native.Nat.{ℕ}
 use lib.ListN.{length, getD}
 use Rattle.lists.specs.Lists.{fill}
-use native.Mathlib.Omega.{arith}
 use borrow.Author.Tests.{eq-eqb, ne-eqb}
-use Rattle.state.specs.State.{answerPlaces, afterAnswer, answerCall}
+use Rattle.state.specs.State.{placesOf, afterAnswer, answerCall}
 use Rattle.state.proofs.States.{answer-ready}
 use Rattle.lists.proofs.Fill.{front-is}
 use Rattle.state.proofs.answer.Statement.{statement}
@@ -21,7 +20,7 @@ copy-front-requires c κs =
     let side = c .before .before .before .before .before .before .before .before .args .side in
     let ready = answer-ready side (c .before .before .before .before .before .before .before .before .args .out .now) (sym (c .before .before .before .before .before .answer-no .ensures) ∙ c .before .before .before .before .if1 .left) in
     let eight : length (side .answer) ≡ 8 = search needs in
-    (rw (c .before .before .before .answer-places .ensures, eight) (ready .0), rw (c .before .before .before .answer-places .ensures) (ready .1))
+    (rw (c .before .before .before .places-of .ensures, eight) (ready .0), rw (c .before .before .before .places-of .ensures) (ready .1))
 
 returns-2 : tie.Need-returns-2
 unfolding answerCall
@@ -31,8 +30,8 @@ returns-2 c =
     let ready = answer-ready side out (sym (c .before .before .before .before .before .before .before .before .answer-no .ensures) ∙ c .before .before .before .before .before .before .before .if1 .left) in
     let held : ℕ → ℕ = λ j. getD (side .answer) j 0 in
     rw (← c .before .before .before .before .before .before .before .before .answer-no .ensures, eq-eqb (c .before .before .before .before .before .before .before .before .answer-no .result) 0 (c .before .before .before .before .before .before .before .if1 .left))
-    (ap₂ (afterAnswer 0) (c .before .before .before .before .before .before .answer-places .ensures)
-    (c .before .before .copy-front .ensures ∙ ap (λ (n : ℕ). fill out 0 n held) (c .before .before .before .before .before .before .answer-places .ensures) ∙ front-is out (answerPlaces (side .kind) (side .n)) held (ready .1)))
+    (ap₂ (afterAnswer 0) (c .before .before .before .before .before .before .places-of .ensures)
+    (c .before .before .copy-front .ensures ∙ ap (λ (n : ℕ). fill out 0 n held) (c .before .before .before .before .before .before .places-of .ensures) ∙ front-is out (placesOf side) held (ready .1)))
 
 pub answer-spec : {M : Type 1} → statement M
 answer-spec = tie.close (tie.spec (λ c κs. search needs) (λ c. search needs) returns (λ c κs. search needs) (λ c. search needs) copy-front-requires (λ c. search needs) returns-2)

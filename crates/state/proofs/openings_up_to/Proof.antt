@@ -1,19 +1,19 @@
 -- `state::openings_up_to` meets its contract: the total so far is the count of the rounds so far.
-use borrow.Author.Needs.{needs}
-use mathlib.Core.Path.{_≡_, refl, sym, ap, _∙_}
-use Prim.Native.Nat.{ℕ, _≤_, _-_, _+_, _*_}
+use mathlib.Core.Path.{_≡_, refl, ap, _∙_}
+use Prim.Native.Nat.{_≤_, _-_, _*_}
 use native.Mathlib.Numerals.{add-one}
 use native.Mathlib.Omega.{arith}
 use Rattle.field.specs.Sums.{sumTo}
-use Rattle.message.specs.Lengths.{openings, openingsUpTo}
+use Rattle.settings.specs.Settings.{paramsOf}
+use Rattle.settings.specs.Sizes.{openingsUpTo}
 use Rattle.state.proofs.openings_up_to.Statement.{statement}
 use Rattle.state.proofs.openings_up_to.Tie as tie
 
 abbrev Inv-loop : tie.InvT-loop
-Inv-loop kind n rounds total₀ round₀ total round = (round ≤ rounds) × (total ≡ openingsUpTo kind n round) × (total ≤ 32 * round)
+Inv-loop shape count total₀ round₀ total round = (round ≤ count) × (total ≡ openingsUpTo (paramsOf shape) round) × (total ≤ 32 * round)
 
 abbrev μ-loop : tie.MeasureT-loop
-μ-loop kind n rounds total₀ round₀ total round = rounds - round
+μ-loop shape count total₀ round₀ total round = count - round
 
 loop-holds : tie.Need-loop-holds Inv-loop μ-loop
 unfolding openingsUpTo sumTo
@@ -25,8 +25,8 @@ loop-again c = (omega arith, rw (add-one (c .before .before .loop .round)) (omeg
 
 returns : tie.Need-returns Inv-loop μ-loop
 returns c =
-    let e : c .before .loop .round ≡ c .before .before .args .rounds = omega arith in
-    c .before .loop .inv .1 ∙ ap (openingsUpTo (c .before .before .args .kind) (c .before .before .args .n)) e
+    let e : c .before .loop .round ≡ c .before .before .args .count = omega arith in
+    c .before .loop .inv .1 ∙ ap (openingsUpTo (paramsOf (c .before .before .args .shape))) e
 
 pub openings-up-to-spec : {M : Type 1} → statement M
 openings-up-to-spec =

@@ -1,9 +1,10 @@
 -- `transcript::play::play_rounds` meets its contract. Assumes nothing.
-use Prim.Native.Nat.{_-_}
+use Prim.Native.Nat.{suc, _-_}
 use mathlib.Core.Path.{_≡_, refl}
 use native.Mathlib.Omega.{arith}
 use borrow.Author.Needs.{needs}
 use lib.ListN.{length}
+use Rattle.settings.specs.Order.{rounds}
 use Rattle.transcript.proofs.play.play_rounds.Statement.{statement}
 use Rattle.transcript.proofs.play.play_rounds.Tie as tie
 
@@ -11,7 +12,7 @@ abbrev Inv-loop : tie.InvT-loop
 Inv-loop server-work₀ phone-work₀ out₀ now₀ round₀ server-work phone-work out now round = (length server-work ≡ length server-work₀) × (length phone-work ≡ length phone-work₀) × (length out ≡ length out₀)
 
 abbrev μ-loop : tie.MeasureT-loop
-μ-loop server-work₀ phone-work₀ out₀ now₀ round₀ server-work phone-work out now round = 8 - round
+μ-loop server-work₀ phone-work₀ out₀ now₀ round₀ server-work phone-work out now round = suc rounds - round
 
 loop-holds : tie.Need-loop-holds Inv-loop μ-loop
 loop-holds c = (refl, refl, refl)

@@ -1,0 +1,22 @@
+-- The check of an opening, over what the two sides give to it.
+use Prim.Native.Nat.{ℕ}
+use mathlib.Core.Bool.{Bool}
+use mathlib.Core.List.{List}
+use lib.Dec.{eqb}
+use lib.ListN.{getD}
+use Rattle.lists.specs.Lists.{allTo}
+use Rattle.field.specs.Field.{q, add, mul}
+
+-- what one side gives to an opening: its share, and its part under key i of the side that checks
+pub record Given : Type 0 where
+  pub share : ℕ
+  pub part : ℕ → ℕ
+
+-- "the joined number"
+abbrev pub joined : Given → Given → ℕ
+joined own other = add q (own .share) (other .share)
+
+-- "The check: the two parts under my key add to my key × the joined number", for each of my k keys
+unfoldable pub accepts : ℕ → List ℕ → Given → Given → Bool
+accepts k keys own other =
+    allTo k (λ (i : ℕ). eqb (add q (own .part i) (other .part i)) (mul q (getD keys i 0) (joined own other)))
