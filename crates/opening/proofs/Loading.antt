@@ -11,8 +11,8 @@ use lib.Seq.{ext-getD}
 use borrow.Author.Tests.{lt-ltb, le-ltb, le-leb, lt-leb}
 use Rattle.lists.specs.Lists.{fill}
 use Rattle.lists.proofs.Fill.{length-fill, fill-at, fill-before, fill-behind, front-at}
-use Rattle.settings.specs.Sets.{Scale}
 use Rattle.settings.specs.Sizes.{shared, places}
+use Rattle.settings.specs.Settings.{Params}
 use Rattle.slice.specs.Layout.{inputAt, begunPlace, begunWork}
 use Rattle.column.proofs.Begun.{begun-length, begun-at}
 use Rattle.opening.specs.Work.{loaded}
@@ -92,18 +92,18 @@ module _ (count n width : ℕ) (inputs book work : List ℕ) where
               rw e (own m i (omega arith) hi (rest m (m * places + i) (omega arith)))
 
 -- all columns
-pub loaded-begun : (p : Scale) (kind n width : ℕ) (inputs book work : List ℕ) → shared p kind n ≤ inputAt 0 → n ≤ 8
+pub loaded-begun : (p : Params) (width : ℕ) (inputs book work : List ℕ) → shared p ≤ inputAt 0 → (p .n) ≤ 8
     → length work ≡ width * places → ((j : ℕ) → getD work j 0 ≡ 0)
-    → loaded (shared p kind n) n width inputs book work width ≡ begunWork p kind n width inputs book
-loaded-begun p kind n width inputs book work room most exact clear =
-    ext-getD 0 _ _ (length-loaded count n width inputs book work width ∙ exact ∙ sym (begun-length p kind n width inputs book))
-    (λ j l. let fits : j < width * places = omega (arith, length-loaded count n width inputs book work width) in
+    → loaded (shared p) (p .n) width inputs book work width ≡ begunWork p width inputs book
+loaded-begun p width inputs book work room most exact clear =
+    ext-getD 0 _ _ (length-loaded count (p .n) width inputs book work width ∙ exact ∙ sym (begun-length p width inputs book))
+    (λ j l. let fits : j < width * places = omega (arith, length-loaded count (p .n) width inputs book work width) in
     let e : j / places * places + j % places ≡ j = omega arith in
-    rw e at (loaded-at count n width inputs book work room most exact clear width (j / places) (j % places) (omega arith) (omega arith) (omega arith)
-    ∙ sym (begun-at p kind n width inputs book (j / places) (j % places) (omega arith) (omega arith))))
+    rw e at (loaded-at count (p .n) width inputs book work room most exact clear width (j / places) (j % places) (omega arith) (omega arith) (omega arith)
+    ∙ sym (begun-at p width inputs book (j / places) (j % places) (omega arith) (omega arith))))
   where
     count : ℕ
-    count = shared p kind n
+    count = shared p
 
 -- a cleared slice
 pub cleared-at : (s : List ℕ) (j : ℕ) → getD (fill s 0 (length s) (λ (i : ℕ). 0)) j 0 ≡ 0

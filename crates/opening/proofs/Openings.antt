@@ -8,24 +8,14 @@ use borrow.Author.Tests.{eq-eqb, ne-eqb}
 use Rattle.lists.specs.Lists.{fill}
 use Rattle.lists.proofs.Fill.{fill-same}
 use Rattle.settings.specs.Sizes.{keyCount, openings}
-use Rattle.settings.specs.declared.Settings.{Settings}
 use Rattle.slice.specs.Layout.{column, maskedIn, weights}
 use Rattle.steps.specs.Steps.{Public}
 use Rattle.steps.specs.Work.{openingOn}
 use Rattle.steps.specs.Calls.{publicIn}
-use Rattle.settings.specs.Questions.{Ready}
 use Rattle.settings.specs.Settings.{paramsIn, termsOf}
 use Rattle.column.proofs.Written.{public-same}
 use Rattle.state.specs.declared.Side.{Side}
-use Rattle.state.specs.State.{Whole}
 use Rattle.opening.specs.Opening.{prepared}
-use Rattle.opening.specs.Work.{settingsIn}
-
--- the settings of a side whose call is due are ready for the rounds
-pub settings-in-ready : (s : Side) (settings : Settings) → settings ≡ settingsIn s → Whole s → Ready settings
-settings-in-ready s settings e h =
-    subst Ready (sym e)
-    (record { sets = h .ready .sets; kinds = h .ready .kinds; some = h .ready .some; most = h .ready .most; bound-most = h .ready .bound-most; bound-some = h .ready .bound-some })
 
 -- the weights of the server and of the phone
 pub server-weights : (k number : ℕ) (keys : List ℕ) → number ≡ 0 → 1 ∷ keys ++ replicate k 0 ≡ weights k number keys
@@ -36,14 +26,14 @@ pub phone-weights : (k number : ℕ) (keys : List ℕ) → (number ≡ 0 → ⊥
 unfolding weights
 phone-weights k number keys e = rw (ne-eqb number 0 e)
 
--- openings by the settings, masked numbers and weights that the code has are those of the side
-pub prepared-is : (s : Side) (work out : List ℕ) (c : ℕ) (settings : Settings) (ys ws : List ℕ)
-    → settings ≡ settingsIn s → ((j : ℕ) → getD ys j 0 ≡ maskedIn work j) → ws ≡ weights keyCount (s .number) (s .keys)
-    → fill out 0 (openings (settings .kind) (settings .n) (s .round)) (openingOn (publicIn (record { settings = settings; round = s .round; masked = ys })) (s .round) (getD ws c 0) (column work c))
+-- openings by the masked numbers and weights that the code has are those of the side
+pub prepared-is : (s : Side) (work out : List ℕ) (c : ℕ) (ys ws : List ℕ)
+    → ((j : ℕ) → getD ys j 0 ≡ maskedIn work j) → ws ≡ weights keyCount (s .number) (s .keys)
+    → fill out 0 (openings (paramsIn (s .settings)) (s .round)) (openingOn (publicIn (record { settings = s .settings; round = s .round; masked = ys })) (s .round) (getD ws c 0) (column work c))
     ≡ fill out 0 (openings (paramsIn (s .settings)) (s .round)) (prepared keyCount s work c)
 unfolding prepared
-prepared-is s work out c settings ys ws e m f =
-    rw (e, f)
+prepared-is s work out c ys ws m f =
+    rw f
     (fill-same out 0 (openings (paramsIn (s .settings)) (s .round)) _ _ (λ o h.
     ap (λ (w : Public). openingOn w (s .round) (getD (weights keyCount (s .number) (s .keys)) c 0) (column work c) o)
     (public-same (termsOf (s .settings)) (λ (j : ℕ). getD ys j 0) (maskedIn work) m)))

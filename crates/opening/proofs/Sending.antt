@@ -18,14 +18,13 @@ use Rattle.field.specs.Forms.{Registers, Form, num, reg, sum, _⊞_, _⊟_, _�
 use Rattle.settings.specs.Sizes.{keyCount, bytesFor, openings, fieldBits, mostOpenings, mostFields, messageBits, messageLength}
 use Rattle.settings.specs.Settings.{paramsIn, termsOf}
 use Rattle.message.specs.Message.{headerNumber, messageOf}
-use Rattle.message.specs.Fields.{headerWith, HeaderFits}
+use Rattle.message.specs.Fields.{HeaderFits}
 use Rattle.message.specs.declared.Header.{Header}
-use Rattle.message.proofs.Form.{settings-fit}
 use Rattle.slice.specs.Layout.{column, ownIn, maskedIn, weights}
 use Rattle.steps.specs.Steps.{publicOf, opening}
 use Rattle.state.specs.declared.Side.{Side}
 use Rattle.state.specs.State.{Whole}
-use Rattle.opening.specs.Opening.{prepared, outgoing, partColumn, message}
+use Rattle.opening.specs.Opening.{ownHeader, prepared, outgoing, partColumn, message}
 use Rattle.opening.specs.Work.{columnsTo, fieldColumn, outgoingIn, outgoingField, inTurn}
 use Rattle.opening.proofs.Columns.{columns-at}
 
@@ -171,15 +170,14 @@ module _ (s : Side) (work : List ℕ) where
   pub fields-joined : (n : ℕ) → listTo ((1 + keyCount) * n) (outgoingField s work) ≡ joinTo n openingFields
   fields-joined n = runs-join (1 + keyCount) (outgoingField s work) openingFields fields-of 0 n
 
-  pub message-is : (header : Header) (fs : List ℕ) → header ≡ headerWith (s .number) (s .settings .shape .set) (s .settings .shape .kind) (s .settings .shape .n) (s .round) (s .settings .bound) (s .serial)
+  pub message-is : (header : Header) (fs : List ℕ) → header ≡ ownHeader s
       → fs ≡ listTo ((1 + keyCount) * openings (paramsIn (s .settings)) (s .round)) (outgoingField s work)
-      → messageOf (headerNumber (header .sender) (header .set) (header .kind) (header .n) (header .bound) (header .round) (header .serial)) fs ≡ message keyCount s work
+      → messageOf (headerNumber header) fs ≡ message keyCount s work
   unfolding message
   message-is header fs e f = rw (e, f, fields-joined (openings (paramsIn (s .settings)) (s .round)))
 
-pub header-fits : (s : Side) (header : Header) → header ≡ headerWith (s .number) (s .settings .shape .set) (s .settings .shape .kind) (s .settings .shape .n) (s .round) (s .settings .bound) (s .serial) → Whole s
-    → HeaderFits (header .sender) (header .set) (header .kind) (header .n) (header .round) (header .bound)
-header-fits s header e h = rw e (settings-fit (s .number) (s .settings) (s .round) (h .settings) (omega (arith, h .round-most)))
+pub header-fits : (s : Side) (header : Header) → header ≡ ownHeader s → Whole s → HeaderFits header
+header-fits s header e h = rw e (record { sender-fits = h .side2; settings-fit = h .ready; round-fits = omega (arith, h .round-most) })
 
 -- the first numbers of a list that is filled in front
 pub take-filled : (l z : List ℕ) (n : ℕ) (f : ℕ → ℕ) → l ≡ fill z 0 n f → n ≤ length z → take n l ≡ listTo n f

@@ -9,19 +9,17 @@ use lib.ListN.{length, getD, replicate}
 use Rattle.lists.specs.Lists.{fill, allTo}
 use Rattle.lists.proofs.Fill.{front-at, front-behind}
 use Rattle.field.specs.Field.{q, add}
-use Rattle.settings.specs.Sets.{scaleOf}
 use Rattle.settings.specs.Sizes.{keyCount, widthOf, openings, mostOpenings}
-use Rattle.settings.specs.declared.Settings.{Settings}
 use Rattle.slice.specs.Layout.{maskedIn, weights}
 use Rattle.steps.specs.Steps.{publicOf}
 use Rattle.steps.specs.Calls.{HeldAll}
 use Rattle.settings.proofs.Sizes.{openings-most}
-use Rattle.settings.specs.Settings.{paramsIn}
+use Rattle.settings.specs.Settings.{paramsIn, termsOf}
 use Rattle.state.specs.declared.Side.{Side}
 use Rattle.state.specs.State.{Whole}
 use Rattle.opening.specs.Check.{accepts}
 use Rattle.opening.specs.Opening.{partColumn, prepared, incoming, opened, passes}
-use Rattle.opening.specs.Work.{settingsIn, columnsTo, joinedAt, partAt, checkedAt}
+use Rattle.opening.specs.Work.{columnsTo, joinedAt, partAt, checkedAt}
 use Rattle.opening.proofs.Columns.{columns-at}
 
 -- ---- The numbers that the side has
@@ -36,11 +34,11 @@ prepared-holds s work z own few room e c o h l =
     rw e (columns-at _ (prepared keyCount s work) z (openings-most (paramsIn (s .settings)) (s .round) few) (widthOf keyCount) c o (omega arith) h l)
 
 -- as `take_work` asks for them
-pub holds-all : (s : Side) (work own : List ℕ) (settings : Settings) (ws : List ℕ) → settings ≡ settingsIn s → ws ≡ weights keyCount (s .number) (s .keys)
+pub holds-all : (s : Side) (work own ws : List ℕ) → ws ≡ weights keyCount (s .number) (s .keys)
     → length ws ≡ widthOf keyCount → Holds s work own
-    → HeldAll (publicOf (scaleOf (settings .set)) (settings .kind) (settings .n) (settings .bound) (maskedIn work)) (s .round) ws work own
+    → HeldAll (publicOf (termsOf (s .settings)) (maskedIn work)) (s .round) ws work own
 unfolding prepared
-holds-all s work own settings ws e f l h = rw e (λ c b o m. rw f (h c o (omega arith) m))
+holds-all s work own ws f l h = λ c b o m. rw f (h c o (omega arith) m)
 
 -- ---- The opened numbers
 

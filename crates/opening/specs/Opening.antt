@@ -8,7 +8,8 @@ use lib.ListN.{getD}
 use Rattle.lists.specs.Lists.{listTo, joinTo}
 use Rattle.settings.specs.Sizes.{openings, fieldCount}
 use Rattle.settings.specs.Settings.{paramsIn, termsOf}
-use Rattle.message.specs.Message.{headerNumber, messageOf, fieldIn}
+use Rattle.message.specs.declared.Header.{Header}
+use Rattle.message.specs.Message.{headerNumber, headerWith, messageOf, fieldIn}
 use Rattle.slice.specs.Layout.{column, ownIn, maskedIn, weights}
 use Rattle.steps.specs.Steps.{publicOf}
 use Rattle.steps.specs.Work.{openingOn}
@@ -35,10 +36,14 @@ outgoing k s work c o = cond (eqb (s .number) 0) (prepared k s work c o) (ownIn 
 
 -- ---- Send
 
+-- the header of its message
+abbrev pub ownHeader : Side → Header
+ownHeader s = headerWith (s .number) (s .settings) (s .round) (s .serial)
+
 -- "sends its share and its part under the receiver's key", "coefficient by coefficient"
 unfoldable pub message : ℕ → Side → List ℕ → List ℕ
 message k s work =
-    messageOf (headerNumber (s .number) (s .settings) (s .round) (s .serial))
+    messageOf (headerNumber (ownHeader s))
     (joinTo (openings (paramsIn (s .settings)) (s .round)) (λ (o : ℕ).
     outgoing k s work 0 o ∷ listTo k (λ (i : ℕ). outgoing k s work (partColumn k (1 - s .number) i) o)))
 

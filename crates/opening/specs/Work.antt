@@ -8,7 +8,6 @@ use Rattle.lists.specs.Lists.{fill, allTo}
 use Rattle.field.specs.Field.{q, add, mul}
 use Rattle.settings.specs.Sizes.{keyCount, mostOpenings, places}
 use Rattle.slice.specs.Layout.{inputAt}
-use Rattle.settings.specs.declared.Settings.{Settings}
 use Rattle.state.specs.declared.Side.{Side}
 use Rattle.opening.specs.Opening.{partColumn, outgoing, incoming}
 
@@ -19,10 +18,6 @@ loaded count n width inputs book work (suc c) =
     fill
     (fill (loaded count n width inputs book work c) (c * places) count (λ (i : ℕ). getD book (i * width + c) 0))
     (c * places + inputAt 0) n (λ (i : ℕ). getD inputs (i * width + c) 0)
-
--- the kept settings, as the rounds take them
-abbrev pub settingsIn : Side → Settings
-settingsIn s = record { set = s .settings .shape .set; kind = s .settings .shape .kind; n = s .settings .shape .n; bound = s .settings .bound }
 
 -- a list with `count` numbers of f in each of its first columns, column c from place 32 × c on
 unfoldable pub columnsTo : ℕ → (ℕ → ℕ → ℕ) → List ℕ → ℕ → List ℕ

@@ -7,10 +7,11 @@ ghost use Prim.Native.Nat.{ℕ, _+_, _*_, _≤_, _<_};
 ghost use lib.ListN.{length, getD};
 ghost use Rattle.lists.specs.Lists.{fill, inFront, allBelow, allTo};
 ghost use Rattle.field.specs.Field.{q};
+ghost use Rattle.settings.specs.Settings.{paramsIn};
 ghost use Rattle.settings.specs.Sizes.{keyCount, widthOf, openings, mostOpenings, mostFields, messageLength, workLength};
 ghost use Rattle.slice.specs.Layout.{ownIn, weights};
 ghost use Rattle.state.specs.State.{Whole};
-ghost use Rattle.opening.specs.Work.{loaded, settingsIn, columnsTo, fieldColumn, outgoingIn, outgoingField, inTurn, joinedAt, partAt, checkedAt};
+ghost use Rattle.opening.specs.Work.{loaded, columnsTo, fieldColumn, outgoingIn, outgoingField, inTurn, joinedAt, partAt, checkedAt};
 ghost use Rattle.opening.specs.Opening.{prepared, outgoing, message, incoming};
 use column::masked_in;
 use column::prepare;
@@ -33,11 +34,8 @@ use settings::PLACES;
 use state::Side;
 use steps::Column;
 use steps::Known;
-use settings::Settings;
 
-// The numbers of a working slice: a column for each number of a shared number. And of a side's numbers for a round's openings.
-pub const WORK_LENGTH: usize = WIDTH * PLACES;
-
+// The numbers of a side for a round's openings, in all columns.
 pub const OWN_LENGTH: usize = WIDTH * MOST_OPENINGS;
 
 // ---- Begin: the working slice
@@ -80,18 +78,6 @@ pub fn load_columns(work: &mut [u32], book: &[u32], count: usize, inputs: &[u32]
 
 // ---- What a side has for the openings of its round
 
-// The kept settings, as the rounds take them.
-pub fn settings_of(side: Side) -> Settings
-    ensures { λ r. ⌜ r ≡ settingsIn side ⌝ }
-{
-    Settings {
-        set: side.set as usize,
-        kind: side.kind,
-        n: side.n as usize,
-        bound: side.bound,
-    }
-}
-
 // What a public 1 adds to each column.
 pub fn weights_of(side: Side) -> [u32; WIDTH]
     ensures { λ r. ⌜ r ≡ weights keyCount (side .number) (side .keys) ⌝ }
@@ -111,8 +97,9 @@ fn prepare_column(out: &mut [u32], work: &[u32], side: Side, column: usize)
     ensures { λ _. ⌜ now (out .exit) ≡ fill (now (out .entry)) 0 (openings (paramsIn (side .settings)) (side .round)) (prepared keyCount side (now (work .entry)) column) ⌝ }
 {
     let weights = weights_of(side);
+    let settings = side.settings;
     let known = Known {
-        settings: settings_of(side),
+        settings,
         round: side.round,
         masked: masked_in(work),
     };
@@ -134,7 +121,7 @@ fn outgoing_column(out: &mut [u32], work: &[u32], side: Side, column: usize)
     if side.number == 0 {
         prepare_column(out, work, side, column);
     } else {
-        let count = openings_in(side.kind, side.n, side.round) as usize;
+        let count = openings_in(side.settings.shape, side.round) as usize;
         own_column(out, work, column, count);
     }
 }
@@ -210,18 +197,10 @@ pub fn write_message(side: Side, work: &[u32], out: &mut [u8]) -> usize
     requires { ⌜ (length (now work) ≡ workLength keyCount) × (allBelow q (now work) ≡ true) × (messageLength keyCount (paramsIn (side .settings)) (side .round) ≤ length (now out)) ⌝ }
     ensures { λ r. ⌜ (r ≡ messageLength keyCount (paramsIn (side .settings)) (side .round)) × (now (out .exit) ≡ inFront (message keyCount side (now (work .entry))) (now (out .entry))) ⌝ }
 {
-    let count = openings_in(side.kind, side.n, side.round) as usize;
+    let count = openings_in(side.settings.shape, side.round) as usize;
     let mut fields = [0u32; MOST_FIELDS];
     outgoing_fields(&mut fields, work, side, count);
-    let header = Header::new(
-        side.number,
-        side.set,
-        side.kind,
-        side.n,
-        side.round,
-        side.bound,
-        side.serial,
-    );
+    let header = Header::new(side.number, side.settings, side.round, side.serial);
     put_message(out, header, &fields[..FIELDS_PER_OPENING * count])
 }
 
@@ -251,7 +230,7 @@ fn field_in(message: &[u8], side: Side, o: usize, f: usize) -> u32
     requires { ⌜ (side .settings .shape .n ≤ 8) × (o < openings (paramsIn (side .settings)) (side .round)) × (f < 1 + keyCount) ⌝ }
     ensures { λ r. ⌜ r ≡ incoming keyCount side (now (message .entry)) o f ⌝ }
 {
-    let fields = field_count(side.kind, side.n, side.round);
+    let fields = field_count(side.settings.shape, side.round);
     field_of(message, fields, o * FIELDS_PER_OPENING + f)
 }
 
@@ -261,7 +240,7 @@ pub fn join_shares(opened: &mut [u32], own: &[u32], side: Side, message: &[u8])
     requires { ⌜ (side .settings .shape .n ≤ 8) × (length (now own) ≡ mostOpenings * widthOf keyCount) × (length (now opened) ≡ mostOpenings) ⌝ }
     ensures { λ _. ⌜ now (opened .exit) ≡ fill (now (opened .entry)) 0 (openings (paramsIn (side .settings)) (side .round)) (joinedAt side (now (own .entry)) (now (message .entry))) ⌝ }
 {
-    let count = openings_in(side.kind, side.n, side.round) as usize;
+    let count = openings_in(side.settings.shape, side.round) as usize;
     let mut o = 0;
     while o < count {
         opened[o] = add_mod(own[o], field_in(message, side, o, 0));
@@ -305,7 +284,7 @@ pub fn checks_pass(opened: &[u32], own: &[u32], side: Side, message: &[u8]) -> b
     requires { ⌜ (side .number < 2) × (side .settings .shape .n ≤ 8) × (length (now own) ≡ mostOpenings * widthOf keyCount) × (length (now opened) ≡ mostOpenings) ⌝ }
     ensures { λ r. ⌜ r ≡ allTo (openings (paramsIn (side .settings)) (side .round)) (checkedAt side (now (own .entry)) (now (message .entry)) (now (opened .entry))) ⌝ }
 {
-    let count = openings_in(side.kind, side.n, side.round) as usize;
+    let count = openings_in(side.settings.shape, side.round) as usize;
     let mut o = 0;
     while o < count {
         if !check_passes(opened, own, side, message, o) {
