@@ -49,6 +49,10 @@ message k s work =
 
 -- ---- Take
 
+-- "Header equal to mine, with the other sender"
+abbrev pub dueHeader : Side → Header
+dueHeader s = headerWith (1 - s .number) (s .settings) (s .round) (s .serial)
+
 -- field f of opening o of a message
 unfoldable pub incoming : ℕ → Side → List ℕ → ℕ → ℕ → ℕ
 incoming k s msg o f = fieldIn (fieldCount k (paramsIn (s .settings)) (s .round)) msg (o * (1 + k) + f)

@@ -29,6 +29,7 @@ use Rattle.state.specs.State.{heldAnswer, finished, countCall}
 use Rattle.side.specs.Side.{begunSide}
 use Rattle.settings.specs.declared.Settings.{Settings}
 use Rattle.settings.specs.Questions.{settingsOk}
+use Rattle.settings.specs.Settings.{paramsIn, termsOf}
 use Rattle.runs.specs.Records.{answerOf, Hand}
 use Rattle.runs.specs.Demands.{Secret, Possible, Ended, Demand2, FipsHigh, ownHand, otherHand}
 use Rattle.runs.specs.Progress.{sideAt, seatAt, worldAt}
@@ -62,7 +63,7 @@ high-parts set l (x ∷ xs) e =
 pub fips-high : FipsHigh
 unfolding answerOf
 fips-high s secret e kind x =
-    rw kind (high-parts (s .set) (ltb-true (s .set) 2 (allowed s e .set-bit)) secret (x .below))
+    rw kind (high-parts (s .shape .set) (ltb-true (s .shape .set) 2 (allowed s e .set-bit)) secret (x .below))
 
 -- ---- What T2 asks
 
@@ -79,20 +80,20 @@ unfolding allTo
 gaps-fit n l = leb-true (q % (n + 1)) (gap q n) (allTo-at 9 (λ (i : ℕ). leb (q % (i + 1)) (gap q i)) n refl l)
 
 pub sound : (k : ℕ) (s : Settings) (secret draw : List ℕ) → Sizes → settingsOk s ≡ true → Secret s secret → Possible k s draw
-    → Sound (scaleOf (s .set)) (s .kind) (s .n) (s .bound) k draw secret
+    → Sound (termsOf s) k draw secret
 sound k s secret draw z e x d =
     let a = allowed s e in
-    let b = bound-some (eqb (s .kind) 0) (s .bound) (a .bound) in
-    let set-is : s .set < 2 = ltb-true (s .set) 2 (a .set-bit) in
-    let n-most : s .n ≤ 8 = leb-true (s .n) 8 (both-yes (leb 1 (s .n)) (leb (s .n) 8) (a .count) .1) in
+    let b = bound-some (eqb (s .shape .kind) 0) (s .bound) (a .bound) in
+    let set-is : s .shape .set < 2 = ltb-true (s .shape .set) 2 (a .set-bit) in
+    let n-most : s .shape .n ≤ 8 = leb-true (s .shape .n) 8 (both-yes (leb 1 (s .shape .n)) (leb (s .shape .n) 8) (a .count) .1) in
     record {
-      lawful = lawful (s .set) set-is;
-      kinds = ltb-true (s .kind) 2 (a .kind-bit);
+      lawful = lawful (s .shape .set) set-is;
+      kinds = ltb-true (s .shape .kind) 2 (a .kind-bit);
       counts = a .count;
       bounds = b .0;
       halves = b .1;
-      room = z .at-most (s .set) (s .kind) (s .n) set-is n-most;
-      gaps = gaps-fit (s .n) (omega arith);
+      room = z .at-most (s .shape .set) (s .shape .kind) (s .shape .n) set-is n-most;
+      gaps = gaps-fit (s .shape .n) (omega arith);
       secret-size = x .size-is;
       secret-below = λ j. below-at q secret j (omega arith) (x .below);
       draw-size = d .size-is;
@@ -108,12 +109,12 @@ front-list n xs ys e =
     (listTo-cong (length xs) (λ (j : ℕ). getD (xs ++ ys) j 0) (λ (j : ℕ). getD xs j 0) (λ j l. List·getD-append xs ys 0 j l) ∙ listTo-getD xs)
 
 module _ (k : ℕ) (s : Settings) (serial : ℕ) (numbers : ℕ → List ℕ) where
-  held-at : (h : Hand) → Which h → length (numbers (rounds - 1)) ≡ openings (s .kind) (s .n) rounds → heldAnswer (sideAt k s serial numbers h steps) ≡ numbers (rounds - 1)
+  held-at : (h : Hand) → Which h → length (numbers (rounds - 1)) ≡ openings (paramsIn s) rounds → heldAnswer (sideAt k s serial numbers h steps) ≡ numbers (rounds - 1)
   unfolding sideAt begunSide openings
   held-at _ server e = front-list _ (numbers (rounds - 1)) (drop (length (numbers (rounds - 1))) (replicate 8 0)) e
   held-at _ phone e = front-list _ (numbers (rounds - 1)) (drop (length (numbers (rounds - 1))) (replicate 8 0)) e
 
-  ended-at : (h : Hand) → Which h → Terms s serial h → (secret : List ℕ) → numbers (rounds - 1) ≡ answerOf s secret → length (numbers (rounds - 1)) ≡ openings (s .kind) (s .n) rounds
+  ended-at : (h : Hand) → Which h → Terms s serial h → (secret : List ℕ) → numbers (rounds - 1) ≡ answerOf s secret → length (numbers (rounds - 1)) ≡ openings (paramsIn s) rounds
       → Ended s secret (seatAt k s serial numbers h steps)
   unfolding seatAt
   ended-at h u t secret e l =
@@ -123,22 +124,22 @@ module _ (k : ℕ) (s : Settings) (serial : ℕ) (numbers : ℕ → List ℕ) wh
       done-at h server t = finished-at k s serial numbers h (omega arith) t steps (omega arith)
       done-at h phone t = finished-at k s serial numbers h (omega arith) t steps (omega arith)
 
-      opened-at : (h : Hand) → Which h → Terms s serial h → countCall (sideAt k s serial numbers h steps) ≡ openingsUpTo (s .kind) (s .n) rounds
+      opened-at : (h : Hand) → Which h → Terms s serial h → countCall (sideAt k s serial numbers h steps) ≡ openingsUpTo (paramsIn s) rounds
       opened-at h server t = count-at k s serial numbers h (omega arith) t steps (omega arith)
       opened-at h phone t = count-at k s serial numbers h (omega arith) t steps (omega arith)
 
 opened-size : (s : Settings) (width : ℕ) (draw secret : List ℕ)
-    → length (plainOpened (scaleOf (s .set)) (s .kind) (s .n) (s .bound) width draw secret (rounds - 1)) ≡ openings (s .kind) (s .n) rounds
+    → length (plainOpened (termsOf s) width draw secret (rounds - 1)) ≡ openings (paramsIn s) rounds
 unfolding plainOpened openedFrom
 opened-size s width draw secret = length-listFrom 0 _ _
 
 pub demand2 : (k : ℕ) → T3 k → T2 → Sizes → Demand2 k
 unfolding worldAt answerOf
 demand2 k progress t2 z s serial keys0 keys1 f secret inputs draw x y d w i calls e =
-    let numbers : ℕ → List ℕ = plainOpened (scaleOf (s .set)) (s .kind) (s .n) (s .bound) (widthOf k) draw secret in
+    let numbers : ℕ → List ℕ = plainOpened (termsOf s) (widthOf k) draw secret in
     let h : Hand = ownHand k s 0 keys0 keys1 inputs draw in
     let o : Hand = otherHand k s 0 keys0 keys1 inputs secret draw in
-    let a : numbers (rounds - 1) ≡ answerOf s secret = t2 .answer (scaleOf (s .set)) (s .kind) (s .n) (s .bound) k draw secret (sound k s secret draw z (f .settings) x d) in
+    let a : numbers (rounds - 1) ≡ answerOf s secret = t2 .answer (termsOf s) k draw secret (sound k s secret draw z (f .settings) x d) in
     let l = opened-size s (widthOf k) draw secret in
     rw (progress s serial keys0 keys1 f 0 (omega arith) secret inputs draw x y d w i calls, carried k s calls e) (
       ended-at k s serial numbers h server (terms k s serial keys0 keys1 f 0 (omega arith) draw inputs) secret a l,

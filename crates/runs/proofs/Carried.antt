@@ -13,6 +13,7 @@ use Rattle.lists.proofs.Questions.{both-yes}
 use Rattle.settings.specs.Order.{rounds, steps, goesOn, roundAfter, sendsAfter, takenBy, sendStep, takeStep}
 use Rattle.settings.specs.Sizes.{messageLength}
 use Rattle.settings.specs.declared.Settings.{Settings}
+use Rattle.settings.specs.Settings.{paramsIn}
 use Rattle.runs.specs.Records.{Call, Who, Move}
 use Rattle.runs.specs.Records.Who.{mine, theirs}
 use Rattle.runs.specs.Records.Call.{begin, send, takeLatest, answer, count}
@@ -63,7 +64,7 @@ module _ (k : ℕ) (s : Settings) (number : ℕ) where
   next-same heard heard′ _ _ zero l (sends r) = omega arith
   next-same heard heard′ _ _ (suc m) l (sends {out} {out′} r) =
       onward-more (sendsAfter number m) (goesOn m) (roomFor k s (roundAfter m) (length out)) (roomFor k s (roundAfter m) (length out′)) (suc m)
-      (λ e. le-leb (messageLength k (s .kind) (s .n) (roundAfter m)) (length out′) (omega (arith, leb-true (messageLength k (s .kind) (s .n) (roundAfter m)) (length out) e)))
+      (λ e. le-leb (messageLength k (paramsIn s) (roundAfter m)) (length out′) (omega (arith, leb-true (messageLength k (paramsIn s) (roundAfter m)) (length out) e)))
   next-same heard heard′ _ _ zero l takes = omega arith
   next-same heard heard′ _ _ (suc m) l takes =
       onward-more (not (sendsAfter number m)) (goesOn m) (ltb (takenBy number m) heard) (ltb (takenBy number m) heard′) (suc m)
@@ -157,7 +158,7 @@ module _ (k : ℕ) (s : Settings) where
 
   enough : (round : ℕ) → roomFor k s round (length (outFor k s round)) ≡ true
   enough round =
-      let n : ℕ = messageLength k (s .kind) (s .n) round in
+      let n : ℕ = messageLength k (paramsIn s) round in
       le-leb n (length (replicate {A = ℕ} n 0)) (omega (arith, length-replicate {A = ℕ} n 0))
 
   -- a step that is due is made

@@ -10,7 +10,6 @@ use borrow.Author.Tests.{ne-eqb, le-ltb}
 use Rattle.lists.specs.Answers.{ask}
 use Rattle.lists.specs.Lists.{allTo, allBelow}
 use Rattle.field.specs.Field.{q}
-use Rattle.settings.specs.Sets.{scaleOf}
 use Rattle.settings.specs.Sizes.{widthOf, openings, messageLength, workLength}
 use Rattle.settings.specs.Questions.{askSettings}
 use Rattle.message.specs.Message.{askForm}
@@ -20,6 +19,7 @@ use Rattle.state.specs.State.{sendDue, takeDue}
 use Rattle.opening.specs.Opening.{message, passes}
 use Rattle.side.specs.Side.{handedNo, beginNo, beginCall, begunSide, sendNo, sendCall, sentSide, takeNo, takeCall, takenSide, openedList}
 use Rattle.settings.specs.declared.Settings.{Settings}
+use Rattle.settings.specs.Settings.{paramsIn, termsOf}
 use Rattle.runs.specs.Records.{Hand, Seat, Event, Outcome, outcome}
 use Rattle.runs.specs.Records.Call.{begin, send, takeLatest}
 use Rattle.runs.specs.Records.Event.{began, sent, took, answered, counted}
@@ -47,13 +47,13 @@ ask-in b n e = rw e refl
 -- what the begin of hand h answers at a seat, and what each call leaves there when it goes through
 abbrev pub beginNoAt : ℕ → Settings → ℕ → Hand → Seat → ℕ
 beginNoAt k s serial h x =
-    beginNo k (x .side) (h .number) (s .set) (s .kind) (s .n) (s .bound) (h .keys) serial (h .inputs) (h .book) (x .work)
+    beginNo k (x .side) (h .number) s (h .keys) serial (h .inputs) (h .book) (x .work)
 
 abbrev pub begunSeat : ℕ → Settings → ℕ → Hand → Seat → Seat
 begunSeat k s serial h x =
     record {
-      side = begunSide (h .number) (s .set) (s .kind) (s .n) (s .bound) (h .keys) serial;
-      work = begunWork (scaleOf (s .set)) (s .kind) (s .n) (widthOf k) (h .inputs) (h .book);
+      side = begunSide (runOf s serial h);
+      work = begunWork (paramsIn s) (widthOf k) (h .inputs) (h .book);
       latest = x .latest;
     }
 
@@ -64,7 +64,7 @@ abbrev pub takenSeat : ℕ → Seat → List ℕ → Seat
 takenSeat k x numbers =
     record {
       side = takenSide (x .side) numbers;
-      work = takenWork (scaleOf (x .side .set)) (x .side .kind) (x .side .n) (x .side .bound) (x .side .round) (λ (o : ℕ). getD numbers o 0)
+      work = takenWork (termsOf (x .side .settings)) (x .side .round) (λ (o : ℕ). getD numbers o 0)
           (weights k (x .side .number) (x .side .keys)) (x .work);
       latest = x .latest;
     }
@@ -138,13 +138,13 @@ pub record Sound (k : ℕ) (x : Seat) : Type 0 where
 
 module _ (k : ℕ) (x : Seat) (v : Sound k x) where
   pub send-due : (out : List ℕ) → sendDue (x .side) ≡ true
-      → sendNo k (x .side) (x .work) out ≡ ask (leb (messageLength k (x .side .kind) (x .side .n) (x .side .round)) (length out)) 9 0
+      → sendNo k (x .side) (x .work) out ≡ ask (leb (messageLength k (paramsIn (x .side .settings)) (x .side .round)) (length out)) 9 0
   unfolding sendNo ask
   send-due out e = rw (e, v .exact, v .low)
 
   pub take-due : (m : List ℕ) → takeDue (x .side) ≡ true
       → takeNo k (x .side) (x .work) m
-      ≡ askForm k (x .side .number) (x .side .set) (x .side .kind) (x .side .n) (x .side .bound) (x .side .round) (x .side .serial) m
-      (ask (allTo (openings (x .side .kind) (x .side .n) (x .side .round)) (passes k (x .side) (x .work) m)) 13 0)
+      ≡ askForm k (x .side .number) (x .side .settings) (x .side .round) (x .side .serial) m
+      (ask (allTo (openings (paramsIn (x .side .settings)) (x .side .round)) (passes k (x .side) (x .work) m)) 13 0)
   unfolding takeNo ask
   take-due m e = rw (e, v .exact, v .low)

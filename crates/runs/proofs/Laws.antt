@@ -10,6 +10,7 @@ use borrow.Author.Tests.{ne-eqb, eqb-true}
 use Rattle.lists.specs.Lists.{joinFrom}
 use Rattle.lists.proofs.Lists.{length-listFrom}
 use Rattle.settings.specs.Sizes.{bytesFor, openings, messageBits, fieldCount, messageLength}
+use Rattle.settings.specs.Settings.{paramsIn}
 use Rattle.message.specs.Bits.{packed}
 use Rattle.message.specs.Message.{messageOf, headerIn, headerNumber}
 use Rattle.opening.specs.Opening.{message}
@@ -25,10 +26,10 @@ length-join i (suc n) w f e =
     mul-next w n = omega arith
 
 -- a message is as long as its round asks
-pub message-sized : (k : ℕ) (s : Side) (work : List ℕ) → length (message k s work) ≡ messageLength k (s .kind) (s .n) (s .round)
+pub message-sized : (k : ℕ) (s : Side) (work : List ℕ) → length (message k s work) ≡ messageLength k (paramsIn s) (s .round)
 unfolding message messageOf packed messageLength
 message-sized k s work =
-    length-listFrom 0 _ _ ∙ ap (λ f. bytesFor (messageBits f)) (length-join 0 (openings (s .kind) (s .n) (s .round)) (1 + k) _
+    length-listFrom 0 _ _ ∙ ap (λ f. bytesFor (messageBits f)) (length-join 0 (openings (paramsIn s) (s .round)) (1 + k) _
     (λ j. ap suc (length-listFrom 0 k _) ∙ add-one k))
   where
     add-one : (k : ℕ) → suc k ≡ 1 + k

@@ -22,6 +22,7 @@ use Rattle.opening.specs.Opening.{partColumn, prepared, incoming, opened, passe
 use Rattle.side.specs.Side.{begunSide, openedList}
 use Rattle.settings.specs.declared.Settings.{Settings}
 use Rattle.settings.specs.Questions.{settingsOk}
+use Rattle.settings.specs.Settings.{paramsIn}
 use Rattle.runs.specs.Records.{Hand}
 use Rattle.runs.specs.Progress.{workAt, sideAt, seatAt, messageAt}
 use Rattle.runs.specs.Honest.{Meets}
@@ -39,8 +40,8 @@ pub record Facing (k : ℕ) (s : Settings) (serial : ℕ) (numbers : ℕ → Lis
   pub unit : getD factors 0 0 ≡ 1
   pub keyed : (i : ℕ) → i < k → getD factors (partColumn k (h .number) i) 0 ≡ getD (h .keys) i 0
   -- the numbers are the plain openings
-  pub opens : (R : ℕ) → numbers R ≡ listTo (openings (s .kind) (s .n) (suc R)) (plain R)
-  pub low : (R j : ℕ) → j < openings (s .kind) (s .n) (suc R) → plain R j < q
+  pub opens : (R : ℕ) → numbers R ≡ listTo (openings (paramsIn s) (suc R)) (plain R)
+  pub low : (R j : ℕ) → j < openings (paramsIn s) (suc R) → plain R j < q
 
 module _ (t : T1Work) (m : RoundTrip) (k : ℕ) (s : Settings) (serial : ℕ) (numbers : ℕ → List ℕ) (factors : List ℕ) (plain : ℕ → ℕ → ℕ) (h o : Hand)
     (e : settingsOk s ≡ true) (f : serial < 4294967296) (v : Facing k s serial numbers factors plain h o) where
@@ -54,12 +55,12 @@ module _ (t : T1Work) (m : RoundTrip) (k : ℕ) (s : Settings) (serial : ℕ) (n
   came R = messageAt k s serial numbers o (suc R)
 
   -- field x of opening j, as the receiver reads it
-  incoming-is : (R : ℕ) → R < rounds → (j x : ℕ) → j < openings (s .kind) (s .n) (suc R) → x < 1 + k
+  incoming-is : (R : ℕ) → R < rounds → (j x : ℕ) → j < openings (paramsIn s) (suc R) → x < 1 + k
       → incoming k (side R) (came R) j x ≡ getD (piece k s serial numbers o R j) x 0
   unfolding incoming sideAt begunSide seatAt
   incoming-is R r j x l b = rw (at-take k s serial numbers h R (v .own .which) r .round) (field-read k s serial numbers t m e f o (v .other) R r j x l b)
 
-  opened-is : (R : ℕ) → R < rounds → (j : ℕ) → j < openings (s .kind) (s .n) (suc R) → opened k (side R) (work R) (came R) j ≡ plain R j
+  opened-is : (R : ℕ) → R < rounds → (j : ℕ) → j < openings (paramsIn s) (suc R) → opened k (side R) (work R) (came R) j ≡ plain R j
   unfolding opened
   opened-is R r j l =
       rw (prepared-is k s serial numbers h R (v .own .which) r 0 j, incoming-is R r j 0 l (omega arith))
@@ -73,7 +74,7 @@ module _ (t : T1Work) (m : RoundTrip) (k : ℕ) (s : Settings) (serial : ℕ) (n
       by (suc zero) u = omega arith
       by (suc (suc n)) u = absurd (omega arith)
 
-  part-is : (R : ℕ) → R < rounds → (j i : ℕ) → j < openings (s .kind) (s .n) (suc R) → i < k
+  part-is : (R : ℕ) → R < rounds → (j i : ℕ) → j < openings (paramsIn s) (suc R) → i < k
       → incoming k (side R) (came R) j (1 + i) ≡ sharing k s serial numbers o R (partColumn k (h .number) i) j
   part-is R r j i l b =
       let z : 1 + i ≡ suc i = omega arith in
@@ -84,24 +85,24 @@ module _ (t : T1Work) (m : RoundTrip) (k : ℕ) (s : Settings) (serial : ℕ) (n
       ∙ ap (λ (x : ℕ). sharing k s serial numbers o R (partColumn k x i) j) y
 
   -- "the two parts under my key add to my key × the joined number"
-  pass-part : (R : ℕ) → R < rounds → (j i : ℕ) → j < openings (s .kind) (s .n) (suc R) → i < k
+  pass-part : (R : ℕ) → R < rounds → (j i : ℕ) → j < openings (paramsIn s) (suc R) → i < k
       → add q (prepared k (side R) (work R) (partColumn k (h .number) i) j) (incoming k (side R) (came R) j (1 + i))
       ≡ mul q (getD (h .keys) i 0) (opened k (side R) (work R) (came R) j)
   pass-part R r j i l b =
       rw (prepared-is k s serial numbers h R (v .own .which) r (partColumn k (h .number) i) j, part-is R r j i l b, opened-is R r j l, ← v .keyed i b)
       (v .adds R (partColumn k (h .number) i) j (own-column i b) .total .path)
 
-  all-pass : (R : ℕ) → R < rounds → allTo (openings (s .kind) (s .n) (suc R)) (passes k (side R) (work R) (came R)) ≡ true
+  all-pass : (R : ℕ) → R < rounds → allTo (openings (paramsIn s) (suc R)) (passes k (side R) (work R) (came R)) ≡ true
   unfolding passes accepts opened sideAt begunSide
   all-pass R r =
-      allTo-yes (openings (s .kind) (s .n) (suc R)) (passes k (side R) (work R) (came R))
+      allTo-yes (openings (paramsIn s) (suc R)) (passes k (side R) (work R) (came R))
       (λ j l. allTo-yes k _ (λ i b. eq-eqb _ _ (pass-part R r j i l b)))
 
   all-open : (R : ℕ) → R < rounds → openedList k (side R) (work R) (came R) ≡ numbers R
   unfolding openedList sideAt begunSide seatAt
   all-open R r =
-      ap (λ (round : ℕ). listTo (openings (s .kind) (s .n) round) (opened k (side R) (work R) (came R))) (at-take k s serial numbers h R (v .own .which) r .round)
-      ∙ listTo-cong (openings (s .kind) (s .n) (suc R)) (opened k (side R) (work R) (came R)) (plain R) (opened-is R r)
+      ap (λ (round : ℕ). listTo (openings (paramsIn s) round) (opened k (side R) (work R) (came R))) (at-take k s serial numbers h R (v .own .which) r .round)
+      ∙ listTo-cong (openings (paramsIn s) (suc R)) (opened k (side R) (work R) (came R)) (plain R) (opened-is R r)
       ∙ sym (v .opens R)
 
   pub meets : Meets k s serial numbers h (messageAt k s serial numbers o)

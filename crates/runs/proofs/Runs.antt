@@ -9,7 +9,6 @@ use lib.Seq.{getD-append-add}
 use Rattle.lists.specs.Lists.{listTo}
 use Rattle.field.specs.Field.{q}
 use Rattle.field.specs.Forms.{Adds}
-use Rattle.settings.specs.Sets.{scaleOf}
 use Rattle.settings.specs.Sizes.{widthOf, openings, shared}
 use Rattle.message.specs.Theorems.{RoundTrip}
 use Rattle.book.specs.Deal.{multipliers}
@@ -21,6 +20,7 @@ use Rattle.column.specs.Run.{openedFrom, plainAfter, plainOpened}
 use Rattle.column.specs.Theorems.{T1Work}
 use Rattle.opening.specs.Opening.{partColumn}
 use Rattle.settings.specs.declared.Settings.{Settings}
+use Rattle.settings.specs.Settings.{paramsIn, termsOf}
 use Rattle.runs.specs.Records.{Hand, handOf, missing}
 use Rattle.runs.specs.Demands.{Fixed, Numbers, Secret, Shares, Possible, ownHand, otherHand}
 use Rattle.runs.specs.Progress.{workAt, messageAt}
@@ -47,13 +47,13 @@ second-keys keys0 keys1 k i e =
 -- opening j of round R + 1 in the plain run
 abbrev pub plainOpening : ℕ → Settings → List ℕ → List ℕ → ℕ → ℕ → ℕ
 plainOpening k s draw secret R j =
-    let work : List ℕ = plainAfter (scaleOf (s .set)) (s .kind) (s .n) (s .bound) (widthOf k) draw secret R in
-    openingOn (publicOf (scaleOf (s .set)) (s .kind) (s .n) (s .bound) (maskedIn work)) (suc R) 1 (column work 0) j
+    let work : List ℕ = plainAfter (termsOf s) (widthOf k) draw secret R in
+    openingOn (publicOf (termsOf s) (maskedIn work)) (suc R) 1 (column work 0) j
 
 module _ (t : T1Work) (b : Laws) (k : ℕ) (s : Settings) (serial : ℕ)
     (keys0 keys1 secret draw inA inB : List ℕ) (g : Joint k s serial keys0 keys1 secret draw inA inB) where
   abbrev numbers : ℕ → List ℕ
-  numbers R = plainOpened (scaleOf (s .set)) (s .kind) (s .n) (s .bound) (widthOf k) draw secret R
+  numbers R = plainOpened (termsOf s) (widthOf k) draw secret R
 
   abbrev A : Hand
   A = handOf k s 0 keys0 keys1 draw inA
@@ -62,7 +62,7 @@ module _ (t : T1Work) (b : Laws) (k : ℕ) (s : Settings) (serial : ℕ)
   B = handOf k s 1 keys0 keys1 draw inB
 
   abbrev column-at : ℕ → List ℕ
-  column-at R = plainAfter (scaleOf (s .set)) (s .kind) (s .n) (s .bound) (widthOf k) draw secret R
+  column-at R = plainAfter (termsOf s) (widthOf k) draw secret R
 
   z : Slices k s serial numbers column-at keys0 keys1 A B
   z = slices t b k s serial keys0 keys1 secret draw inA inB g
@@ -76,14 +76,14 @@ module _ (t : T1Work) (b : Laws) (k : ℕ) (s : Settings) (serial : ℕ)
   unfolding sharing
   shares-add R c j l =
       rw (g .fixed .server-count) at
-      (t .opening (scaleOf (s .set)) (s .kind) (s .n) (s .bound) keys0 keys1 _ _ (column-at R) (omega arith) (g .fixed .server-count ∙ sym (g .fixed .phone-count))
+      (t .opening (termsOf s) keys0 keys1 _ _ (column-at R) (omega arith) (g .fixed .server-count ∙ sym (g .fixed .phone-count))
       (z .joined R) (suc R) c j (omega (arith, length-append keys0 keys1, g .fixed .server-count, g .fixed .phone-count)))
 
-  opens-plain : (R : ℕ) → numbers R ≡ listTo (openings (s .kind) (s .n) (suc R)) (plain R)
+  opens-plain : (R : ℕ) → numbers R ≡ listTo (openings (paramsIn s) (suc R)) (plain R)
   unfolding plainOpened openedFrom
   opens-plain R = refl
 
-  plain-below : (R j : ℕ) → j < openings (s .kind) (s .n) (suc R) → plain R j < q
+  plain-below : (R j : ℕ) → j < openings (paramsIn s) (suc R) → plain R j < q
   plain-below R j l =
       opening-below t s (suc R) (1 ∷ []) (column-at R) (z .fair-a .most) (z .fair-a .some) (omega (arith, z .joined R .exact)) (z .plain-low R) 0 j (omega arith) l
 
@@ -114,7 +114,7 @@ module _ (t : T1Work) (b : Laws) (k : ℕ) (s : Settings) (serial : ℕ)
       }
 
   side-runs : RoundTrip → (h o : Hand) → Facing k s serial numbers (multipliers keys0 keys1) plain h o → Shares k s (h .inputs)
-      → Numbers (shared (scaleOf (s .set)) (s .kind) (s .n) * widthOf k) (h .book) → SideRuns k s serial numbers h (messageAt k s serial numbers o)
+      → Numbers (shared (paramsIn s) * widthOf k) (h .book) → SideRuns k s serial numbers h (messageAt k s serial numbers o)
   side-runs m h o v ins bk =
       record {
         exact = λ R l. v .own .exact R;
@@ -144,7 +144,7 @@ module _ (k : ℕ) (s : Settings) (serial : ℕ) (keys0 keys1 : List ℕ) (f : F
   abbrev rest : List ℕ
   rest = missing (widthOf k) (multipliers keys0 keys1) secret inputs
 
-  rest-adds : (j c : ℕ) → j < s .n → c < widthOf k
+  rest-adds : (j c : ℕ) → j < s .shape .n → c < widthOf k
       → Adds q (getD (multipliers keys0 keys1) c 0) (getD inputs (j * widthOf k + c) 0) (getD rest (j * widthOf k + c) 0) (getD secret j 0)
   rest-adds j c h i = missing-adds (widthOf k) (multipliers keys0 keys1) secret inputs j c (omega (arith, x .size-is)) i
 
@@ -170,7 +170,7 @@ pub facing : (k : ℕ) → T1Work → Laws
     → (s : Settings) (serial : ℕ) (keys0 keys1 : List ℕ) → Fixed k s serial keys0 keys1
     → (number : ℕ) → number < 2
     → (secret inputs draw : List ℕ) → Secret s secret → Shares k s inputs → Possible k s draw
-    → Facing k s serial (plainOpened (scaleOf (s .set)) (s .kind) (s .n) (s .bound) (widthOf k) draw secret) (multipliers keys0 keys1)
+    → Facing k s serial (plainOpened (termsOf s) (widthOf k) draw secret) (multipliers keys0 keys1)
     (plainOpening k s draw secret) (ownHand k s number keys0 keys1 inputs draw) (otherHand k s number keys0 keys1 inputs secret draw)
 facing k t b s serial keys0 keys1 f zero l secret inputs draw x y d =
     facing-a t b k s serial keys0 keys1 secret draw _ _ (server-own k s serial keys0 keys1 f secret inputs draw x y d)

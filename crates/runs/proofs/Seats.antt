@@ -20,6 +20,7 @@ use Rattle.side.specs.Side.{begunSide, sentSide, takenSide}
 use Rattle.state.specs.declared.Phase.{Phase}
 use Rattle.state.specs.declared.Phase.the-variants.{Sending, Taking, Finished}
 use Rattle.settings.specs.declared.Settings.{Settings}
+use Rattle.settings.specs.Settings.{paramsIn}
 use Rattle.runs.specs.Records.{Hand, Seat}
 use Rattle.runs.specs.Progress.{workAt, answerAt, sideAt, messageAt, seatAt}
 use Rattle.runs.proofs.Laws.{message-sized}
@@ -42,9 +43,9 @@ pub data Stage (number : ℕ) : ℕ → Type 0 where
 
 -- what the kept fields must be
 pub record Terms (s : Settings) (serial : ℕ) (h : Hand) : Type 0 where
-  pub bits : (isBit (h .number) && isBit (s .set) && isBit (s .kind)) ≡ true
-  pub count : countOk (s .n) ≡ true
-  pub bound : boundOk (s .kind) (s .bound) ≡ true
+  pub bits : (isBit (h .number) && isBit (s .shape .set) && isBit (s .shape .kind)) ≡ true
+  pub count : countOk (s .shape .n) ≡ true
+  pub bound : boundOk (s .shape .kind) (s .bound) ≡ true
   pub keys-ok : keysOk (h .keys) ≡ true
   pub above : leb 1 serial ≡ true
 
@@ -85,7 +86,7 @@ module _ (k : ℕ) (s : Settings) (serial : ℕ) (numbers : ℕ → List ℕ) wh
   -- its steps are read off it
   pub step-is : (h : Hand) → h .number < 2 → (m : ℕ) → m ≤ steps → stepOf (sideAt k s serial numbers h m) ≡ m
   unfolding sideAt begunSide
-  step-is h u m l = step-at (begunSide (h .number) (s .set) (s .kind) (s .n) (s .bound) (h .keys) serial) m _ u l
+  step-is h u m l = step-at (begunSide (runOf s serial h)) m _ u l
 
   -- a side at its sending step of round R + 1
   pub record AtSend (h : Hand) (R : ℕ) : Type 0 where
@@ -153,7 +154,7 @@ module _ (k : ℕ) (s : Settings) (serial : ℕ) (numbers : ℕ → List ℕ) wh
   at-end h = phase-ended (h .number)
 
   -- its messages are as long as their round asks
-  pub said-sized : (h : Hand) (R : ℕ) → Which h → R < rounds → length (said h (suc R)) ≡ messageLength k (s .kind) (s .n) (suc R)
+  pub said-sized : (h : Hand) (R : ℕ) → Which h → R < rounds → length (said h (suc R)) ≡ messageLength k (paramsIn s) (suc R)
   unfolding seatAt sideAt begunSide
   said-sized h R u r =
       rw (← at-send h R u r .message-is, ← at-send h R u r .round)

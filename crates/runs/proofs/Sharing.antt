@@ -14,7 +14,6 @@ use Rattle.lists.proofs.Questions.{both-yes}
 use Rattle.lists.proofs.Every.{every-join, every-listTo}
 use Rattle.lists.proofs.Lists.{length-listFrom, listTo-cong, join-at}
 use Rattle.field.specs.Field.{q}
-use Rattle.settings.specs.Sets.{scaleOf}
 use Rattle.settings.specs.Order.{rounds, sendStep, takeStep}
 use Rattle.settings.specs.Sizes.{openings, fieldCount, places}
 use Rattle.message.specs.Message.{headerNumber, messageOf, headerIn, fieldIn, fieldsOk}
@@ -30,6 +29,7 @@ use Rattle.opening.specs.Opening.{partColumn, prepared, outgoing, message}
 use Rattle.side.specs.Side.{begunSide}
 use Rattle.settings.specs.declared.Settings.{Settings}
 use Rattle.settings.specs.Questions.{settingsOk}
+use Rattle.settings.specs.Settings.{paramsIn, termsOf}
 use Rattle.runs.specs.Records.{Hand}
 use Rattle.runs.specs.Progress.{workAt, sideAt, seatAt, messageAt}
 use Rattle.runs.proofs.Laws.{length-join}
@@ -49,7 +49,7 @@ module _ (k : ℕ) (s : Settings) (serial : ℕ) (numbers : ℕ → List ℕ) wh
   -- side h's number in column c for opening j of round R + 1
   unfoldable pub sharing : Hand → ℕ → ℕ → ℕ → ℕ
   sharing h R c j =
-      openingOn (publicOf (scaleOf (s .set)) (s .kind) (s .n) (s .bound) (maskedIn (workAt k s serial numbers h R))) (suc R)
+      openingOn (publicOf (termsOf s) (maskedIn (workAt k s serial numbers h R))) (suc R)
       (getD (weights k (h .number) (h .keys)) c 0) (column (workAt k s serial numbers h R) c) j
 
   -- when it takes
@@ -60,16 +60,16 @@ module _ (k : ℕ) (s : Settings) (serial : ℕ) (numbers : ℕ → List ℕ) wh
 
   -- when it sends: the server works them out, the phone has kept them
   module _ (t : T1Work) where
-    pub outgoing-is : (h : Hand) → Which h → Fair k s serial numbers h → (R : ℕ) → R < rounds → (c j : ℕ) → c < 1 + 2 * k → j < openings (s .kind) (s .n) (suc R)
+    pub outgoing-is : (h : Hand) → Which h → Fair k s serial numbers h → (R : ℕ) → R < rounds → (c j : ℕ) → c < 1 + 2 * k → j < openings (paramsIn s) (suc R)
         → outgoing k (sideAt k s serial numbers h (sendStep (h .number) R)) (workAt k s serial numbers h (R + h .number)) c j ≡ sharing h R c j
     unfolding outgoing prepared sharing sideAt begunSide seatAt workAt
     outgoing-is _ (server {keys} {inputs} {book}) v R r c j l m = rw (add-zero R, at-send k s serial numbers (handAs 0 keys inputs book) R server r .round)
     outgoing-is _ (phone {keys} {inputs} {book}) v R r c j l m =
         rw (add-one R)
-        (t .own (scaleOf (s .set)) (s .kind) (s .n) (s .bound) (suc R) _ (weights k 1 keys) (workAt k s serial numbers (handAs 1 keys inputs book) R) (v .most) (v .some)
+        (t .own (termsOf s) (suc R) _ (weights k 1 keys) (workAt k s serial numbers (handAs 1 keys inputs book) R) (v .most) (v .some)
         (v .exact R ∙ ap (λ (x : ℕ). x * places) (sym (v .sized))) c j (omega (arith, v .sized)) m)
 
-  pub sharing-below : T1Work → (h : Hand) → Fair k s serial numbers h → (R c j : ℕ) → c < 1 + 2 * k → j < openings (s .kind) (s .n) (suc R) → sharing h R c j < q
+  pub sharing-below : T1Work → (h : Hand) → Fair k s serial numbers h → (R c j : ℕ) → c < 1 + 2 * k → j < openings (paramsIn s) (suc R) → sharing h R c j < q
   unfolding sharing
   sharing-below t h v R c j l m =
       opening-below t s (suc R) (weights k (h .number) (h .keys)) (workAt k s serial numbers h R) (v .most) (v .some)
@@ -82,7 +82,7 @@ module _ (k : ℕ) (s : Settings) (serial : ℕ) (numbers : ℕ → List ℕ) wh
   piece o R j = sharing o R 0 j ∷ listTo k (λ (i : ℕ). sharing o R (partColumn k (1 - o .number) i) j)
 
   unfoldable pub fieldsAt : Hand → ℕ → List ℕ
-  fieldsAt o R = joinTo (openings (s .kind) (s .n) (suc R)) (piece o R)
+  fieldsAt o R = joinTo (openings (paramsIn s) (suc R)) (piece o R)
 
   pub part-inside : (o : Hand) → Which o → (i : ℕ) → i < k → partColumn k (1 - o .number) i < 1 + 2 * k
   part-inside _ server i l = omega arith
@@ -91,20 +91,20 @@ module _ (k : ℕ) (s : Settings) (serial : ℕ) (numbers : ℕ → List ℕ) wh
   piece-length : (o : Hand) (R j : ℕ) → length (piece o R j) ≡ 1 + k
   piece-length o R j = omega (arith, length-listFrom 0 k (λ (i : ℕ). sharing o R (partColumn k (1 - o .number) i) j))
 
-  pub fields-length : (o : Hand) (R : ℕ) → length (fieldsAt o R) ≡ fieldCount k (s .kind) (s .n) (suc R)
+  pub fields-length : (o : Hand) (R : ℕ) → length (fieldsAt o R) ≡ fieldCount k (paramsIn s) (suc R)
   unfolding fieldsAt
-  fields-length o R = length-join 0 (openings (s .kind) (s .n) (suc R)) (1 + k) (piece o R) (piece-length o R)
+  fields-length o R = length-join 0 (openings (paramsIn s) (suc R)) (1 + k) (piece o R) (piece-length o R)
 
   -- what any side sends, from its numbers for the openings
   told : (x : Side) (work : List ℕ) (share : ℕ → ℕ → ℕ)
       → ((i : ℕ) → i < k → partColumn k (1 - x .number) i < 1 + 2 * k)
-      → ((c j : ℕ) → c < 1 + 2 * k → j < openings (x .kind) (x .n) (x .round) → outgoing k x work c j ≡ share c j)
-      → message k x work ≡ messageOf (headerNumber (x .number) (x .set) (x .kind) (x .n) (x .bound) (x .round) (x .serial))
-      (joinTo (openings (x .kind) (x .n) (x .round)) (λ (j : ℕ). share 0 j ∷ listTo k (λ (i : ℕ). share (partColumn k (1 - x .number) i) j)))
+      → ((c j : ℕ) → c < 1 + 2 * k → j < openings (paramsIn (x .settings)) (x .round) → outgoing k x work c j ≡ share c j)
+      → message k x work ≡ messageOf (headerNumber (x .number) (x .settings) (x .round) (x .serial))
+      (joinTo (openings (paramsIn (x .settings)) (x .round)) (λ (j : ℕ). share 0 j ∷ listTo k (λ (i : ℕ). share (partColumn k (1 - x .number) i) j)))
   unfolding message
   told x work share inside e =
-      ap (messageOf (headerNumber (x .number) (x .set) (x .kind) (x .n) (x .bound) (x .round) (x .serial)))
-      (join-cong 0 (openings (x .kind) (x .n) (x .round)) _ _
+      ap (messageOf (headerNumber (x .number) (x .settings) (x .round) (x .serial)))
+      (join-cong 0 (openings (paramsIn (x .settings)) (x .round)) _ _
       (λ j l. let z : 0 + j ≡ j = zero-add j in
       rw z
       (ap₂ _∷_ (e 0 j (omega arith) l)
@@ -112,7 +112,7 @@ module _ (k : ℕ) (s : Settings) (serial : ℕ) (numbers : ℕ → List ℕ) wh
       (λ i m. e (partColumn k (1 - x .number) i) j (inside i m) l)))))
 
   pub message-is : (t : T1Work) (o : Hand) → Fair k s serial numbers o → (R : ℕ) → R < rounds
-      → messageAt k s serial numbers o (suc R) ≡ messageOf (headerNumber (o .number) (s .set) (s .kind) (s .n) (s .bound) (suc R) serial) (fieldsAt o R)
+      → messageAt k s serial numbers o (suc R) ≡ messageOf (headerNumber (headerWith (o .number) s (suc R) serial)) (fieldsAt o R)
   unfolding seatAt sideAt begunSide fieldsAt
   message-is t o v R r =
       let a = at-send k s serial numbers o R (v .which) r in
@@ -123,24 +123,24 @@ module _ (k : ℕ) (s : Settings) (serial : ℕ) (numbers : ℕ → List ℕ) wh
       ∙ in-round (x .round) (a .round)
     where
       in-round : (round : ℕ) → round ≡ suc R
-          → messageOf (headerNumber (o .number) (s .set) (s .kind) (s .n) (s .bound) round serial) (joinTo (openings (s .kind) (s .n) round) (piece o R))
-          ≡ messageOf (headerNumber (o .number) (s .set) (s .kind) (s .n) (s .bound) (suc R) serial) (fieldsAt o R)
+          → messageOf (headerNumber (headerWith (o .number) s round serial)) (joinTo (openings (paramsIn s) round) (piece o R))
+          ≡ messageOf (headerNumber (headerWith (o .number) s (suc R) serial)) (fieldsAt o R)
       in-round round e = rw e
 
   -- ---- Read by the receiver
 
-  header-ok : (number : ℕ) → number < 2 → settingsOk s ≡ true → (R : ℕ) → R < rounds → HeaderFits number (s .set) (s .kind) (s .n) (suc R) (s .bound)
+  header-ok : (number : ℕ) → number < 2 → settingsOk s ≡ true → (R : ℕ) → R < rounds → HeaderFits number (s .shape .set) (s .shape .kind) (s .shape .n) (suc R) (s .bound)
   header-ok number u e R l =
       let a = allowed s e in
-      let c = both-yes (leb 1 (s .n)) (leb (s .n) 8) (a .count) in
+      let c = both-yes (leb 1 (s .shape .n)) (leb (s .shape .n) 8) (a .count) in
       record {
         sender-fits = u;
-        set-fits = ltb-true (s .set) 2 (a .set-bit);
-        kind-fits = ltb-true (s .kind) 2 (a .kind-bit);
-        n-some = leb-true 1 (s .n) (c .0);
-        n-fits = leb-true (s .n) 8 (c .1);
+        set-fits = ltb-true (s .shape .set) 2 (a .set-bit);
+        kind-fits = ltb-true (s .shape .kind) 2 (a .kind-bit);
+        n-some = leb-true 1 (s .shape .n) (c .0);
+        n-fits = leb-true (s .shape .n) 8 (c .1);
         round-fits = omega arith;
-        bound-fits = bound-small (eqb (s .kind) 0) (s .bound) (a .bound);
+        bound-fits = bound-small (eqb (s .shape .kind) 0) (s .bound) (a .bound);
       }
     where
       bound-small : (b : Bool) (bound : ℕ) → cond b (eqb bound 0) (leb 1 bound && leb bound 4190208) ≡ true → bound < 2 ^ 23
@@ -149,12 +149,12 @@ module _ (k : ℕ) (s : Settings) (serial : ℕ) (numbers : ℕ → List ℕ) wh
 
   module _ (t : T1Work) (m : RoundTrip) (e : settingsOk s ≡ true) (f : serial < 4294967296) (o : Hand) (v : Fair k s serial numbers o) (R : ℕ) (r : R < rounds) where
     abbrev header : ℕ
-    header = headerNumber (o .number) (s .set) (s .kind) (s .n) (s .bound) (suc R) serial
+    header = headerNumber (headerWith (o .number) s (suc R) serial)
 
     fields-below : allBelow q (fieldsAt o R) ≡ true
     unfolding fieldsAt allBelow every
     fields-below =
-        every-join (λ (x : ℕ). ltb x q) 0 (openings (s .kind) (s .n) (suc R)) (piece o R)
+        every-join (λ (x : ℕ). ltb x q) 0 (openings (paramsIn s) (suc R)) (piece o R)
         (λ j l. rw (lt-ltb (sharing o R 0 (0 + j)) q (sharing-below t o v R 0 (0 + j) (omega arith) (omega arith)))
         (every-listTo (λ (x : ℕ). ltb x q) k _ (λ i b. lt-ltb _ q (sharing-below t o v R _ (0 + j) (part-inside o (v .which) i b) (omega arith)))))
 
@@ -164,18 +164,18 @@ module _ (k : ℕ) (s : Settings) (serial : ℕ) (numbers : ℕ → List ℕ) wh
     sized : Sized header (fieldsAt o R)
     sized = sized-q header (fieldsAt o R) header-below fields-below
 
-    pub header-read : headerIn (fieldCount k (s .kind) (s .n) (suc R)) (messageAt k s serial numbers o (suc R)) ≡ header
+    pub header-read : headerIn (fieldCount k (paramsIn s) (suc R)) (messageAt k s serial numbers o (suc R)) ≡ header
     header-read = rw (message-is t o v R r, ← fields-length o R) (m .header header (fieldsAt o R) sized)
 
-    pub fields-read : fieldsOk (fieldCount k (s .kind) (s .n) (suc R)) (messageAt k s serial numbers o (suc R)) ≡ true
+    pub fields-read : fieldsOk (fieldCount k (paramsIn s) (suc R)) (messageAt k s serial numbers o (suc R)) ≡ true
     fields-read = rw (message-is t o v R r, ← fields-length o R) (m .fields-pass header (fieldsAt o R) header-below fields-below)
 
     -- field x of opening j
-    pub field-read : (j x : ℕ) → j < openings (s .kind) (s .n) (suc R) → x < 1 + k
-        → fieldIn (fieldCount k (s .kind) (s .n) (suc R)) (messageAt k s serial numbers o (suc R)) (j * (1 + k) + x) ≡ getD (piece o R j) x 0
+    pub field-read : (j x : ℕ) → j < openings (paramsIn s) (suc R) → x < 1 + k
+        → fieldIn (fieldCount k (paramsIn s) (suc R)) (messageAt k s serial numbers o (suc R)) (j * (1 + k) + x) ≡ getD (piece o R j) x 0
     unfolding fieldsAt
     field-read j x l b =
-        let n = openings (s .kind) (s .n) (suc R) in
+        let n = openings (paramsIn s) (suc R) in
         let a : length (joinTo j (piece o R)) + x ≡ j * (1 + k) + x = omega (arith, length-join 0 j (1 + k) (piece o R) (piece-length o R)) in
         rw (message-is t o v R r, ← fields-length o R)
         (m .field header (fieldsAt o R) sized (j * (1 + k) + x) (omega (arith, fields-length o R, mul-le-mul-right (1 + k) l)))

@@ -22,6 +22,7 @@ use Rattle.steps.specs.Work.{openingOn}
 use Rattle.column.specs.Run.{plainBook, plainStart, openedFrom, plainAfter, plainOpened}
 use Rattle.column.specs.Theorems.{JoinedWork, T1Work}
 use Rattle.settings.specs.declared.Settings.{Settings}
+use Rattle.settings.specs.Settings.{paramsIn, termsOf}
 use Rattle.runs.specs.Records.{Hand, handOf}
 use Rattle.runs.specs.Demands.{Fixed, Numbers, Secret, Shares, Possible}
 use Rattle.runs.specs.Progress.{workAt}
@@ -37,14 +38,14 @@ pub record Joint (k : ℕ) (s : Settings) (serial : ℕ) (keys0 keys1 secret dra
   pub draw-ok : Possible k s draw
   pub server-ok : Shares k s inA
   pub phone-ok : Shares k s inB
-  pub adds : (j c : ℕ) → j < s .n → c < widthOf k
+  pub adds : (j c : ℕ) → j < s .shape .n → c < widthOf k
       → Adds q (getD (multipliers keys0 keys1) c 0) (getD inA (j * widthOf k + c) 0) (getD inB (j * widthOf k + c) 0) (getD secret j 0)
 
 -- one side of a run: its slices are exact, their numbers below q
 pub record Fair (k : ℕ) (s : Settings) (serial : ℕ) (numbers : ℕ → List ℕ) (h : Hand) : Type 0 where
   pub which : Which h
-  pub most : s .n ≤ 8
-  pub some : 1 ≤ s .n
+  pub most : s .shape .n ≤ 8
+  pub some : 1 ≤ s .shape .n
   pub sized : length (weights k (h .number) (h .keys)) ≡ widthOf k
   pub exact : (R : ℕ) → length (workAt k s serial numbers h R) ≡ widthOf k * places
   pub low : (R i : ℕ) → getD (workAt k s serial numbers h R) i 0 < q
@@ -64,15 +65,15 @@ all-below m [] h = refl
 all-below m (x ∷ xs) h = rw (lt-ltb x m (h 0)) (all-below m xs (λ i. h (suc i)))
 
 -- a side's numbers for openings are below q: it could keep them
-pub opening-below : (t : T1Work) (s : Settings) (round : ℕ) (κs work : List ℕ) → s .n ≤ 8 → 1 ≤ s .n
+pub opening-below : (t : T1Work) (s : Settings) (round : ℕ) (κs work : List ℕ) → s .shape .n ≤ 8 → 1 ≤ s .shape .n
     → length work ≡ length κs * places → ((i : ℕ) → getD work i 0 < q)
-    → (c o : ℕ) → c < length κs → o < openings (s .kind) (s .n) round
-    → openingOn (publicOf (scaleOf (s .set)) (s .kind) (s .n) (s .bound) (maskedIn work)) round (getD κs c 0) (column work c) o < q
+    → (c o : ℕ) → c < length κs → o < openings (paramsIn s) round
+    → openingOn (publicOf (termsOf s) (maskedIn work)) round (getD κs c 0) (column work c) o < q
 unfolding ownIn
 opening-below t s round κs work most some e h c o l m =
-    let p = scaleOf (s .set) in
-    rw (← t .own p (s .kind) (s .n) (s .bound) round (λ i. 0) κs work most some e c o l m)
-    (t .bounded p (s .kind) (s .n) (s .bound) round (λ i. 0) κs work (omega arith) most some e h (λ i. omega arith) .1 _)
+    let p = scaleOf (s .shape .set) in
+    rw (← t .own p (s .shape .kind) (s .shape .n) (s .bound) round (λ i. 0) κs work most some e c o l m)
+    (t .bounded p (s .shape .kind) (s .shape .n) (s .bound) round (λ i. 0) κs work (omega arith) most some e h (λ i. omega arith) .1 _)
 
 -- what is known of the server's hand h and the phone's o, of their books and slices, and of the plain column
 pub record Slices (k : ℕ) (s : Settings) (serial : ℕ) (numbers plain : ℕ → List ℕ) (keys0 keys1 : List ℕ) (h o : Hand) : Type 0 where
@@ -80,16 +81,16 @@ pub record Slices (k : ℕ) (s : Settings) (serial : ℕ) (numbers plain : ℕ �
   pub plain-low : (R i : ℕ) → getD (plain R) i 0 < q
   pub fair-a : Fair k s serial numbers h
   pub fair-b : Fair k s serial numbers o
-  pub book-a : Numbers (shared (scaleOf (s .set)) (s .kind) (s .n) * widthOf k) (h .book)
-  pub book-b : Numbers (shared (scaleOf (s .set)) (s .kind) (s .n) * widthOf k) (o .book)
+  pub book-a : Numbers (shared (paramsIn s) * widthOf k) (h .book)
+  pub book-b : Numbers (shared (paramsIn s) * widthOf k) (o .book)
 
 module _ (t : T1Work) (b : Laws) (k : ℕ) (s : Settings) (serial : ℕ)
     (keys0 keys1 secret draw inA inB : List ℕ) (g : Joint k s serial keys0 keys1 secret draw inA inB) where
   abbrev numbers : ℕ → List ℕ
-  numbers R = plainOpened (scaleOf (s .set)) (s .kind) (s .n) (s .bound) (widthOf k) draw secret R
+  numbers R = plainOpened (termsOf s) (widthOf k) draw secret R
 
   abbrev plain : ℕ → List ℕ
-  plain R = plainAfter (scaleOf (s .set)) (s .kind) (s .n) (s .bound) (widthOf k) draw secret R
+  plain R = plainAfter (termsOf s) (widthOf k) draw secret R
 
   abbrev A : Hand
   A = handOf k s 0 keys0 keys1 draw inA
@@ -100,14 +101,14 @@ module _ (t : T1Work) (b : Laws) (k : ℕ) (s : Settings) (serial : ℕ)
   abbrev slice : Hand → ℕ → List ℕ
   slice h R = workAt k s serial numbers h R
 
-  most : s .n ≤ 8
-  most = leb-true (s .n) 8 (both-yes (leb 1 (s .n)) (leb (s .n) 8) (allowed s (g .fixed .settings) .count) .1)
+  most : s .shape .n ≤ 8
+  most = leb-true (s .shape .n) 8 (both-yes (leb 1 (s .shape .n)) (leb (s .shape .n) 8) (allowed s (g .fixed .settings) .count) .1)
 
-  some : 1 ≤ s .n
-  some = leb-true 1 (s .n) (both-yes (leb 1 (s .n)) (leb (s .n) 8) (allowed s (g .fixed .settings) .count) .0)
+  some : 1 ≤ s .shape .n
+  some = leb-true 1 (s .shape .n) (both-yes (leb 1 (s .shape .n)) (leb (s .shape .n) 8) (allowed s (g .fixed .settings) .count) .0)
 
-  set-is : s .set < 2
-  set-is = ltb-true (s .set) 2 (allowed s (g .fixed .settings) .set-bit)
+  set-is : s .shape .set < 2
+  set-is = ltb-true (s .shape .set) 2 (allowed s (g .fixed .settings) .set-bit)
 
   widths : length (multipliers keys0 keys1) ≡ widthOf k
   widths = omega (arith, length-append keys0 keys1, g .fixed .server-count, g .fixed .phone-count)
@@ -115,14 +116,14 @@ module _ (t : T1Work) (b : Laws) (k : ℕ) (s : Settings) (serial : ℕ)
   joined : (R : ℕ) → JoinedWork q keys0 keys1 (slice A R) (slice B R) (plain R)
   unfolding workAt plainAfter plainOpened
   joined zero =
-      let p = scaleOf (s .set) in
+      let p = scaleOf (s .shape .set) in
       rw (← widths)
-      (start-joined p (s .kind) (s .n) (s .bound) keys0 keys1 draw secret inA inB (omega arith) most (b .sizes .at-most (s .set) (s .kind) (s .n) set-is most)
-      (b .books p (s .kind) (s .n) (length (multipliers keys0 keys1)) (multipliers keys0 keys1) draw)
+      (start-joined p (s .shape .kind) (s .shape .n) (s .bound) keys0 keys1 draw secret inA inB (omega arith) most (b .sizes .at-most (s .shape .set) (s .shape .kind) (s .shape .n) set-is most)
+      (b .books p (s .shape .kind) (s .shape .n) (length (multipliers keys0 keys1)) (multipliers keys0 keys1) draw)
       (rw widths (g .adds)))
   joined (suc R) =
       rw (g .fixed .server-count) at
-      (t .taken (scaleOf (s .set)) (s .kind) (s .n) (s .bound) keys0 keys1 (slice A R) (slice B R) (plain R) (omega arith) most some
+      (t .taken (termsOf s) keys0 keys1 (slice A R) (slice B R) (plain R) (omega arith) most some
       (g .fixed .server-count ∙ sym (g .fixed .phone-count)) (joined R) (suc R) (λ (o : ℕ). getD (numbers R) o 0))
 
   -- ---- numbers below q
@@ -132,18 +133,18 @@ module _ (t : T1Work) (b : Laws) (k : ℕ) (s : Settings) (serial : ℕ)
   unfolding plainOpened openedFrom allBelow
   numbers-from R h o =
       below-at q (numbers R) o (omega arith)
-      (every-listTo (λ (x : ℕ). ltb x q) (openings (s .kind) (s .n) (suc R)) _
+      (every-listTo (λ (x : ℕ). ltb x q) (openings (paramsIn s) (suc R)) _
       (λ x l. lt-ltb _ q (opening-below t s (suc R) (1 ∷ []) (plain R) most some (omega (arith, joined R .exact)) h 0 x (omega arith) l)))
 
   plain-low : (R i : ℕ) → getD (plain R) i 0 < q
   unfolding plainAfter plainStart plainBook plainOpened allBelow
   plain-low zero i =
       below-at q (plain 0) i (omega arith)
-      (below-begun (scaleOf (s .set)) (s .kind) (s .n) 1 secret _ q (omega arith) (g .secret-ok .below)
-      (every-listTo (λ (x : ℕ). ltb x q) (shared (scaleOf (s .set)) (s .kind) (s .n)) _
-      (λ x l. lt-ltb _ q (b .values (scaleOf (s .set)) (s .kind) (s .n) (widthOf k) draw .below (omega arith) (g .draw-ok .below) x))))
+      (below-begun (paramsIn s) 1 secret _ q (omega arith) (g .secret-ok .below)
+      (every-listTo (λ (x : ℕ). ltb x q) (shared (paramsIn s)) _
+      (λ x l. lt-ltb _ q (b .values (paramsIn s) (widthOf k) draw .below (omega arith) (g .draw-ok .below) x))))
   plain-low (suc R) i =
-      t .bounded (scaleOf (s .set)) (s .kind) (s .n) (s .bound) (suc R) _ (1 ∷ []) (plain R) (omega arith) most some (omega (arith, joined R .exact))
+      t .bounded (termsOf s) (suc R) _ (1 ∷ []) (plain R) (omega arith) most some (omega (arith, joined R .exact))
       (plain-low R) (numbers-from R (plain-low R)) .1 i
 
   numbers-low : (R o : ℕ) → getD (numbers R) o 0 < q
@@ -155,16 +156,16 @@ module _ (t : T1Work) (b : Laws) (k : ℕ) (s : Settings) (serial : ℕ)
       → (R i : ℕ) → getD (slice h R) i 0 < q
   unfolding workAt
   side-low h e ins bk l zero i =
-      below-at q (slice h 0) i (omega arith) (below-begun (scaleOf (s .set)) (s .kind) (s .n) (widthOf k) (h .inputs) (h .book) q (omega arith) ins bk)
+      below-at q (slice h 0) i (omega arith) (below-begun (paramsIn s) (widthOf k) (h .inputs) (h .book) q (omega arith) ins bk)
   side-low h e ins bk l (suc R) i =
-      t .bounded (scaleOf (s .set)) (s .kind) (s .n) (s .bound) (suc R) _ (weights k (h .number) (h .keys)) (slice h R) (omega arith) most some
+      t .bounded (termsOf s) (suc R) _ (weights k (h .number) (h .keys)) (slice h R) (omega arith) most some
       (l R ∙ ap (λ (x : ℕ). x * places) (sym (length-weights k (h .number) (h .keys) e))) (side-low h e ins bk l R) (numbers-low R) .1 i
 
   -- ---- the two sides
 
   pub slices : Slices k s serial numbers plain keys0 keys1 A B
   slices =
-      let x = b .books (scaleOf (s .set)) (s .kind) (s .n) (widthOf k) (multipliers keys0 keys1) draw in
+      let x = b .books (paramsIn s) (widthOf k) (multipliers keys0 keys1) draw in
       let below-a = x .server-below (omega arith) in
       let below-b = x .phone-below (omega arith) (g .draw-ok .below) in
       let exact-a : (R : ℕ) → length (slice A R) ≡ widthOf k * places = λ R. joined R .exact₁ ∙ ap (λ (x : ℕ). x * places) widths in

@@ -18,6 +18,7 @@ use Rattle.state.specs.State.{sendDue, takeDue}
 use Rattle.opening.specs.Opening.{passes}
 use Rattle.side.specs.Side.{begunSide, sendNo, takeNo}
 use Rattle.settings.specs.declared.Settings.{Settings}
+use Rattle.settings.specs.Settings.{paramsIn}
 use Rattle.runs.specs.Records.{Hand, Seat, Call, outcome}
 use Rattle.runs.specs.Records.Call.{begin, send, takeLatest}
 use Rattle.runs.specs.Progress.{sideAt, seatAt}
@@ -65,19 +66,19 @@ module _ (k : ℕ) (s : Settings) (serial : ℕ) (numbers : ℕ → List ℕ) (h
 
   -- the other side's messages, by round: they meet this side, and are as long as their round asks
   pub record Heard (messages : ℕ → List ℕ) : Type 0 where
-    pub sized : (R : ℕ) → R < rounds → length (messages (suc R)) ≡ messageLength k (s .kind) (s .n) (suc R)
+    pub sized : (R : ℕ) → R < rounds → length (messages (suc R)) ≡ messageLength k (paramsIn s) (suc R)
     pub meets : Meets k s serial numbers h messages
 
   -- does a message have the length and header of round R + 1?
   abbrev pub isOf : ℕ → List ℕ → Bool
   isOf R msg =
-      eqb (length msg) (messageLength k (s .kind) (s .n) (suc R))
-      && eqb (headerIn (fieldCount k (s .kind) (s .n) (suc R)) msg) (headerNumber (1 - h .number) (s .set) (s .kind) (s .n) (s .bound) (suc R) serial)
+      eqb (length msg) (messageLength k (paramsIn s) (suc R))
+      && eqb (headerIn (fieldCount k (paramsIn s) (suc R)) msg) (headerNumber (headerWith (1 - h .number) s (suc R) serial))
 
   -- one of the round before has not
   pub late : (messages : ℕ → List ℕ) → Heard messages → (R : ℕ) → R < rounds → isOf (suc R) (messages (suc R)) ≡ false
   late messages z R r =
-      told k (1 - h .number) (s .set) (s .kind) (s .n) (s .bound) serial (messages (suc R)) (suc R) (z .sized R r) (z .meets .header R r)
+      told k (1 - h .number) s serial (messages (suc R)) (suc R) (z .sized R r) (z .meets .header R r)
 
   module _ (u : Which h) (v : Kept) where
     abbrev pub at : ℕ → Seat
@@ -111,7 +112,7 @@ module _ (k : ℕ) (s : Settings) (serial : ℕ) (numbers : ℕ → List ℕ) (h
         record { exact = rw e (v .exact R i); low = rw e (v .low R i) }
 
     send-answer : (R : ℕ) → R < rounds → (out : List ℕ)
-        → sendNo k (at (sendStep (h .number) R) .side) (at (sendStep (h .number) R) .work) out ≡ ask (leb (messageLength k (s .kind) (s .n) (suc R)) (length out)) 9 0
+        → sendNo k (at (sendStep (h .number) R) .side) (at (sendStep (h .number) R) .work) out ≡ ask (leb (messageLength k (paramsIn s) (suc R)) (length out)) 9 0
     unfolding seatAt sideAt begunSide
     send-answer R r out =
         rw (← at-send k s serial numbers h R u r .round)
@@ -119,7 +120,7 @@ module _ (k : ℕ) (s : Settings) (serial : ℕ) (numbers : ℕ → List ℕ) (h
 
     -- send, at its stage, at the other stages
     pub sends : (incoming : List ℕ) (R : ℕ) (r : R < rounds) (out : List ℕ) (d : Bool)
-        → leb (messageLength k (s .kind) (s .n) (suc R)) (length out) ≡ d
+        → leb (messageLength k (paramsIn s) (suc R)) (length out) ≡ d
         → Left incoming (sendStep (h .number) R) (send out) (cond d (at (suc (sendStep (h .number) R))) (at (sendStep (h .number) R))) d
     unfolding seatAt sideAt begunSide
     sends incoming R r out true e =
@@ -149,8 +150,8 @@ module _ (k : ℕ) (s : Settings) (serial : ℕ) (numbers : ℕ → List ℕ) (h
 
     take-answer : (R : ℕ) → R < rounds → (msg : List ℕ)
         → takeNo k (at (takeStep (h .number) R) .side) (at (takeStep (h .number) R) .work) msg
-        ≡ askForm k (h .number) (s .set) (s .kind) (s .n) (s .bound) (suc R) serial msg
-        (ask (allTo (openings (s .kind) (s .n) (suc R)) (passes k (at (takeStep (h .number) R) .side) (at (takeStep (h .number) R) .work) msg)) 13 0)
+        ≡ askForm k (h .number) s (suc R) serial msg
+        (ask (allTo (openings (paramsIn s) (suc R)) (passes k (at (takeStep (h .number) R) .side) (at (takeStep (h .number) R) .work) msg)) 13 0)
     unfolding seatAt sideAt begunSide
     take-answer R r msg =
         rw (← at-take k s serial numbers h R u r .round)
@@ -165,7 +166,7 @@ module _ (k : ℕ) (s : Settings) (serial : ℕ) (numbers : ℕ → List ℕ) (h
         (rw (take-answer R r msg) (late-13 _ _ _ e))
 
     pub takes-empty : (R : ℕ) → R < rounds → Left [] (takeStep (h .number) R) takeLatest (at (takeStep (h .number) R)) false
-    takes-empty R r = takes-late R r [] (rw (short k (s .kind) (s .n) (suc R)) refl)
+    takes-empty R r = takes-late R r [] (rw (short k (s .shape .kind) (s .shape .n) (suc R)) refl)
 
     -- the message that is due
     module _ (messages : ℕ → List ℕ) (z : Heard messages) where

@@ -7,7 +7,6 @@ use native.Mathlib.Omega.{arith}
 use native.Mathlib.Decide.{decLt}
 use lib.Dec.{eqb}
 use borrow.Author.Tests.{eq-eqb, ne-eqb, eqb-true, lt-ltb, le-ltb}
-use Rattle.settings.specs.Sets.{scaleOf}
 use Rattle.settings.specs.Sizes.{widthOf, openingsUpTo}
 use Rattle.settings.specs.Order.{rounds, steps, goesOn, sendsAfter, takenBy, sentBy}
 use Rattle.column.specs.Run.{plainOpened}
@@ -16,6 +15,7 @@ use Rattle.state.specs.declared.Phase.the-variants.{Sending, Taking, Finished}
 use Rattle.state.specs.State.{isSending, isTaking, isFinished, sendDue, takeDue, underWay, finished, phaseAfter, roundsTaken, countCall}
 use Rattle.side.specs.Side.{begunSide}
 use Rattle.settings.specs.declared.Settings.{Settings}
+use Rattle.settings.specs.Settings.{paramsIn, termsOf}
 use Rattle.runs.specs.Records.{Hand, Seat, Event}
 use Rattle.runs.specs.Demands.{Steady, Demand2Steady, takesIn, sendsIn, beganIn, ownHand, otherHand}
 use Rattle.runs.specs.Progress.{sideAt, seatAt, seatFrom, none, worldAt}
@@ -66,7 +66,7 @@ module _ (k : ℕ) (s : Settings) (serial : ℕ) (numbers : ℕ → List ℕ) (h
   unfolding roundsTaken sideAt begunSide
   rounds-at = ap (takenBy (h .number)) (step-is k s serial numbers h u m l)
 
-  pub count-at : countCall (sideAt k s serial numbers h m) ≡ openingsUpTo (s .kind) (s .n) (takenBy (h .number) m)
+  pub count-at : countCall (sideAt k s serial numbers h m) ≡ openingsUpTo (paramsIn s) (takenBy (h .number) m)
   unfolding countCall sideAt begunSide
   count-at = rw (kept-whole k s serial numbers h t m, rounds-at)
 
@@ -92,7 +92,7 @@ unfolding worldAt
 steady k runs s serial keys0 keys1 f number l secret inputs draw x y d w i calls b =
     let h : Hand = ownHand k s number keys0 keys1 inputs draw in
     let o : Hand = otherHand k s number keys0 keys1 inputs secret draw in
-    let numbers : ℕ → List ℕ = plainOpened (scaleOf (s .set)) (s .kind) (s .n) (s .bound) (widthOf k) draw secret in
+    let numbers : ℕ → List ℕ = plainOpened (termsOf s) (widthOf k) draw secret in
     let z = honest-pair k runs s serial keys0 keys1 f number l secret inputs draw x y d in
     rw (t3 k runs s serial keys0 keys1 f number l secret inputs draw x y d w i calls)
     (steady-from k s serial numbers h l (z .0 .kept .terms) (w .own) _ _

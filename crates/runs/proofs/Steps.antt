@@ -10,13 +10,13 @@ use borrow.Author.Tests.{eq-eqb, ne-eqb, lt-ltb, le-ltb, ltb-true, ltb-false}
 use Rattle.lists.specs.Answers.{ask}
 use Rattle.lists.specs.Lists.{allBelow}
 use Rattle.field.specs.Field.{q}
-use Rattle.settings.specs.Sets.{scaleOf}
 use Rattle.settings.specs.Sizes.{widthOf, shared, workLength}
 use Rattle.settings.specs.Questions.{askSettings}
 use Rattle.settings.specs.Order.{rounds, steps, takenBy, sendStep, takeStep}
 use Rattle.state.specs.State.{underWay, sendDue, takeDue}
 use Rattle.side.specs.Side.{handedNo, beginNo}
 use Rattle.settings.specs.declared.Settings.{Settings}
+use Rattle.settings.specs.Settings.{paramsIn}
 use Rattle.runs.specs.Records.{Hand, Seat, Call, outcome}
 use Rattle.runs.specs.Records.Call.{begin, send, takeLatest, answer, count}
 use Rattle.runs.specs.Demands.{Idle}
@@ -56,8 +56,8 @@ went false c = le-ltb c c (omega arith)
 
 -- what its begin is handed passes
 pub record Handed (k : ℕ) (s : Settings) (h : Hand) : Type 0 where
-  pub inputs-exact : eqb (length (h .inputs)) (s .n * widthOf k) ≡ true
-  pub book-exact : eqb (length (h .book)) (shared (scaleOf (s .set)) (s .kind) (s .n) * widthOf k) ≡ true
+  pub inputs-exact : eqb (length (h .inputs)) (s .shape .n * widthOf k) ≡ true
+  pub book-exact : eqb (length (h .book)) (shared (paramsIn s) * widthOf k) ≡ true
   pub low : (allBelow q (h .inputs) && allBelow q (h .book)) ≡ true
 
 module _ (k : ℕ) (s : Settings) (serial : ℕ) (numbers : ℕ → List ℕ) (h : Hand) where

@@ -7,11 +7,11 @@ use native.Mathlib.Omega.{arith}
 use lib.Dec.{eqb}
 use borrow.Author.Tests.{eq-eqb, ne-eqb, lt-ltb, le-leb}
 use Rattle.lists.proofs.Questions.{both-yes}
-use Rattle.settings.specs.Sets.{scaleOf}
 use Rattle.settings.specs.Sizes.{widthOf}
 use Rattle.settings.specs.Questions.{isBit, countOk, boundOk, keysOk, settingsOk}
 use Rattle.column.specs.Run.{plainOpened}
 use Rattle.settings.specs.declared.Settings.{Settings}
+use Rattle.settings.specs.Settings.{termsOf}
 use Rattle.runs.specs.Records.{Hand, handOf}
 use Rattle.runs.specs.Demands.{Fixed, Secret, Shares, Possible, ownHand, otherHand}
 use Rattle.runs.specs.Progress.{none, worldAt}
@@ -31,16 +31,16 @@ which-side h l = which-of (h .number) (h .keys) (h .inputs) (h .book) l
 
 -- what the settings fix, read from the test
 pub record Allowed (s : Settings) : Type 0 where
-  pub set-bit : isBit (s .set) ≡ true
-  pub kind-bit : isBit (s .kind) ≡ true
-  pub count : countOk (s .n) ≡ true
-  pub bound : boundOk (s .kind) (s .bound) ≡ true
+  pub set-bit : isBit (s .shape .set) ≡ true
+  pub kind-bit : isBit (s .shape .kind) ≡ true
+  pub count : countOk (s .shape .n) ≡ true
+  pub bound : boundOk (s .shape .kind) (s .bound) ≡ true
 
 pub allowed : (s : Settings) → settingsOk s ≡ true → Allowed s
 allowed s e =
-    let a = both-yes (isBit (s .set) && isBit (s .kind) && countOk (s .n)) (boundOk (s .kind) (s .bound)) e in
-    let b = both-yes (isBit (s .set) && isBit (s .kind)) (countOk (s .n)) (a .0) in
-    let c = both-yes (isBit (s .set)) (isBit (s .kind)) (b .0) in
+    let a = both-yes (isBit (s .shape .set) && isBit (s .shape .kind) && countOk (s .shape .n)) (boundOk (s .shape .kind) (s .bound)) e in
+    let b = both-yes (isBit (s .shape .set) && isBit (s .shape .kind)) (countOk (s .shape .n)) (a .0) in
+    let c = both-yes (isBit (s .shape .set)) (isBit (s .shape .kind)) (b .0) in
     record { set-bit = c .0; kind-bit = c .1; count = b .1; bound = a .1 }
 
 -- the kept fields of either side pass
@@ -75,12 +75,12 @@ pub honest-pair : (k : ℕ) → Runs k → (s : Settings) (serial : ℕ) (keys0 
     → (secret inputs draw : List ℕ) → Secret s secret → Shares k s inputs → Possible k s draw
     → let h : Hand = ownHand k s number keys0 keys1 inputs draw in
     let o : Hand = otherHand k s number keys0 keys1 inputs secret draw in
-    let numbers : ℕ → List ℕ = plainOpened (scaleOf (s .set)) (s .kind) (s .n) (s .bound) (widthOf k) draw secret in
+    let numbers : ℕ → List ℕ = plainOpened (termsOf s) (widthOf k) draw secret in
     HonestSide k s serial numbers h o × HonestSide k s serial numbers o h
 honest-pair k runs s serial keys0 keys1 f number l secret inputs draw x y d =
     let h : Hand = ownHand k s number keys0 keys1 inputs draw in
     let o : Hand = otherHand k s number keys0 keys1 inputs secret draw in
-    let numbers : ℕ → List ℕ = plainOpened (scaleOf (s .set)) (s .kind) (s .n) (s .bound) (widthOf k) draw secret in
+    let numbers : ℕ → List ℕ = plainOpened (termsOf s) (widthOf k) draw secret in
     let z = runs s serial keys0 keys1 f number l secret inputs draw x y d in
     let l′ : 1 - number < 2 = omega arith in (
       honest k s serial numbers h o (z .0) l (terms k s serial keys0 keys1 f number l draw inputs),
@@ -91,7 +91,7 @@ honest-pair k runs s serial keys0 keys1 f number l secret inputs draw x y d =
 pub t3 : (k : ℕ) → Runs k → T3 k
 unfolding worldAt
 t3 k runs s serial keys0 keys1 f number l secret inputs draw x y d w i calls =
-    let numbers : ℕ → List ℕ = plainOpened (scaleOf (s .set)) (s .kind) (s .n) (s .bound) (widthOf k) draw secret in
+    let numbers : ℕ → List ℕ = plainOpened (termsOf s) (widthOf k) draw secret in
     let z = honest-pair k runs s serial keys0 keys1 f number l secret inputs draw x y d in
     world-at-counts k s serial numbers (ownHand k s number keys0 keys1 inputs draw) (otherHand k s number keys0 keys1 inputs secret draw) refl (z .0) (z .1)
     w i calls none (start-pace number)

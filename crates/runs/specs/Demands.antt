@@ -17,6 +17,7 @@ use Rattle.settings.specs.Order.{rounds}
 use Rattle.book.specs.Deal.{multipliers}
 use Rattle.state.specs.State.{underWay, finished, heldAnswer, countCall}
 use Rattle.settings.specs.declared.Settings.{Settings}
+use Rattle.settings.specs.Settings.{paramsIn}
 use Rattle.runs.specs.Records.{answerOf, missing, Hand, handOf, Seat, World, Who, Call, Move, Event, worldAfter, events}
 use Rattle.runs.specs.Records.Who.{mine, theirs}
 use Rattle.runs.specs.Records.Call.{begin, send, takeLatest, answer, count}
@@ -41,15 +42,15 @@ pub record Numbers (size : ℕ) (xs : List ℕ) : Type 0 where
 
 -- "A secret is N numbers below q, the joined inputs"
 abbrev pub Secret : Settings → List ℕ → Type 0
-Secret s x = Numbers (s .n) x
+Secret s x = Numbers (s .shape .n) x
 
 -- a side's input shares and check shares
 abbrev pub Shares : ℕ → Settings → List ℕ → Type 0
-Shares k s inputs = Numbers (s .n * widthOf k) inputs
+Shares k s inputs = Numbers (s .shape .n * widthOf k) inputs
 
 -- "A possible draw is any list of numbers below q, as many as the settings ask"
 abbrev pub Possible : ℕ → Settings → List ℕ → Type 0
-Possible k s draw = Numbers (drawLength (scaleOf (s .set)) (s .kind) (s .n) (widthOf k)) draw
+Possible k s draw = Numbers (drawLength (paramsIn s) (widthOf k)) draw
 
 -- "Both sides start with no run under way, a last serial below the list's one serial, and a working slice of the exact length";
 -- nothing was sent in this list
@@ -78,7 +79,7 @@ move who call = record { who = who; call = call }
 
 -- an output just long enough for a round's message
 abbrev pub outFor : ℕ → Settings → ℕ → List ℕ
-outFor k s round = replicate (messageLength k (s .kind) (s .n) round) 0
+outFor k s round = replicate (messageLength k (paramsIn s) round) 0
 
 -- a round in order, `mine` the server: its message; then the phone's take, the phone's message, the server's take
 abbrev pub restOfRound : ℕ → Settings → ℕ → List Move
@@ -144,7 +145,7 @@ carriedThrough k s calls =
 pub record Ended (s : Settings) (secret : List ℕ) (x : Seat) : Type 0 where
   pub done : finished (x .side) ≡ true
   pub answer : heldAnswer (x .side) ≡ answerOf s secret
-  pub openings : countCall (x .side) ≡ openingsUpTo (s .kind) (s .n) rounds
+  pub openings : countCall (x .side) ≡ openingsUpTo (paramsIn s) rounds
 
 -- "every run carried through in order finishes, and both sides hold the high parts, or the verdict"; `own` is the server
 abbrev pub Demand2 : ℕ → Type 0
@@ -167,9 +168,9 @@ abbrev pub FipsHigh : Type 0
 FipsHigh =
     (s : Settings) (secret : List ℕ)
     → settingsOk s ≡ true
-    → s .kind ≡ 0
+    → s .shape .kind ≡ 0
     → Secret s secret
-    → map pos (answerOf s secret) ≡ map (λ (w : ℕ). decompose (scaleOf (s .set)) w .high) secret
+    → map pos (answerOf s secret) ≡ map (λ (w : ℕ). decompose (scaleOf (s .shape .set)) w .high) secret
 
 -- takes and sends that were accepted, and whether a begin was
 unfoldable pub takesIn : List Event → ℕ
@@ -201,7 +202,7 @@ beganIn (counted c ∷ es) = beganIn es
 pub record Steady (s : Settings) (log : List Event) (x : Seat) : Type 0 where
   pub goes-on : (underWay (x .side) || finished (x .side)) ≡ true
   pub in-time : finished (x .side) ≡ (eqb (takesIn log) rounds && eqb (sendsIn log) rounds)
-  pub by-rounds : countCall (x .side) ≡ openingsUpTo (s .kind) (s .n) (takesIn log)
+  pub by-rounds : countCall (x .side) ≡ openingsUpTo (paramsIn s) (takesIn log)
 
 abbrev pub Demand2Steady : ℕ → Type 0
 Demand2Steady k =

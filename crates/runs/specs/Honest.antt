@@ -7,7 +7,6 @@ use mathlib.Core.List.{List}
 use lib.ListN.{length}
 use Rattle.lists.specs.Lists.{allBelow, allTo}
 use Rattle.field.specs.Field.{q}
-use Rattle.settings.specs.Sets.{scaleOf}
 use Rattle.settings.specs.Sizes.{widthOf, openings, fieldCount, shared, workLength}
 use Rattle.settings.specs.Order.{rounds, takeStep}
 use Rattle.message.specs.Message.{headerIn, headerNumber, fieldsOk}
@@ -15,6 +14,7 @@ use Rattle.column.specs.Run.{plainOpened}
 use Rattle.opening.specs.Opening.{passes}
 use Rattle.side.specs.Side.{openedList}
 use Rattle.settings.specs.declared.Settings.{Settings}
+use Rattle.settings.specs.Settings.{paramsIn, termsOf}
 use Rattle.runs.specs.Records.{Hand}
 use Rattle.runs.specs.Demands.{Fixed, Numbers, Secret, Shares, Possible, ownHand, otherHand}
 use Rattle.runs.specs.Progress.{workAt, sideAt, messageAt}
@@ -23,11 +23,11 @@ use Rattle.runs.specs.Progress.{workAt, sideAt, messageAt}
 -- and the joined numbers are `numbers R`
 pub record Meets (k : ℕ) (s : Settings) (serial : ℕ) (numbers : ℕ → List ℕ) (h : Hand) (messages : ℕ → List ℕ) : Type 0 where
   pub header : (R : ℕ) → R < rounds
-      → headerIn (fieldCount k (s .kind) (s .n) (suc R)) (messages (suc R))
-      ≡ headerNumber (1 - h .number) (s .set) (s .kind) (s .n) (s .bound) (suc R) serial
-  pub fields : (R : ℕ) → R < rounds → fieldsOk (fieldCount k (s .kind) (s .n) (suc R)) (messages (suc R)) ≡ true
+      → headerIn (fieldCount k (paramsIn s) (suc R)) (messages (suc R))
+      ≡ headerNumber (headerWith (1 - h .number) s (suc R) serial)
+  pub fields : (R : ℕ) → R < rounds → fieldsOk (fieldCount k (paramsIn s) (suc R)) (messages (suc R)) ≡ true
   pub pass : (R : ℕ) → R < rounds
-      → allTo (openings (s .kind) (s .n) (suc R))
+      → allTo (openings (paramsIn s) (suc R))
       (passes k (sideAt k s serial numbers h (takeStep (h .number) R)) (workAt k s serial numbers h R) (messages (suc R)))
       ≡ true
   pub opens : (R : ℕ) → R < rounds
@@ -38,8 +38,8 @@ pub record Meets (k : ℕ) (s : Settings) (serial : ℕ) (numbers : ℕ → List
 pub record SideRuns (k : ℕ) (s : Settings) (serial : ℕ) (numbers : ℕ → List ℕ) (h : Hand) (messages : ℕ → List ℕ) : Type 0 where
   pub exact : (R : ℕ) → R ≤ rounds → length (workAt k s serial numbers h R) ≡ workLength k
   pub low : (R : ℕ) → R ≤ rounds → allBelow q (workAt k s serial numbers h R) ≡ true
-  pub inputs : Numbers (s .n * widthOf k) (h .inputs)
-  pub book : Numbers (shared (scaleOf (s .set)) (s .kind) (s .n) * widthOf k) (h .book)
+  pub inputs : Numbers (s .shape .n * widthOf k) (h .inputs)
+  pub book : Numbers (shared (paramsIn s) * widthOf k) (h .book)
   pub meets : Meets k s serial numbers h messages
 
 -- both sides, for all that T3 speaks of; the numbers are those that the plain run opens
@@ -55,5 +55,5 @@ Runs k =
     → Possible k s draw
     → let h : Hand = ownHand k s number keys0 keys1 inputs draw in
     let o : Hand = otherHand k s number keys0 keys1 inputs secret draw in
-    let numbers : ℕ → List ℕ = plainOpened (scaleOf (s .set)) (s .kind) (s .n) (s .bound) (widthOf k) draw secret in
+    let numbers : ℕ → List ℕ = plainOpened (termsOf s) (widthOf k) draw secret in
     SideRuns k s serial numbers h (messageAt k s serial numbers o) × SideRuns k s serial numbers o (messageAt k s serial numbers h)

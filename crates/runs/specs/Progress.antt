@@ -5,7 +5,6 @@ use mathlib.Core.List.{List, [], _∷_}
 use lib.Dec.{eqb, leb, ltb}
 use lib.ListN.{length, getD, replicate}
 use Rattle.lists.specs.Lists.{inFront}
-use Rattle.settings.specs.Sets.{scaleOf}
 use Rattle.settings.specs.Sizes.{widthOf, messageLength}
 use Rattle.settings.specs.Order.{rounds, goesOn, roundAfter, sendsAfter, takenBy, sentBy, sendStep}
 use Rattle.slice.specs.Layout.{begunWork, weights}
@@ -15,6 +14,7 @@ use Rattle.state.specs.State.{atStep}
 use Rattle.opening.specs.Opening.{message}
 use Rattle.side.specs.Side.{begunSide}
 use Rattle.settings.specs.declared.Settings.{Settings}
+use Rattle.settings.specs.Settings.{paramsIn, termsOf}
 use Rattle.runs.specs.Records.{Hand, Seat, World, Who, Call, Move}
 use Rattle.runs.specs.Records.Who.{mine, theirs}
 use Rattle.runs.specs.Records.Call.{begin, send, takeLatest, answer, count}
@@ -25,10 +25,10 @@ use Rattle.runs.specs.Records.Call.{begin, send, takeLatest, answer, cou
 module _ (k : ℕ) (s : Settings) (serial : ℕ) (numbers : ℕ → List ℕ) (h : Hand) where
   -- the working slice after so many rounds
   unfoldable pub workAt : ℕ → List ℕ
-  workAt zero = begunWork (scaleOf (s .set)) (s .kind) (s .n) (widthOf k) (h .inputs) (h .book)
+  workAt zero = begunWork (paramsIn s) (widthOf k) (h .inputs) (h .book)
   workAt (suc R) =
       let ns = numbers R in
-      takenWork (scaleOf (s .set)) (s .kind) (s .n) (s .bound) (suc R) (λ (o : ℕ). getD ns o 0)
+      takenWork (termsOf s) (suc R) (λ (o : ℕ). getD ns o 0)
       (weights k (h .number) (h .keys)) (workAt R)
 
   -- the kept answer after so many rounds: the last of all opens it
@@ -38,7 +38,7 @@ module _ (k : ℕ) (s : Settings) (serial : ℕ) (numbers : ℕ → List ℕ) (h
   -- the side after m steps
   unfoldable pub sideAt : ℕ → Side
   sideAt m =
-      atStep (begunSide (h .number) (s .set) (s .kind) (s .n) (s .bound) (h .keys) serial) m
+      atStep (begunSide (runOf s serial h)) m
       (answerAt (takenBy (h .number) m))
 
   -- the message of a round, from the step at which it is sent
@@ -74,7 +74,7 @@ abbrev pub onward : Bool → ℕ → ℕ
 onward due c = cond due (suc c) c
 
 abbrev pub roomFor : ℕ → Settings → ℕ → ℕ → Bool
-roomFor k s round room = leb (messageLength k (s .kind) (s .n) round) room
+roomFor k s round room = leb (messageLength k (paramsIn s) round) room
 
 -- what a call at side `number` makes of its count; heard: how many messages the other side has sent
 module _ (k : ℕ) (s : Settings) (number heard : ℕ) where

@@ -7,29 +7,21 @@ use lib.ListN.{length, getD, take}
 use Rattle.field.specs.Field.{q, sub}
 use Rattle.settings.specs.Sets.{scaleOf}
 use Rattle.settings.specs.Sizes.{widthOf}
-use Rattle.settings.specs.Questions.{isBit, countOk, boundOk}
+use Rattle.settings.specs.Settings.{paramsIn}
+use Rattle.settings.specs.declared.Settings.{Settings}
 use Rattle.rounding.specs.Plain.{highPart, verdict}
 use Rattle.book.specs.Deal.{multipliers, inOrder, serverBook, phoneBook}
 use Rattle.state.specs.declared.Side.{Side}
 use Rattle.state.specs.State.{answerCall, countCall}
+use Rattle.side.specs.declared.Run.{Run}
 use Rattle.side.specs.Side.{After, AfterSend, beginCall, sendCall, takeCall}
 
--- ---- Settings, secrets, shares
-
--- "Settings are set, kind, N and B"
-pub record Settings : Type 0 where
-  pub set : ℕ
-  pub kind : ℕ
-  pub n : ℕ
-  pub bound : ℕ
-
-abbrev pub settingsOk : Settings → Bool
-settingsOk s = isBit (s .set) && isBit (s .kind) && countOk (s .n) && boundOk (s .kind) (s .bound)
+-- ---- Secrets, shares
 
 -- "Its answer is their high parts or their verdict, by the plain meaning"
 unfoldable pub answerOf : Settings → List ℕ → List ℕ
 answerOf s secret =
-    cond (eqb (s .kind) 0) (map (highPart (scaleOf (s .set))) secret) (verdict q (s .bound) secret ∷ [])
+    cond (eqb (s .shape .kind) 0) (map (highPart (scaleOf (s .shape .set))) secret) (verdict q (s .bound) secret ∷ [])
 
 -- "the other side's are what is missing to the secret and to key × secret"
 unfoldable pub missing : ℕ → List ℕ → List ℕ → List ℕ → List ℕ
@@ -46,12 +38,16 @@ pub record Hand : Type 0 where
   pub inputs : List ℕ
   pub book : List ℕ
 
+-- what its begin is handed
+abbrev pub runOf : Settings → ℕ → Hand → Run
+runOf s serial h = record { number = h .number; settings = s; keys = h .keys; serial = serial }
+
 -- "the deal makes both books from it": the book of side `number`
 abbrev pub bookOf : ℕ → Settings → ℕ → List ℕ → List ℕ → List ℕ → List ℕ
 bookOf k s number keys0 keys1 draw =
     cond (eqb number 0)
-    (serverBook (scaleOf (s .set)) (s .kind) (s .n) (widthOf k) (multipliers keys0 keys1) draw)
-    (phoneBook (scaleOf (s .set)) (s .kind) (s .n) (widthOf k) draw)
+    (serverBook (paramsIn s) (widthOf k) (multipliers keys0 keys1) draw)
+    (phoneBook (paramsIn s) (widthOf k) draw)
 
 -- side `number`, with these inputs; k keys a side
 abbrev pub handOf : ℕ → Settings → ℕ → List ℕ → List ℕ → List ℕ → List ℕ → Hand
@@ -102,7 +98,7 @@ pub record Move : Type 0 where
 module _ (k : ℕ) (s : Settings) (serial : ℕ) where
   abbrev pub beginAt : Hand → Seat → After
   beginAt h x =
-      beginCall k (x .side) (h .number) (s .set) (s .kind) (s .n) (s .bound) (h .keys) serial (h .inputs) (h .book) (x .work)
+      beginCall k (x .side) (runOf s serial h) (h .inputs) (h .book) (x .work)
 
   abbrev pub leftBy : Seat → After → Seat
   leftBy x a = record { side = a .done .side; work = a .work; latest = x .latest }

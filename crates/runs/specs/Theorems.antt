@@ -2,10 +2,10 @@
 use Prim.Native.Nat.{ℕ, _<_}
 use mathlib.Core.Path.{_≡_}
 use mathlib.Core.List.{List}
-use Rattle.settings.specs.Sets.{scaleOf}
 use Rattle.settings.specs.Sizes.{widthOf}
 use Rattle.column.specs.Run.{plainOpened}
 use Rattle.settings.specs.declared.Settings.{Settings}
+use Rattle.settings.specs.Settings.{termsOf}
 use Rattle.runs.specs.Records.{World, Move, worldAfter}
 use Rattle.runs.specs.Demands.{Fixed, Secret, Shares, Possible, Start, ownHand, otherHand}
 use Rattle.runs.specs.Progress.{none, countsAfter, worldAt}
@@ -25,5 +25,5 @@ T3 k =
     → (calls : List Move)
     → let h = ownHand k s number keys0 keys1 inputs draw in
     let o = otherHand k s number keys0 keys1 inputs secret draw in
-    let numbers : ℕ → List ℕ = plainOpened (scaleOf (s .set)) (s .kind) (s .n) (s .bound) (widthOf k) draw secret in
+    let numbers : ℕ → List ℕ = plainOpened (termsOf s) (widthOf k) draw secret in
     worldAfter k s serial h o w calls ≡ worldAt k s serial numbers h o w (countsAfter k s number none calls)

@@ -33,8 +33,8 @@ keysOk keys = every keyOk keys
 unfoldable pub shapeOk : Shape → Bool
 shapeOk a = isBit (a .set) && isBit (a .kind) && countOk (a .n)
 
-unfoldable pub settingsOk : Settings → Bool
-settingsOk s = shapeOk (s .shape) && boundOk (s .shape .kind) (s .bound)
+abbrev pub settingsOk : Settings → Bool
+settingsOk s = isBit (s .shape .set) && isBit (s .shape .kind) && countOk (s .shape .n) && boundOk (s .shape .kind) (s .bound)
 
 -- questions 1 and 2 of set, kind and N, and then the rest
 unfoldable pub askShape : Shape → ℕ → ℕ

@@ -14,12 +14,9 @@ use Rattle.lists.specs.Lists.{fill, listTo, allBelow, allTo}
 use Rattle.lists.proofs.Lists.{length-listFrom, getD-listTo, listTo-cong}
 use Rattle.lists.proofs.Questions.{passed}
 use Rattle.field.specs.Field.{q}
-use Rattle.settings.specs.Sets.{scaleOf}
 use Rattle.settings.specs.Sizes.{keyCount, mostOpenings, openings, fieldCount, messageLength, workLength}
 use Rattle.message.specs.Message.{headerNumber, headerIn, fieldsOk, askForm}
 use Rattle.message.specs.Fields.{HeaderFits}
-use Rattle.message.proofs.Form.{settings-fit}
-use Rattle.settings.specs.declared.Settings.{Settings}
 use Rattle.settings.specs.Settings.{paramsIn, termsOf}
 use Rattle.slice.specs.Layout.{weights}
 use Rattle.steps.specs.Work.{takenWork}
@@ -27,16 +24,16 @@ use Rattle.state.specs.declared.Side.{Side}
 use Rattle.state.specs.declared.Phase.the-variants.{Stopped}
 use Rattle.state.specs.State.{takeDue, inPhase, Whole}
 use Rattle.state.proofs.States.{due-whole}
-use Rattle.opening.specs.Opening.{opened, passes}
-use Rattle.opening.specs.Work.{settingsIn, joinedAt}
+use Rattle.opening.specs.Opening.{dueHeader, opened, passes}
+use Rattle.opening.specs.Work.{joinedAt}
 use Rattle.opening.proofs.Taking.{Holds, joined-at, behind-at, joined-is}
 use Rattle.side.specs.Side.{after, takeNo, openedList, takenSide, takeCall}
 use Rattle.side.specs.Work.{takeDoor, frontOf}
 
 -- ---- The questions
 
-pub whole-fits : (s : Side) → Whole s → HeaderFits (s .number) (s .settings .shape .set) (s .settings .shape .kind) (s .settings .shape .n) (s .round) (s .settings .bound)
-whole-fits s h = settings-fit (s .number) (s .settings) (s .round) (h .settings) (omega (arith, h .round-most))
+pub whole-fits : (s : Side) → Whole s → HeaderFits (dueHeader s)
+whole-fits s h = record { sender-fits = omega arith; settings-fit = h .ready; round-fits = omega (arith, h .round-most) }
 
 -- a no at the door is the no of the chain, and is not 13; behind the door the rest decides
 abbrev doors : (a b c d e f : Bool) → ℕ → ℕ
@@ -73,7 +70,7 @@ module _ (k : ℕ) (s : Side) (work msg : List ℕ) where
   long = eqb (length msg) (messageLength k (paramsIn (s .settings)) (s .round))
 
   abbrev mine : Bool
-  mine = eqb (headerIn (fieldCount k (paramsIn (s .settings)) (s .round)) msg) (headerNumber (1 - s .number) (s .settings) (s .round) (s .serial))
+  mine = eqb (headerIn (fieldCount k (paramsIn (s .settings)) (s .round)) msg) (headerNumber (dueHeader s))
 
   abbrev fields : Bool
   fields = fieldsOk (fieldCount k (paramsIn (s .settings)) (s .round)) msg
@@ -141,9 +138,9 @@ module _ (s : Side) (work own msg z numbers : List ℕ) (fields : Whole s) (hold
   front-same = listTo-cong count _ _ opened-is
 
   -- the slice that `take_work` leaves
-  pub work-same : (settings : Settings) (ws later : List ℕ) → settings ≡ settingsIn s → ws ≡ weights keyCount (s .number) (s .keys)
-      → later ≡ takenWork (scaleOf (settings .set)) (settings .kind) (settings .n) (settings .bound) (s .round) (λ (o : ℕ). getD numbers o 0) ws work
+  pub work-same : (ws later : List ℕ) → ws ≡ weights keyCount (s .number) (s .keys)
+      → later ≡ takenWork (termsOf (s .settings)) (s .round) (λ (o : ℕ). getD numbers o 0) ws work
       → later ≡ takenWork (termsOf (s .settings)) (s .round) (λ (o : ℕ). getD (openedList keyCount s work msg) o 0) (weights keyCount (s .number) (s .keys)) work
-  work-same settings ws later f g p =
-      rw (f, g) at p
+  work-same ws later g p =
+      rw g at p
       ∙ ap (λ (h : ℕ → ℕ). takenWork (termsOf (s .settings)) (s .round) h (weights keyCount (s .number) (s .keys)) work) (fun-ext opened-at)

@@ -8,7 +8,6 @@ use lib.ListN.{length, getD, replicate}
 use Rattle.lists.specs.Answers.{ask}
 use Rattle.lists.specs.Lists.{allBelow, allTo, listTo, inFront}
 use Rattle.field.specs.Field.{q}
-use Rattle.settings.specs.Sets.{scaleOf}
 use Rattle.settings.specs.Sizes.{widthOf, openings, messageLength, shared, workLength}
 use Rattle.settings.specs.Questions.{askSettings, keysOk}
 use Rattle.settings.specs.Order.{rounds, roundAfter}
@@ -19,36 +18,38 @@ use Rattle.steps.specs.Work.{takenWork}
 use Rattle.state.specs.declared.Side.{Side}
 use Rattle.state.specs.declared.Phase.the-variants.{Stopped}
 use Rattle.state.specs.State.{sendDue, takeDue, underWay, inPhase, stepOf, phaseAfter, atStep}
-use Rattle.opening.specs.Opening.{message, opened, passes}
+use Rattle.opening.specs.Opening.{dueHeader, message, opened, passes}
+use Rattle.side.specs.declared.Run.{Run}
 use Rattle.side.specs.declared.Done.{Done}
 use Rattle.side.specs.declared.Sent.{Sent}
 
 -- ---- Begin
 
 -- questions 4 to 7 of begin; question 5: inputs, book and working slice; question 6: inputs and book
-unfoldable pub handedNo : ℕ → Side → ℕ → ℕ → ℕ → List ℕ → ℕ → List ℕ → List ℕ → List ℕ → ℕ
-handedNo k s set kind n keys serial inputs book work =
-    ask (keysOk keys) 4
+unfoldable pub handedNo : ℕ → Side → Run → List ℕ → List ℕ → List ℕ → ℕ
+handedNo k s r inputs book work =
+    let p = paramsIn (r .settings) in
+    ask (keysOk (r .keys)) 4
     (ask
-    (eqb (length inputs) (n * widthOf k)
-    && eqb (length book) (shared (scaleOf set) kind n * widthOf k)
+    (eqb (length inputs) (p .n * widthOf k)
+    && eqb (length book) (shared p * widthOf k)
     && eqb (length work) (workLength k))
     5
     (ask (allBelow q inputs && allBelow q book) 6
-    (ask (ltb (s .serial) serial) 7
+    (ask (ltb (s .serial) (r .serial)) 7
     0)))
 
 -- "Begin: 8 (no run under way), 1 to 7"
-unfoldable pub beginNo : ℕ → Side → ℕ → ℕ → ℕ → ℕ → ℕ → List ℕ → ℕ → List ℕ → List ℕ → List ℕ → ℕ
-beginNo k s number set kind n bound keys serial inputs book work =
+unfoldable pub beginNo : ℕ → Side → Run → List ℕ → List ℕ → List ℕ → ℕ
+beginNo k s r inputs book work =
     ask (not (underWay s)) 8
-    (askSettings number set kind n bound
-    (handedNo k s set kind n keys serial inputs book work))
+    (askSettings (r .number) (r .settings)
+    (handedNo k s r inputs book work))
 
 -- no step made: round 1, the server to send, the phone to take
-unfoldable pub begunSide : ℕ → ℕ → ℕ → ℕ → ℕ → List ℕ → ℕ → Side
-begunSide number set kind n bound keys serial =
-    record { number = number; set = set; kind = kind; n = n; bound = bound; keys = keys; serial = serial; round = roundAfter 0; phase = phaseAfter number 0; answer = replicate 8 0 }
+unfoldable pub begunSide : Run → Side
+begunSide r =
+    record { number = r .number; settings = r .settings; keys = r .keys; serial = r .serial; round = roundAfter 0; phase = phaseAfter (r .number) 0; answer = replicate 8 0 }
 
 -- a call's result, and the lent slice at exit
 pub record After : Type 0 where
@@ -59,11 +60,11 @@ abbrev pub after : ℕ → Side → List ℕ → After
 after refused s work = record { done = record { refused = refused; side = s }; work = work }
 
 -- "A no returns its number, with side, buffers and last serial unchanged"
-unfoldable pub beginCall : ℕ → Side → ℕ → ℕ → ℕ → ℕ → ℕ → List ℕ → ℕ → List ℕ → List ℕ → List ℕ → After
-beginCall k s number set kind n bound keys serial inputs book work =
-    let refusal = beginNo k s number set kind n bound keys serial inputs book work in
+unfoldable pub beginCall : ℕ → Side → Run → List ℕ → List ℕ → List ℕ → After
+beginCall k s r inputs book work =
+    let refusal = beginNo k s r inputs book work in
     cond (eqb refusal 0)
-    (after 0 (begunSide number set kind n bound keys serial) (begunWork (scaleOf set) kind n (widthOf k) inputs book))
+    (after 0 (begunSide r) (begunWork (paramsIn (r .settings)) (widthOf k) inputs book))
     (after refusal s work)
 
 -- ---- Send
@@ -103,7 +104,7 @@ takeNo k s work msg =
     ask (takeDue s) 8
     (ask (eqb (length work) (workLength k)) 5
     (ask (allBelow q work) 6
-    (askForm k (s .number) (s .settings) (s .round) (s .serial) msg
+    (askForm k (dueHeader s) msg
     (ask (allTo (openings (paramsIn (s .settings)) (s .round)) (passes k s work msg)) 13
     0))))
 

@@ -10,6 +10,7 @@ use Rattle.settings.specs.Sizes.{openings, workLength}
 use Rattle.settings.specs.Settings.{paramsIn}
 use Rattle.message.specs.Message.{askForm}
 use Rattle.state.specs.declared.Side.{Side}
+use Rattle.opening.specs.Opening.{dueHeader}
 use Rattle.state.specs.State.{takeDue}
 
 -- questions 8, 5, 6 and 10 to 12
@@ -18,7 +19,7 @@ takeDoor k s work msg =
     ask (takeDue s) 8
     (ask (eqb (length work) (workLength k)) 5
     (ask (allBelow q work) 6
-    (askForm k (s .number) (s .settings) (s .round) (s .serial) msg
+    (askForm k (dueHeader s) msg
     0)))
 
 -- the numbers of a round's openings that a list holds in front

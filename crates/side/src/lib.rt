@@ -3,32 +3,42 @@ ghost use mathlib.Core.Path.{_≡_};
 ghost use Prim.Native.Nat.{_≤_, _<_};
 ghost use lib.ListN.{length};
 ghost use Rattle.settings.specs.Sizes.{keyCount, mostOpenings};
+ghost use Rattle.settings.specs.Questions.{Ready};
+ghost use Rattle.opening.specs.Opening.{dueHeader};
 ghost use Rattle.state.specs.State.{Whole};
 ghost use Rattle.side.specs.Work.{takeDoor, frontOf};
 ghost use Rattle.side.specs.Side.{handedNo, beginNo, begunSide, beginCall, sendNo, sentSide, sendCall, answerAfter, takenSide, takeCall};
-use settings::shared_of;
 use column::take_work;
 use field::all_below_q;
-use settings::MOST_OPENINGS;
-use settings::ROUNDS;
+use message::Header;
 use message::form_no;
-use settings::message_length;
-use settings::openings_in;
-use settings::round_after;
 use opening::OWN_LENGTH;
-use settings::WORK_LENGTH;
 use opening::checks_pass;
 use opening::clear;
 use opening::join_shares;
 use opening::load_columns;
 use opening::prepare_columns;
-use opening::settings_of;
 use opening::weights_of;
 use opening::write_message;
+use settings::FAILED_CHECK;
+use settings::KEY;
 use settings::KEYS;
+use settings::LENGTH;
+use settings::MOST_OPENINGS;
+use settings::NOT_BELOW_Q;
+use settings::NOT_DUE;
+use settings::NO_ROOM;
+use settings::ROUNDS;
+use settings::SERIAL;
+use settings::Settings;
 use settings::WIDTH;
+use settings::WORK_LENGTH;
 use settings::keys_ok;
+use settings::message_length;
+use settings::openings_in;
+use settings::round_after;
 use settings::settings_no;
+use settings::shared_of;
 use state::Phase;
 use state::Side;
 use state::at_step;
@@ -39,6 +49,14 @@ use state::send_due;
 use state::step_of;
 use state::take_due;
 use state::under_way;
+
+// What a run begins with at a side: its number, 0 server and 1 phone, the settings, its own keys, and the run's serial.
+pub struct Run {
+    pub number: u32,
+    pub settings: Settings,
+    pub keys: [u32; KEYS],
+    pub serial: u32,
+}
 
 // What begin and take give back: the number of the first no, or 0, and the side.
 pub struct Done {
@@ -56,137 +74,83 @@ pub struct Sent {
 // ---- Begin
 
 // Questions 4 to 7 of begin: the first no, or 0. (Begin has asked 1 to 3.)
-fn handed_no(
-    side: Side,
-    set: u32,
-    kind: u32,
-    n: u32,
-    keys: [u32; KEYS],
-    serial: u32,
-    inputs: &[u32],
-    book: &[u32],
-    work: &[u32],
-) -> u32
-    requires { ⌜ (set < 2) × (n ≤ 8) ⌝ }
-    ensures { λ r. ⌜ r ≡ handedNo keyCount side set kind n keys serial (now (inputs .entry)) (now (book .entry)) (now (work .entry)) ⌝ }
+fn handed_no(side: Side, run: Run, inputs: &[u32], book: &[u32], work: &[u32]) -> u32
+    requires { ⌜ Ready (run .settings) ⌝ }
+    ensures { λ r. ⌜ r ≡ handedNo keyCount side run (now (inputs .entry)) (now (book .entry)) (now (work .entry)) ⌝ }
 {
+    let keys = run.keys;
     if !keys_ok(keys) {
-        return 4;
+        return KEY;
     }
-    if inputs.len() != n as usize * WIDTH {
-        return 5;
+    let shape = run.settings.shape;
+    if inputs.len() != shape.n as usize * WIDTH {
+        return LENGTH;
     }
-    if book.len() != shared_of(set as usize, kind, n as usize) * WIDTH {
-        return 5;
+    if book.len() != shared_of(shape) * WIDTH {
+        return LENGTH;
     }
     if work.len() != WORK_LENGTH {
-        return 5;
+        return LENGTH;
     }
     if !all_below_q(inputs) {
-        return 6;
+        return NOT_BELOW_Q;
     }
     if !all_below_q(book) {
-        return 6;
+        return NOT_BELOW_Q;
     }
-    if serial <= side.serial {
-        return 7;
+    if run.serial <= side.serial {
+        return SERIAL;
     }
     0
 }
 
 // The first no of begin, or 0.
-fn begin_no(
-    side: Side,
-    number: u32,
-    set: u32,
-    kind: u32,
-    n: u32,
-    bound: u32,
-    keys: [u32; KEYS],
-    serial: u32,
-    inputs: &[u32],
-    book: &[u32],
-    work: &[u32],
-) -> u32
-    ensures { λ r. ⌜ r ≡ beginNo keyCount side number set kind n bound keys serial (now (inputs .entry)) (now (book .entry)) (now (work .entry)) ⌝ }
+fn begin_no(side: Side, run: Run, inputs: &[u32], book: &[u32], work: &[u32]) -> u32
+    ensures { λ r. ⌜ r ≡ beginNo keyCount side run (now (inputs .entry)) (now (book .entry)) (now (work .entry)) ⌝ }
 {
     if under_way(side) {
-        return 8;
+        return NOT_DUE;
     }
-    let no = settings_no(number, set, kind, n, bound);
+    let no = settings_no(run.number, run.settings);
     if no != 0 {
         return no;
     }
-    handed_no(side, set, kind, n, keys, serial, inputs, book, work)
+    handed_no(side, run, inputs, book, work)
 }
 
-// A side that has just begun: no step made.
-fn begun(
-    number: u32,
-    set: u32,
-    kind: u32,
-    n: u32,
-    bound: u32,
-    keys: [u32; KEYS],
-    serial: u32,
-) -> Side
-    ensures { λ r. ⌜ r ≡ begunSide number set kind n bound keys serial ⌝ }
+// A side that has just begun.
+fn begun(run: Run) -> Side
+    ensures { λ r. ⌜ r ≡ begunSide run ⌝ }
 {
-    let round = round_after(0);
-    let phase = phase_after(number, 0);
+    let settings = run.settings;
+    let keys = run.keys;
     Side {
-        number,
-        set,
-        kind,
-        n,
-        bound,
+        number: run.number,
+        settings,
         keys,
-        serial,
-        round,
-        phase,
+        serial: run.serial,
+        round: round_after(0),
+        phase: phase_after(run.number, 0),
         answer: [0; 8],
     }
 }
 
 // Begins a run.
-pub fn begin(
-    side: Side,
-    number: u32,
-    set: u32,
-    kind: u32,
-    n: u32,
-    bound: u32,
-    keys: [u32; KEYS],
-    serial: u32,
-    inputs: &[u32],
-    book: &[u32],
-    work: &mut [u32],
-) -> Done
+pub fn begin(side: Side, run: Run, inputs: &[u32], book: &[u32], work: &mut [u32]) -> Done
     ensures { λ r. ⌜ record { done = r; work = now (work .exit) }
-        ≡ beginCall keyCount side number set kind n bound keys serial (now (inputs .entry)) (now (book .entry)) (now (work .entry)) ⌝ }
+        ≡ beginCall keyCount side run (now (inputs .entry)) (now (book .entry)) (now (work .entry)) ⌝ }
 {
-    let refused = begin_no(
-        side,
-        number,
-        set,
-        kind,
-        n,
-        bound,
-        keys,
-        serial,
-        inputs,
-        book,
-        work,
-    );
+    let refused = begin_no(side, run, inputs, book, work);
     if refused != 0 {
         return Done { refused, side };
     }
-    let count = shared_of(set as usize, kind, n as usize);
+    let shape = run.settings.shape;
+    let count = shared_of(shape);
     clear(work);
-    load_columns(work, book, count, inputs, n as usize);
+    load_columns(work, book, count, inputs, shape.n as usize);
     Done {
         refused: 0,
-        side: begun(number, set, kind, n, bound, keys, serial),
+        side: begun(run),
     }
 }
 
@@ -197,16 +161,16 @@ fn send_no(side: Side, work: &[u32], out: &[u8]) -> u32
     ensures { λ r. ⌜ r ≡ sendNo keyCount side (now (work .entry)) (now (out .entry)) ⌝ }
 {
     if !send_due(side) {
-        return 8;
+        return NOT_DUE;
     }
     if work.len() != WORK_LENGTH {
-        return 5;
+        return LENGTH;
     }
     if !all_below_q(work) {
-        return 6;
+        return NOT_BELOW_Q;
     }
-    if out.len() < message_length(side.kind, side.n, side.round) {
-        return 9;
+    if out.len() < message_length(side.settings.shape, side.round) {
+        return NO_ROOM;
     }
     0
 }
@@ -242,29 +206,28 @@ pub fn send(side: Side, work: &[u32], out: &mut [u8]) -> Sent
 
 // ---- Take
 
+// The header that the other side's message must have. `take_no` has asked whether a take is due.
+fn due_header(side: Side) -> Header
+    requires { ⌜ side .number < 2 ⌝ }
+    ensures { λ r. ⌜ r ≡ dueHeader side ⌝ }
+{
+    Header::new(1 - side.number, side.settings, side.round, side.serial)
+}
+
 // Questions 8, 5, 6 and 10 to 12 of take: the first no, or 0.
 fn take_no(side: Side, work: &[u32], message: &[u8]) -> u32
     ensures { λ r. ⌜ r ≡ takeDoor keyCount side (now (work .entry)) (now (message .entry)) ⌝ }
 {
     if !take_due(side) {
-        return 8;
+        return NOT_DUE;
     }
     if work.len() != WORK_LENGTH {
-        return 5;
+        return LENGTH;
     }
     if !all_below_q(work) {
-        return 6;
+        return NOT_BELOW_Q;
     }
-    form_no(
-        side.number,
-        side.set,
-        side.kind,
-        side.n,
-        side.bound,
-        side.round,
-        side.serial,
-        message,
-    )
+    form_no(due_header(side), message)
 }
 
 // The answer that a side keeps: the last round opens it.
@@ -275,7 +238,7 @@ fn kept_answer(side: Side, opened: &[u32]) -> [u32; 8]
 {
     let mut answer = side.answer;
     if side.round == ROUNDS {
-        let count = openings_in(side.kind, side.n, side.round) as usize;
+        let count = openings_in(side.settings.shape, side.round) as usize;
         copy_front(&mut answer, opened, count);
     }
     answer
@@ -305,11 +268,11 @@ pub fn take(side: Side, work: &mut [u32], message: &[u8]) -> Done
     join_shares(&mut opened, &own, side, message);
     if !checks_pass(&opened, &own, side, message) {
         return Done {
-            refused: 13,
+            refused: FAILED_CHECK,
             side: in_phase(side, Phase::Stopped),
         };
     }
-    let settings = settings_of(side);
+    let settings = side.settings;
     let weights = weights_of(side);
     take_work(work, settings, side.round, &opened, &own, &weights);
     Done {

@@ -17,20 +17,20 @@ unfolding beginNo ask
 returns-2 c =
     let a = c .before .before .before .before .before .before .before .args in
     rw (← c .before .before .before .under-way .ensures, c .before .before .if1 .left)
-    (c .before .settings-no .ensures ∙ sym (settings-refuse (a .number) (a .set) (a .kind) (a .n) (a .bound) _ (λ z. c .if2 .taken (c .before .settings-no .ensures ∙ z))))
+    (c .before .settings-no .ensures ∙ sym (settings-refuse (a .run .number) (a .run .settings) _ (λ z. c .if2 .taken (c .before .settings-no .ensures ∙ z))))
 
 handed-no-requires : tie.Need-handed-no-requires
 handed-no-requires c κs =
     let a = c .before .before .before .before .before .before .before .args in
-    let ready = settings-ready (a .number) (a .set) (a .kind) (a .n) (a .bound) 0 (sym (c .before .settings-no .ensures) ∙ c .if2 .left) in
-    (ready .set2, ready .most)
+    let ready = settings-ready (a .run .number) (a .run .settings) 0 (sym (c .before .settings-no .ensures) ∙ c .if2 .left) in
+    ready .1
 
 returns-3 : tie.Need-returns-3
 unfolding beginNo ask
 returns-3 c =
     let a = c .before .before .before .before .before .before .before .before .args in
     rw (← c .before .before .before .before .under-way .ensures, c .before .before .before .if1 .left)
-    (c .handed-no .ensures ∙ sym (settings-pass (a .number) (a .set) (a .kind) (a .n) (a .bound) _ (sym (c .before .before .settings-no .ensures) ∙ c .before .if2 .left)))
+    (c .handed-no .ensures ∙ sym (settings-pass (a .run .number) (a .run .settings) _ (sym (c .before .before .settings-no .ensures) ∙ c .before .if2 .left)))
 
 pub begin-no-spec : {M : Type 1} → statement M
 begin-no-spec =

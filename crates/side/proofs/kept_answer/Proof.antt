@@ -16,14 +16,14 @@ use Rattle.side.proofs.kept_answer.Tie as tie
 copy-front-requires : tie.Need-copy-front-requires
 copy-front-requires c κs =
     let a = c .before .before .before .before .before .before .args in
-    let late = open-late (a .side .settings .shape .kind) (a .side .settings .shape .n) (a .side .round) (omega arith) (omega arith) (c .before .before .before .before .before .before .pre .0 .ready .some) in
+    let late = open-late (paramsIn (a .side .settings)) (a .side .round) (omega arith) (omega arith) (c .before .before .before .before .before .before .pre .0 .ready .some) in
     let eight : length (a .side .answer) ≡ 8 = search needs in
     (omega arith, omega arith)
 
 returns : tie.Need-returns
 returns c =
     let a = c .before .before .before .before .before .before .before .before .args in
-    let late = open-late (a .side .settings .shape .kind) (a .side .settings .shape .n) (a .side .round) (omega arith) (omega arith) (c .before .before .before .before .before .before .before .before .pre .0 .ready .some) in
+    let late = open-late (paramsIn (a .side .settings)) (a .side .round) (omega arith) (omega arith) (c .before .before .before .before .before .before .before .before .pre .0 .ready .some) in
     let eight : length (a .side .answer) ≡ 8 = search needs in
     let count = openings (paramsIn (a .side .settings)) (a .side .round) in
     let held : ℕ → ℕ = λ j. getD (a .opened .now) j 0 in

@@ -6,7 +6,6 @@ use Rattle.settings.specs.Sizes.{keyCount, mostOpenings}
 use Rattle.settings.proofs.Sizes.{openings-most}
 use Rattle.settings.specs.Settings.{paramsIn}
 use Rattle.state.specs.declared.Side.{Side}
-use Rattle.opening.proofs.Openings.{settings-in-ready}
 use Rattle.opening.proofs.Taking.{prepared-holds, holds-all, none-at, opened-below, checks-same}
 use Rattle.side.specs.Side.{after, takenSide}
 use Rattle.side.specs.Work.{takeDoor}
@@ -54,7 +53,7 @@ take-work-requires c κs =
     let ready = take-ready keyCount (a .side) (a .work .now) (a .message .now) passed in
     let holds = prepared-holds (a .side) (a .work .now) _ _ (ready .fields .ready .most) refl (c .before .before .before .before .before .before .before .before .before .before .before .before .before .before .before .prepare-columns .ensures) in
     let few = openings-most (paramsIn (a .side .settings)) (a .side .round) (ready .fields .ready .most) in
-    (settings-in-ready (a .side) (c .before .before .before .before .before .settings-of .result) (c .before .before .before .before .before .settings-of .ensures) (ready .fields), ((ready .fields .round-some, ready .fields .round-most, search needs, search needs, search needs), ((rw (c .before .before .before .before .before .settings-of .ensures) (search needs), opened-below (a .side) (a .work .now) _ (a .message .now) _ _ (ready .fields) holds refl (none-at mostOpenings) (c .before .before .before .before .before .before .before .before .before .before .before .join-shares .ensures)), holds-all (a .side) (a .work .now) (c .before .before .before .before .before .before .before .before .before .before .before .before .before .before .before .prepare-columns .last .0) (c .before .before .before .before .before .settings-of .result) (c .before .before .before .before .weights-of .result) (c .before .before .before .before .before .settings-of .ensures) (c .before .before .before .before .weights-of .ensures) (search needs) holds)))
+    (ready .fields .ready, ((ready .fields .round-some, ready .fields .round-most, search needs, search needs, search needs), ((search needs, opened-below (a .side) (a .work .now) _ (a .message .now) _ _ (ready .fields) holds refl (none-at mostOpenings) (c .before .before .before .before .before .before .before .before .before .before .before .join-shares .ensures)), holds-all (a .side) (a .work .now) (c .before .before .before .before .before .before .before .before .before .before .before .before .before .before .before .prepare-columns .last .0) (c .before .before .before .before .weights-of .result) (c .before .before .before .before .weights-of .ensures) (search needs) holds)))
 
 taken-side-requires : tie.Need-taken-side-requires
 taken-side-requires c κs =
@@ -70,7 +69,7 @@ returns-3 c =
     let ready = take-ready keyCount (a .side) (a .work .now) (a .message .now) passed in
     let holds = prepared-holds (a .side) (a .work .now) _ _ (ready .fields .ready .most) refl (c .before .before .before .before .before .before .before .before .before .before .before .before .before .before .before .before .before .before .before .before .prepare-columns .ensures) in
     ap₂ (after 0) (c .taken-side .ensures ∙ ap (takenSide (a .side)) (front-same (a .side) (a .work .now) _ (a .message .now) _ _ (ready .fields) holds refl (none-at mostOpenings) (c .before .before .before .before .before .before .before .before .before .before .before .before .before .before .before .before .join-shares .ensures)))
-    (work-same (a .side) (a .work .now) _ (a .message .now) _ _ (ready .fields) holds refl (none-at mostOpenings) (c .before .before .before .before .before .before .before .before .before .before .before .before .before .before .before .before .join-shares .ensures) (c .before .before .before .before .before .before .before .before .before .before .settings-of .result) (c .before .before .before .before .before .before .before .before .before .weights-of .result) _ (c .before .before .before .before .before .before .before .before .before .before .settings-of .ensures) (c .before .before .before .before .before .before .before .before .before .weights-of .ensures) (c .before .before .before .before .take-work .ensures))
+    (work-same (a .side) (a .work .now) _ (a .message .now) _ _ (ready .fields) holds refl (none-at mostOpenings) (c .before .before .before .before .before .before .before .before .before .before .before .before .before .before .before .before .join-shares .ensures) (c .before .before .before .before .before .before .before .before .before .weights-of .result) _ (c .before .before .before .before .before .before .before .before .before .weights-of .ensures) (c .before .before .before .before .take-work .ensures))
     ∙ take-done keyCount (a .side) (a .work .now) (a .message .now) passed (sym (checks-same (a .side) (a .work .now) _ (a .message .now) _ _ (ready .fields) holds refl (none-at mostOpenings) (c .before .before .before .before .before .before .before .before .before .before .before .before .before .before .before .before .join-shares .ensures)) ∙ sym (c .before .before .before .before .before .before .before .before .before .before .before .before .checks-pass .ensures) ∙ not-false _ (c .before .before .before .before .before .before .before .before .before .before .before .if2 .left))
 
 pub take-spec : {M : Type 1} → statement M
@@ -91,7 +90,6 @@ take-spec =
     (λ c κs. search needs)
     (λ c. search needs)
     returns-2
-    (λ c κs. search needs)
     (λ c κs. search needs)
     (λ c. search needs)
     (λ c. search needs)

@@ -22,12 +22,15 @@ returns-3 : tie.Need-returns-3
 unfolding takeDoor ask
 returns-3 c = rw (sym (c .before .before .before .before .take-due .ensures) ∙ not-false _ (c .before .before .before .if1 .left), eq-eqb (length (c .before .before .before .before .before .before .before .args .work .now)) _ (c .before .before .if2 .left), sym (c .before .all-below-q .ensures) ∙ not-true _ (c .if3 .taken))
 
+due-header-requires : tie.Need-due-header-requires
+due-header-requires c κs = due-whole (c .before .before .before .before .before .before .before .args .side) (sym (c .before .before .before .before .take-due .ensures) ∙ not-false _ (c .before .before .before .if1 .left)) .side2
+
 form-no-requires : tie.Need-form-no-requires
-form-no-requires c κs = whole-fits (c .before .before .before .before .before .before .before .args .side) (due-whole (c .before .before .before .before .before .before .before .args .side) (sym (c .before .before .before .before .take-due .ensures) ∙ not-false _ (c .before .before .before .if1 .left)))
+form-no-requires c κs = rw (c .due-header .ensures) (whole-fits (c .before .before .before .before .before .before .before .before .args .side) (due-whole (c .before .before .before .before .before .before .before .before .args .side) (sym (c .before .before .before .before .before .take-due .ensures) ∙ not-false _ (c .before .before .before .before .if1 .left))))
 
 returns-4 : tie.Need-returns-4
 unfolding takeDoor ask
-returns-4 c = rw (sym (c .before .before .before .before .before .take-due .ensures) ∙ not-false _ (c .before .before .before .before .if1 .left), eq-eqb (length (c .before .before .before .before .before .before .before .before .args .work .now)) _ (c .before .before .before .if2 .left), sym (c .before .before .all-below-q .ensures) ∙ not-false _ (c .before .if3 .left)) (c .form-no .ensures)
+returns-4 c = rw (sym (c .before .before .before .before .before .before .take-due .ensures) ∙ not-false _ (c .before .before .before .before .before .if1 .left), eq-eqb (length (c .before .before .before .before .before .before .before .before .before .args .work .now)) _ (c .before .before .before .before .if2 .left), sym (c .before .before .before .all-below-q .ensures) ∙ not-false _ (c .before .before .if3 .left), ← c .before .due-header .ensures) (c .form-no .ensures)
 
 pub take-no-spec : {M : Type 1} → statement M
 take-no-spec =
@@ -38,5 +41,6 @@ take-no-spec =
     returns-2
     (λ c κs. search needs)
     returns-3
+    due-header-requires
     form-no-requires
     returns-4)
