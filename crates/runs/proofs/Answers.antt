@@ -14,7 +14,6 @@ use Rattle.lists.proofs.Questions.{both-yes}
 use Rattle.lists.proofs.Every.{below-at, allTo-at}
 use Rattle.lists.proofs.Lists.{length-listFrom, listTo-cong, listTo-getD}
 use Rattle.field.specs.Field.{q}
-use Rattle.field.specs.Sums.{sumTo}
 use Rattle.settings.specs.Sets.{scaleOf}
 use Rattle.rounding.specs.Plain.{highPart, decompose}
 use Rattle.rounding.specs.Rounds.{gap}
@@ -30,25 +29,16 @@ use Rattle.side.specs.Side.{begunSide}
 use Rattle.settings.specs.declared.Settings.{Settings}
 use Rattle.settings.specs.Questions.{settingsOk}
 use Rattle.settings.specs.Settings.{paramsIn, termsOf}
+use Rattle.settings.proofs.Sizes.{shared-most}
 use Rattle.runs.specs.Records.{answerOf, Hand}
 use Rattle.runs.specs.Demands.{Secret, Possible, Ended, Demand2, FipsHigh, ownHand, otherHand}
 use Rattle.runs.specs.Progress.{sideAt, seatAt, worldAt}
 use Rattle.runs.specs.Theorems.{T3}
-use Rattle.runs.proofs.Seats.{Which, Terms}
+use Rattle.runs.proofs.Seats.{Which, FieldsPass}
 use Rattle.runs.proofs.Seats.Which.{server, phone}
 use Rattle.runs.proofs.Whole.{allowed, terms}
 use Rattle.runs.proofs.Steady.{finished-at, count-at}
 use Rattle.runs.proofs.Carried.{carried}
-
--- ---- Openings in all
-
-pub openings-high : (n : ℕ) → openingsUpTo 0 n rounds ≡ 19 * n
-unfolding openingsUpTo sumTo openings
-openings-high n = omega arith
-
-pub openings-bound : (n : ℕ) → openingsUpTo 1 n rounds ≡ 17 * n + 2
-unfolding openingsUpTo sumTo openings
-openings-bound n = omega arith
 
 -- ---- FIPS 204
 
@@ -79,9 +69,9 @@ gaps-fit : (n : ℕ) → n < 9 → q % (n + 1) ≤ gap q n
 unfolding allTo
 gaps-fit n l = leb-true (q % (n + 1)) (gap q n) (allTo-at 9 (λ (i : ℕ). leb (q % (i + 1)) (gap q i)) n refl l)
 
-pub sound : (k : ℕ) (s : Settings) (secret draw : List ℕ) → Sizes → settingsOk s ≡ true → Secret s secret → Possible k s draw
+pub sound : (k : ℕ) (s : Settings) (secret draw : List ℕ) → settingsOk s ≡ true → Secret s secret → Possible k s draw
     → Sound (termsOf s) k draw secret
-sound k s secret draw z e x d =
+sound k s secret draw e x d =
     let a = allowed s e in
     let b = bound-some (eqb (s .shape .kind) 0) (s .bound) (a .bound) in
     let set-is : s .shape .set < 2 = ltb-true (s .shape .set) 2 (a .set-bit) in
@@ -92,7 +82,7 @@ sound k s secret draw z e x d =
       counts = a .count;
       bounds = b .0;
       halves = b .1;
-      room = z .at-most (s .shape .set) (s .shape .kind) (s .shape .n) set-is n-most;
+      room = shared-most (s .shape) set-is n-most;
       gaps = gaps-fit (s .shape .n) (omega arith);
       secret-size = x .size-is;
       secret-below = λ j. below-at q secret j (omega arith) (x .below);
@@ -114,17 +104,17 @@ module _ (k : ℕ) (s : Settings) (serial : ℕ) (numbers : ℕ → List ℕ) wh
   held-at _ server e = front-list _ (numbers (rounds - 1)) (drop (length (numbers (rounds - 1))) (replicate 8 0)) e
   held-at _ phone e = front-list _ (numbers (rounds - 1)) (drop (length (numbers (rounds - 1))) (replicate 8 0)) e
 
-  ended-at : (h : Hand) → Which h → Terms s serial h → (secret : List ℕ) → numbers (rounds - 1) ≡ answerOf s secret → length (numbers (rounds - 1)) ≡ openings (paramsIn s) rounds
+  ended-at : (h : Hand) → Which h → FieldsPass s serial h → (secret : List ℕ) → numbers (rounds - 1) ≡ answerOf s secret → length (numbers (rounds - 1)) ≡ openings (paramsIn s) rounds
       → Ended s secret (seatAt k s serial numbers h steps)
   unfolding seatAt
   ended-at h u t secret e l =
       record { done = done-at h u t; answer = held-at h u l ∙ e; openings = opened-at h u t }
     where
-      done-at : (h : Hand) → Which h → Terms s serial h → finished (sideAt k s serial numbers h steps) ≡ true
+      done-at : (h : Hand) → Which h → FieldsPass s serial h → finished (sideAt k s serial numbers h steps) ≡ true
       done-at h server t = finished-at k s serial numbers h (omega arith) t steps (omega arith)
       done-at h phone t = finished-at k s serial numbers h (omega arith) t steps (omega arith)
 
-      opened-at : (h : Hand) → Which h → Terms s serial h → countCall (sideAt k s serial numbers h steps) ≡ openingsUpTo (paramsIn s) rounds
+      opened-at : (h : Hand) → Which h → FieldsPass s serial h → countCall (sideAt k s serial numbers h steps) ≡ openingsUpTo (paramsIn s) rounds
       opened-at h server t = count-at k s serial numbers h (omega arith) t steps (omega arith)
       opened-at h phone t = count-at k s serial numbers h (omega arith) t steps (omega arith)
 
@@ -139,7 +129,7 @@ demand2 k progress t2 z s serial keys0 keys1 f secret inputs draw x y d w i call
     let numbers : ℕ → List ℕ = plainOpened (termsOf s) (widthOf k) draw secret in
     let h : Hand = ownHand k s 0 keys0 keys1 inputs draw in
     let o : Hand = otherHand k s 0 keys0 keys1 inputs secret draw in
-    let a : numbers (rounds - 1) ≡ answerOf s secret = t2 .answer (termsOf s) k draw secret (sound k s secret draw z (f .settings) x d) in
+    let a : numbers (rounds - 1) ≡ answerOf s secret = t2 .answer (termsOf s) k draw secret (sound k s secret draw (f .settings) x d) in
     let l = opened-size s (widthOf k) draw secret in
     rw (progress s serial keys0 keys1 f 0 (omega arith) secret inputs draw x y d w i calls, carried k s calls e) (
       ended-at k s serial numbers h server (terms k s serial keys0 keys1 f 0 (omega arith) draw inputs) secret a l,

@@ -11,16 +11,16 @@ use Rattle.lists.specs.Answers.{ask}
 use Rattle.lists.specs.Lists.{allTo, allBelow}
 use Rattle.field.specs.Field.{q}
 use Rattle.settings.specs.Sizes.{widthOf, openings, messageLength, workLength}
-use Rattle.settings.specs.Questions.{askSettings}
+use Rattle.settings.specs.Questions.{askShape, askSettings}
 use Rattle.message.specs.Message.{askForm}
 use Rattle.slice.specs.Layout.{weights, begunWork}
 use Rattle.steps.specs.Work.{takenWork}
 use Rattle.state.specs.State.{sendDue, takeDue}
-use Rattle.opening.specs.Opening.{message, passes}
+use Rattle.opening.specs.Opening.{message, passes, dueHeader}
 use Rattle.side.specs.Side.{handedNo, beginNo, beginCall, begunSide, sendNo, sendCall, sentSide, takeNo, takeCall, takenSide, openedList}
 use Rattle.settings.specs.declared.Settings.{Settings}
 use Rattle.settings.specs.Settings.{paramsIn, termsOf}
-use Rattle.runs.specs.Records.{Hand, Seat, Event, Outcome, outcome}
+use Rattle.runs.specs.Records.{Hand, Seat, Event, Outcome, outcome, runOf}
 use Rattle.runs.specs.Records.Call.{begin, send, takeLatest}
 use Rattle.runs.specs.Records.Event.{began, sent, took, answered, counted}
 use Rattle.runs.proofs.Laws.{message-sized}
@@ -47,7 +47,7 @@ ask-in b n e = rw e refl
 -- what the begin of hand h answers at a seat, and what each call leaves there when it goes through
 abbrev pub beginNoAt : ℕ → Settings → ℕ → Hand → Seat → ℕ
 beginNoAt k s serial h x =
-    beginNo k (x .side) (h .number) s (h .keys) serial (h .inputs) (h .book) (x .work)
+    beginNo k (x .side) (runOf s serial h) (h .inputs) (h .book) (x .work)
 
 abbrev pub begunSeat : ℕ → Settings → ℕ → Hand → Seat → Seat
 begunSeat k s serial h x =
@@ -125,11 +125,11 @@ module _ (k : ℕ) (s : Settings) (serial : ℕ) (h : Hand) (m : List ℕ) (x : 
 
   -- a serial that was begun is spent
   pub begin-spent : x .side .serial ≡ serial → Leaves (outcome k s serial h m x begin) x false
-  unfolding beginNo handedNo askSettings
+  unfolding beginNo handedNo askSettings askShape
   begin-spent e =
       begin-stay
-      (ask-no _ 7 _ refl (ask-no _ 0 _ refl (ask-no _ 1 _ refl (ask-no _ 2 _ refl (ask-no _ 3 _ refl (ask-no _ 4 _ refl (ask-no _ 5 _ refl
-      (ask-last _ 6 _ (le-ltb (x .side .serial) serial (omega arith))))))))))
+      (ask-no _ 7 _ refl (ask-no _ 0 _ refl (ask-no _ 0 _ refl (ask-no _ 1 _ refl (ask-no _ 2 _ refl (ask-no _ 3 _ refl (ask-no _ 4 _ refl (ask-no _ 5 _ refl
+      (ask-last _ 6 _ (le-ltb (x .side .serial) serial (omega arith)))))))))))
 
 -- ---- a step due, at a seat with a slice that passes
 pub record Sound (k : ℕ) (x : Seat) : Type 0 where
@@ -144,7 +144,7 @@ module _ (k : ℕ) (x : Seat) (v : Sound k x) where
 
   pub take-due : (m : List ℕ) → takeDue (x .side) ≡ true
       → takeNo k (x .side) (x .work) m
-      ≡ askForm k (x .side .number) (x .side .settings) (x .side .round) (x .side .serial) m
+      ≡ askForm k (dueHeader (x .side)) m
       (ask (allTo (openings (paramsIn (x .side .settings)) (x .side .round)) (passes k (x .side) (x .work) m)) 13 0)
   unfolding takeNo ask
   take-due m e = rw (e, v .exact, v .low)

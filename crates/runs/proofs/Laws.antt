@@ -10,9 +10,10 @@ use borrow.Author.Tests.{ne-eqb, eqb-true}
 use Rattle.lists.specs.Lists.{joinFrom}
 use Rattle.lists.proofs.Lists.{length-listFrom}
 use Rattle.settings.specs.Sizes.{bytesFor, openings, messageBits, fieldCount, messageLength}
-use Rattle.settings.specs.Settings.{paramsIn}
+use Rattle.settings.specs.Settings.{paramsIn, Params}
+use Rattle.settings.specs.declared.Settings.{Settings}
 use Rattle.message.specs.Bits.{packed}
-use Rattle.message.specs.Message.{messageOf, headerIn, headerNumber}
+use Rattle.message.specs.Message.{messageOf, headerIn, headerNumber, headerWith}
 use Rattle.opening.specs.Opening.{message}
 use Rattle.state.specs.declared.Side.{Side}
 
@@ -26,10 +27,10 @@ length-join i (suc n) w f e =
     mul-next w n = omega arith
 
 -- a message is as long as its round asks
-pub message-sized : (k : ℕ) (s : Side) (work : List ℕ) → length (message k s work) ≡ messageLength k (paramsIn s) (s .round)
+pub message-sized : (k : ℕ) (s : Side) (work : List ℕ) → length (message k s work) ≡ messageLength k (paramsIn (s .settings)) (s .round)
 unfolding message messageOf packed messageLength
 message-sized k s work =
-    length-listFrom 0 _ _ ∙ ap (λ f. bytesFor (messageBits f)) (length-join 0 (openings (paramsIn s) (s .round)) (1 + k) _
+    length-listFrom 0 _ _ ∙ ap (λ f. bytesFor (messageBits f)) (length-join 0 (openings (paramsIn (s .settings)) (s .round)) (1 + k) _
     (λ j. ap suc (length-listFrom 0 k _) ∙ add-one k))
   where
     add-one : (k : ℕ) → suc k ≡ 1 + k
@@ -39,26 +40,26 @@ message-sized k s work =
 pub same-fields : (a b : ℕ) → bytesFor (messageBits a) ≡ bytesFor (messageBits b) → a ≡ b
 same-fields a b e = omega (arith, e)
 
-pub same-count : (k kind n a b : ℕ) → messageLength k kind n a ≡ messageLength k kind n b → fieldCount k kind n a ≡ fieldCount k kind n b
+pub same-count : (k : ℕ) (p : Params) (a b : ℕ) → messageLength k p a ≡ messageLength k p b → fieldCount k p a ≡ fieldCount k p b
 unfolding messageLength
-same-count k kind n a b e = same-fields (fieldCount k kind n a) (fieldCount k kind n b) e
+same-count k p a b e = same-fields (fieldCount k p a) (fieldCount k p b) e
 
-pub next-header : (sender set kind n bound round serial : ℕ)
-    → headerNumber sender set kind n bound round serial ≡ headerNumber sender set kind n bound (suc round) serial → ⊥
+pub next-header : (sender : ℕ) (s : Settings) (round serial : ℕ)
+    → headerNumber (headerWith sender s round serial) ≡ headerNumber (headerWith sender s (suc round) serial) → ⊥
 unfolding headerNumber
-next-header sender set kind n bound round serial e = omega (arith, e)
+next-header sender s round serial e = omega (arith, e)
 
 -- a message of the round before is told by length or header
-pub told : (k sender set kind n bound serial : ℕ) (msg : List ℕ) (round : ℕ)
-    → length msg ≡ messageLength k kind n round
-    → headerIn (fieldCount k kind n round) msg ≡ headerNumber sender set kind n bound round serial
-    → (eqb (length msg) (messageLength k kind n (suc round))
-    && eqb (headerIn (fieldCount k kind n (suc round)) msg) (headerNumber sender set kind n bound (suc round) serial)) ≡ false
-told k sender set kind n bound serial msg round l h = by (eqb (length msg) (messageLength k kind n (suc round))) refl
+pub told : (k sender : ℕ) (s : Settings) (serial : ℕ) (msg : List ℕ) (round : ℕ)
+    → length msg ≡ messageLength k (paramsIn s) round
+    → headerIn (fieldCount k (paramsIn s) round) msg ≡ headerNumber (headerWith sender s round serial)
+    → (eqb (length msg) (messageLength k (paramsIn s) (suc round))
+    && eqb (headerIn (fieldCount k (paramsIn s) (suc round)) msg) (headerNumber (headerWith sender s (suc round) serial))) ≡ false
+told k sender s serial msg round l h = by (eqb (length msg) (messageLength k (paramsIn s) (suc round))) refl
   where
-    by : (d : Bool) → eqb (length msg) (messageLength k kind n (suc round)) ≡ d
-        → (eqb (length msg) (messageLength k kind n (suc round)) && eqb (headerIn (fieldCount k kind n (suc round)) msg) (headerNumber sender set kind n bound (suc round) serial)) ≡ false
+    by : (d : Bool) → eqb (length msg) (messageLength k (paramsIn s) (suc round)) ≡ d
+        → (eqb (length msg) (messageLength k (paramsIn s) (suc round)) && eqb (headerIn (fieldCount k (paramsIn s) (suc round)) msg) (headerNumber (headerWith sender s (suc round) serial))) ≡ false
     by false e = rw e
     by true e =
-        rw (e, ← same-count k kind n round (suc round) (sym l ∙ eqb-true _ _ e), h)
-        (ne-eqb _ _ (next-header sender set kind n bound round serial))
+        rw (e, ← same-count k (paramsIn s) round (suc round) (sym l ∙ eqb-true _ _ e), h)
+        (ne-eqb _ _ (next-header sender s round serial))

@@ -10,7 +10,7 @@ use lib.Dec.{eqb, leb}
 use borrow.Author.Tests.{ne-eqb, eqb-true, eqb-false}
 use Rattle.lists.specs.Answers.{ask}
 use Rattle.lists.specs.Lists.{inFront}
-use Rattle.settings.specs.Questions.{isBit, countOk, boundOk, askSettings, keysOk}
+use Rattle.settings.specs.Questions.{isBit, countOk, boundOk, askSettings, keysOk, askShape}
 use Rattle.settings.specs.Order.{rounds, steps, sendsAfter, takenBy, sentBy, sendStep, takeStep}
 use Rattle.settings.specs.Sizes.{messageLength}
 use Rattle.settings.proofs.Order.{round-ok, send-round, take-round}
@@ -21,7 +21,7 @@ use Rattle.state.specs.declared.Phase.{Phase}
 use Rattle.state.specs.declared.Phase.the-variants.{Sending, Taking, Finished}
 use Rattle.settings.specs.declared.Settings.{Settings}
 use Rattle.settings.specs.Settings.{paramsIn}
-use Rattle.runs.specs.Records.{Hand, Seat}
+use Rattle.runs.specs.Records.{Hand, Seat, runOf}
 use Rattle.runs.specs.Progress.{workAt, answerAt, sideAt, messageAt, seatAt}
 use Rattle.runs.proofs.Laws.{message-sized}
 use Rattle.runs.proofs.Doors.{begunSeat, sentSeat, takenSeat}
@@ -42,8 +42,9 @@ pub data Stage (number : ℕ) : ℕ → Type 0 where
   ended : Stage number steps
 
 -- what the kept fields must be
-pub record Terms (s : Settings) (serial : ℕ) (h : Hand) : Type 0 where
-  pub bits : (isBit (h .number) && isBit (s .shape .set) && isBit (s .shape .kind)) ≡ true
+pub record FieldsPass (s : Settings) (serial : ℕ) (h : Hand) : Type 0 where
+  pub number-bit : isBit (h .number) ≡ true
+  pub bits : (isBit (s .shape .set) && isBit (s .shape .kind)) ≡ true
   pub count : countOk (s .shape .n) ≡ true
   pub bound : boundOk (s .shape .kind) (s .bound) ≡ true
   pub keys-ok : keysOk (h .keys) ≡ true
@@ -70,16 +71,16 @@ module _ (k : ℕ) (s : Settings) (serial : ℕ) (numbers : ℕ → List ℕ) wh
   begun h x phone e = rw e
 
   -- the kept fields of a side in its run pass
-  pub kept-whole : (h : Hand) → Terms s serial h → (m : ℕ) → whole (sideAt k s serial numbers h m) ≡ true
-  unfolding whole askSettings begunSide ask sideAt
-  kept-whole h v m = rw (v .bits, v .count, v .bound, v .keys-ok, v .above, round-ok m)
+  pub kept-whole : (h : Hand) → FieldsPass s serial h → (m : ℕ) → whole (sideAt k s serial numbers h m) ≡ true
+  unfolding whole askSettings askShape begunSide ask sideAt
+  kept-whole h v m = rw (v .number-bit, v .bits, v .count, v .bound, v .keys-ok, v .above, round-ok m)
 
   -- so its phase tells what is due
-  pub send-in : (h : Hand) → Terms s serial h → (m : ℕ) (p : Phase) → seat h m .side .phase ≡ p → sendDue (seat h m .side) ≡ isSending p
+  pub send-in : (h : Hand) → FieldsPass s serial h → (m : ℕ) (p : Phase) → seat h m .side .phase ≡ p → sendDue (seat h m .side) ≡ isSending p
   unfolding sendDue seatAt
   send-in h v m p e = rw (kept-whole h v m, e)
 
-  pub take-in : (h : Hand) → Terms s serial h → (m : ℕ) (p : Phase) → seat h m .side .phase ≡ p → takeDue (seat h m .side) ≡ isTaking p
+  pub take-in : (h : Hand) → FieldsPass s serial h → (m : ℕ) (p : Phase) → seat h m .side .phase ≡ p → takeDue (seat h m .side) ≡ isTaking p
   unfolding takeDue seatAt
   take-in h v m p e = rw (kept-whole h v m, e)
 

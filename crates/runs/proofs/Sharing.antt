@@ -10,13 +10,12 @@ use lib.Dec.{eqb, leb, ltb}
 use lib.ListN.{length, getD}
 use borrow.Author.Tests.{lt-ltb, ltb-true, leb-true, eqb-true}
 use Rattle.lists.specs.Lists.{every, allBelow, listTo, joinFrom, joinTo}
-use Rattle.lists.proofs.Questions.{both-yes}
 use Rattle.lists.proofs.Every.{every-join, every-listTo}
 use Rattle.lists.proofs.Lists.{length-listFrom, listTo-cong, join-at}
 use Rattle.field.specs.Field.{q}
 use Rattle.settings.specs.Order.{rounds, sendStep, takeStep}
 use Rattle.settings.specs.Sizes.{openings, fieldCount, places}
-use Rattle.message.specs.Message.{headerNumber, messageOf, headerIn, fieldIn, fieldsOk}
+use Rattle.message.specs.Message.{headerNumber, messageOf, headerIn, fieldIn, fieldsOk, headerWith}
 use Rattle.message.specs.Fields.{HeaderFits}
 use Rattle.message.specs.Theorems.{Sized, RoundTrip}
 use Rattle.message.proofs.RoundTrip.{sized-q}
@@ -25,17 +24,17 @@ use Rattle.steps.specs.Steps.{publicOf}
 use Rattle.steps.specs.Work.{openingOn}
 use Rattle.column.specs.Theorems.{T1Work}
 use Rattle.state.specs.declared.Side.{Side}
-use Rattle.opening.specs.Opening.{partColumn, prepared, outgoing, message}
+use Rattle.opening.specs.Opening.{partColumn, prepared, outgoing, message, ownHeader}
 use Rattle.side.specs.Side.{begunSide}
 use Rattle.settings.specs.declared.Settings.{Settings}
 use Rattle.settings.specs.Questions.{settingsOk}
 use Rattle.settings.specs.Settings.{paramsIn, termsOf}
+use Rattle.settings.proofs.Ready.{settings-ok-ready}
 use Rattle.runs.specs.Records.{Hand}
 use Rattle.runs.specs.Progress.{workAt, sideAt, seatAt, messageAt}
 use Rattle.runs.proofs.Laws.{length-join}
 use Rattle.runs.proofs.Seats.{handAs, Which, which-below, at-send, at-take}
 use Rattle.runs.proofs.Seats.Which.{server, phone}
-use Rattle.runs.proofs.Whole.{allowed}
 use Rattle.runs.proofs.Slices.{Fair, opening-below}
 
 pub join-cong : {A : Type 0} (i n : ℕ) (f g : ℕ → List A) → ((x : ℕ) → x < n → f (i + x) ≡ g (i + x)) → joinFrom i n f ≡ joinFrom i n g
@@ -99,11 +98,11 @@ module _ (k : ℕ) (s : Settings) (serial : ℕ) (numbers : ℕ → List ℕ) wh
   told : (x : Side) (work : List ℕ) (share : ℕ → ℕ → ℕ)
       → ((i : ℕ) → i < k → partColumn k (1 - x .number) i < 1 + 2 * k)
       → ((c j : ℕ) → c < 1 + 2 * k → j < openings (paramsIn (x .settings)) (x .round) → outgoing k x work c j ≡ share c j)
-      → message k x work ≡ messageOf (headerNumber (x .number) (x .settings) (x .round) (x .serial))
+      → message k x work ≡ messageOf (headerNumber (ownHeader x))
       (joinTo (openings (paramsIn (x .settings)) (x .round)) (λ (j : ℕ). share 0 j ∷ listTo k (λ (i : ℕ). share (partColumn k (1 - x .number) i) j)))
   unfolding message
   told x work share inside e =
-      ap (messageOf (headerNumber (x .number) (x .settings) (x .round) (x .serial)))
+      ap (messageOf (headerNumber (ownHeader x)))
       (join-cong 0 (openings (paramsIn (x .settings)) (x .round)) _ _
       (λ j l. let z : 0 + j ≡ j = zero-add j in
       rw z
@@ -129,23 +128,8 @@ module _ (k : ℕ) (s : Settings) (serial : ℕ) (numbers : ℕ → List ℕ) wh
 
   -- ---- Read by the receiver
 
-  header-ok : (number : ℕ) → number < 2 → settingsOk s ≡ true → (R : ℕ) → R < rounds → HeaderFits number (s .shape .set) (s .shape .kind) (s .shape .n) (suc R) (s .bound)
-  header-ok number u e R l =
-      let a = allowed s e in
-      let c = both-yes (leb 1 (s .shape .n)) (leb (s .shape .n) 8) (a .count) in
-      record {
-        sender-fits = u;
-        set-fits = ltb-true (s .shape .set) 2 (a .set-bit);
-        kind-fits = ltb-true (s .shape .kind) 2 (a .kind-bit);
-        n-some = leb-true 1 (s .shape .n) (c .0);
-        n-fits = leb-true (s .shape .n) 8 (c .1);
-        round-fits = omega arith;
-        bound-fits = bound-small (eqb (s .shape .kind) 0) (s .bound) (a .bound);
-      }
-    where
-      bound-small : (b : Bool) (bound : ℕ) → cond b (eqb bound 0) (leb 1 bound && leb bound 4190208) ≡ true → bound < 2 ^ 23
-      bound-small true bound e = omega (arith, eqb-true bound 0 e)
-      bound-small false bound e = omega (arith, leb-true bound 4190208 (both-yes (leb 1 bound) (leb bound 4190208) e .1))
+  header-ok : (number : ℕ) → number < 2 → settingsOk s ≡ true → (R : ℕ) → R < rounds → HeaderFits (headerWith number s (suc R) serial)
+  header-ok number u e R l = record { sender-fits = u; settings-fit = settings-ok-ready s e; round-fits = omega arith }
 
   module _ (t : T1Work) (m : RoundTrip) (e : settingsOk s ≡ true) (f : serial < 4294967296) (o : Hand) (v : Fair k s serial numbers o) (R : ℕ) (r : R < rounds) where
     abbrev header : ℕ
@@ -159,7 +143,7 @@ module _ (k : ℕ) (s : Settings) (serial : ℕ) (numbers : ℕ → List ℕ) wh
         (every-listTo (λ (x : ℕ). ltb x q) k _ (λ i b. lt-ltb _ q (sharing-below t o v R _ (0 + j) (part-inside o (v .which) i b) (omega arith)))))
 
     header-below : header < 2 ^ 64
-    header-below = m .header-size (header-ok (o .number) (which-below o (v .which)) e R r) serial (omega arith)
+    header-below = m .header-size (headerWith (o .number) s (suc R) serial) (header-ok (o .number) (which-below o (v .which)) e R r) (omega arith)
 
     sized : Sized header (fieldsAt o R)
     sized = sized-q header (fieldsAt o R) header-below fields-below

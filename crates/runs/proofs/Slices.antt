@@ -12,7 +12,6 @@ use Rattle.lists.proofs.Questions.{both-yes}
 use Rattle.lists.proofs.Every.{below-at, every-listTo}
 use Rattle.field.specs.Field.{q}
 use Rattle.field.specs.Forms.{Adds}
-use Rattle.settings.specs.Sets.{scaleOf}
 use Rattle.settings.specs.Sizes.{widthOf, openings, shared, places}
 use Rattle.book.specs.Deal.{multipliers}
 use Rattle.book.specs.Theorems.{Laws}
@@ -23,6 +22,7 @@ use Rattle.column.specs.Run.{plainBook, plainStart, openedFrom, plainAfter, pla
 use Rattle.column.specs.Theorems.{JoinedWork, T1Work}
 use Rattle.settings.specs.declared.Settings.{Settings}
 use Rattle.settings.specs.Settings.{paramsIn, termsOf}
+use Rattle.settings.proofs.Sizes.{shared-most}
 use Rattle.runs.specs.Records.{Hand, handOf}
 use Rattle.runs.specs.Demands.{Fixed, Numbers, Secret, Shares, Possible}
 use Rattle.runs.specs.Progress.{workAt}
@@ -71,9 +71,8 @@ pub opening-below : (t : T1Work) (s : Settings) (round : ℕ) (κs work : List �
     → openingOn (publicOf (termsOf s) (maskedIn work)) round (getD κs c 0) (column work c) o < q
 unfolding ownIn
 opening-below t s round κs work most some e h c o l m =
-    let p = scaleOf (s .shape .set) in
-    rw (← t .own p (s .shape .kind) (s .shape .n) (s .bound) round (λ i. 0) κs work most some e c o l m)
-    (t .bounded p (s .shape .kind) (s .shape .n) (s .bound) round (λ i. 0) κs work (omega arith) most some e h (λ i. omega arith) .1 _)
+    rw (← t .own (termsOf s) round (λ i. 0) κs work most some e c o l m)
+    (t .bounded (termsOf s) round (λ i. 0) κs work (omega arith) most some e h (λ i. omega arith) .1 _)
 
 -- what is known of the server's hand h and the phone's o, of their books and slices, and of the plain column
 pub record Slices (k : ℕ) (s : Settings) (serial : ℕ) (numbers plain : ℕ → List ℕ) (keys0 keys1 : List ℕ) (h o : Hand) : Type 0 where
@@ -116,10 +115,9 @@ module _ (t : T1Work) (b : Laws) (k : ℕ) (s : Settings) (serial : ℕ)
   joined : (R : ℕ) → JoinedWork q keys0 keys1 (slice A R) (slice B R) (plain R)
   unfolding workAt plainAfter plainOpened
   joined zero =
-      let p = scaleOf (s .shape .set) in
       rw (← widths)
-      (start-joined p (s .shape .kind) (s .shape .n) (s .bound) keys0 keys1 draw secret inA inB (omega arith) most (b .sizes .at-most (s .shape .set) (s .shape .kind) (s .shape .n) set-is most)
-      (b .books p (s .shape .kind) (s .shape .n) (length (multipliers keys0 keys1)) (multipliers keys0 keys1) draw)
+      (start-joined (termsOf s) keys0 keys1 draw secret inA inB (omega arith) most (shared-most (s .shape) set-is most)
+      (b .books (paramsIn s) (length (multipliers keys0 keys1)) (multipliers keys0 keys1) draw)
       (rw widths (g .adds)))
   joined (suc R) =
       rw (g .fixed .server-count) at

@@ -12,19 +12,20 @@ use Rattle.lists.specs.Lists.{allTo, allBelow}
 use Rattle.field.specs.Field.{q}
 use Rattle.settings.specs.Order.{rounds, steps, sendStep, takeStep}
 use Rattle.settings.specs.Sizes.{openings, fieldCount, messageLength, workLength}
-use Rattle.message.specs.Message.{headerIn, headerNumber, fieldsOk, askForm}
+use Rattle.message.specs.Message.{headerIn, headerNumber, fieldsOk, askForm, headerWith}
 use Rattle.state.specs.declared.Phase.the-variants.{Sending, Taking, Finished}
 use Rattle.state.specs.State.{sendDue, takeDue}
 use Rattle.opening.specs.Opening.{passes}
 use Rattle.side.specs.Side.{begunSide, sendNo, takeNo}
 use Rattle.settings.specs.declared.Settings.{Settings}
-use Rattle.settings.specs.Settings.{paramsIn}
+use Rattle.settings.specs.Settings.{paramsIn, Params}
+use Rattle.message.specs.declared.Header.{Header}
 use Rattle.runs.specs.Records.{Hand, Seat, Call, outcome}
 use Rattle.runs.specs.Records.Call.{begin, send, takeLatest}
 use Rattle.runs.specs.Progress.{sideAt, seatAt}
 use Rattle.runs.specs.Honest.{Meets}
 use Rattle.runs.proofs.Doors.{Leaves, Sound, send-go, send-stay, send-not, send-due, ask-in, ask-last, take-go, take-stay, take-not, take-due, begin-spent}
-use Rattle.runs.proofs.Seats.{Which, Terms, seat, slice, send-in, take-in, at-send, at-take, at-end, which-below}
+use Rattle.runs.proofs.Seats.{Which, FieldsPass, seat, slice, send-in, take-in, at-send, at-take, at-end, which-below}
 use Rattle.runs.proofs.Laws.{told}
 
 -- a no by length or header is neither 0 nor 13
@@ -39,28 +40,29 @@ late-13 false b rest e = refl
 late-13 true b rest e = rw e refl
 
 -- a header alone is 8 bytes
-pub header-fits : (k kind n round : ℕ) → 8 ≤ messageLength k kind n round
+pub header-fits : (k : ℕ) (p : Params) (round : ℕ) → 8 ≤ messageLength k p round
 unfolding messageLength
-header-fits k kind n round = omega arith
+header-fits k p round = omega arith
 
 -- the empty message is shorter than any
-pub short : (k kind n round : ℕ) → eqb (length {A = ℕ} []) (messageLength k kind n round) ≡ false
-short k kind n round = ne-eqb 0 (messageLength k kind n round) (λ z. omega (arith, z, header-fits k kind n round))
+pub short : (k : ℕ) (p : Params) (round : ℕ) → eqb (length {A = ℕ} []) (messageLength k p round) ≡ false
+short k p round = ne-eqb 0 (messageLength k p round) (λ z. omega (arith, z, header-fits k p round))
 
 -- a message of good form that passes is taken
-pub form-passes : (k receiver set kind n bound round serial : ℕ) (msg : List ℕ) (last : Bool)
-    → eqb (length msg) (messageLength k kind n round) ≡ true
-    → eqb (headerIn (fieldCount k kind n round) msg) (headerNumber (1 - receiver) set kind n bound round serial) ≡ true
-    → fieldsOk (fieldCount k kind n round) msg ≡ true
+pub form-passes : (k : ℕ) (due : Header) (msg : List ℕ) (last : Bool)
+    → let p = paramsIn (due .settings) in
+    eqb (length msg) (messageLength k p (due .round)) ≡ true
+    → eqb (headerIn (fieldCount k p (due .round)) msg) (headerNumber due) ≡ true
+    → fieldsOk (fieldCount k p (due .round)) msg ≡ true
     → last ≡ true
-    → askForm k receiver set kind n bound round serial msg (ask last 13 0) ≡ 0
+    → askForm k due msg (ask last 13 0) ≡ 0
 unfolding askForm ask
-form-passes k receiver set kind n bound round serial msg last a b c d = rw (a, b, c, d)
+form-passes k due msg last a b c d = rw (a, b, c, d)
 
 module _ (k : ℕ) (s : Settings) (serial : ℕ) (numbers : ℕ → List ℕ) (h : Hand) where
   -- a side's settings, key and slices pass
   pub record Kept : Type 0 where
-    pub terms : Terms s serial h
+    pub terms : FieldsPass s serial h
     pub exact : (R : ℕ) → R ≤ rounds → eqb (length (slice k s serial numbers h R)) (workLength k) ≡ true
     pub low : (R : ℕ) → R ≤ rounds → allBelow q (slice k s serial numbers h R) ≡ true
 
@@ -150,7 +152,7 @@ module _ (k : ℕ) (s : Settings) (serial : ℕ) (numbers : ℕ → List ℕ) (h
 
     take-answer : (R : ℕ) → R < rounds → (msg : List ℕ)
         → takeNo k (at (takeStep (h .number) R) .side) (at (takeStep (h .number) R) .work) msg
-        ≡ askForm k (h .number) s (suc R) serial msg
+        ≡ askForm k (headerWith (1 - h .number) s (suc R) serial) msg
         (ask (allTo (openings (paramsIn s) (suc R)) (passes k (at (takeStep (h .number) R) .side) (at (takeStep (h .number) R) .work) msg)) 13 0)
     unfolding seatAt sideAt begunSide
     take-answer R r msg =
@@ -166,7 +168,7 @@ module _ (k : ℕ) (s : Settings) (serial : ℕ) (numbers : ℕ → List ℕ) (h
         (rw (take-answer R r msg) (late-13 _ _ _ e))
 
     pub takes-empty : (R : ℕ) → R < rounds → Left [] (takeStep (h .number) R) takeLatest (at (takeStep (h .number) R)) false
-    takes-empty R r = takes-late R r [] (rw (short k (s .shape .kind) (s .shape .n) (suc R)) refl)
+    takes-empty R r = takes-late R r [] (rw (short k (paramsIn s) (suc R)) refl)
 
     -- the message that is due
     module _ (messages : ℕ → List ℕ) (z : Heard messages) where
@@ -174,7 +176,7 @@ module _ (k : ℕ) (s : Settings) (serial : ℕ) (numbers : ℕ → List ℕ) (h
       unfolding seatAt
       take-passes R r =
           rw (at-take k s serial numbers h R u r .slice-is) at (take-answer R r (messages (suc R)))
-          ∙ form-passes _ _ _ _ _ _ _ _ _ _ (eq-eqb _ _ (z .sized R r)) (eq-eqb _ _ (z .meets .header R r)) (z .meets .fields R r) (z .meets .pass R r)
+          ∙ form-passes _ _ _ _ (eq-eqb _ _ (z .sized R r)) (eq-eqb _ _ (z .meets .header R r)) (z .meets .fields R r) (z .meets .pass R r)
 
       pub takes : (R : ℕ) → R < rounds → Left (messages (suc R)) (takeStep (h .number) R) takeLatest (at (suc (takeStep (h .number) R))) true
       unfolding seatAt

@@ -17,8 +17,8 @@ use Rattle.field.specs.Field.{q}
 use Rattle.field.specs.Forms.{Adds}
 use Rattle.field.proofs.Congruence.{≈-eq}
 use Rattle.field.proofs.Solve.{at, _⊕_, _⊖_, _⊗_, red, solve}
-use Rattle.settings.specs.Sets.{Scale}
 use Rattle.settings.specs.Sizes.{shared, places}
+use Rattle.settings.specs.Settings.{Params, Terms}
 use Rattle.book.specs.Book.{value}
 use Rattle.book.specs.Deal.{multipliers, serverBook, phoneBook}
 use Rattle.book.specs.Theorems.{Books}
@@ -61,18 +61,18 @@ module _ (width : ℕ) (factors secret shares : List ℕ) where
 
 -- ---- Places of a begun slice
 
-module _ (p : Scale) (kind n width : ℕ) (inputs book : List ℕ) where
+module _ (p : Params) (width : ℕ) (inputs book : List ℕ) where
   abbrev placed : ℕ → ℕ → ℕ
-  placed c i = begunPlace (shared p kind n) n width inputs book c i
+  placed c i = begunPlace (shared p) (p .n) width inputs book c i
 
   abbrev columnOf : ℕ → List ℕ
   columnOf c = listTo places (placed c)
 
-  pub length-begun : length (begunWork p kind n width inputs book) ≡ width * places
+  pub length-begun : length (begunWork p width inputs book) ≡ width * places
   unfolding begunWork
   length-begun = omega (arith, length-join 0 width places columnOf (λ c. length-listFrom 0 places (placed c)))
 
-  begun-at : (c i : ℕ) → c < width → i < places → getD (begunWork p kind n width inputs book) (c * places + i) 0 ≡ placed c i
+  begun-at : (c i : ℕ) → c < width → i < places → getD (begunWork p width inputs book) (c * places + i) 0 ≡ placed c i
   unfolding begunWork
   begun-at c i h l =
       let e : length (joinTo c columnOf) + i ≡ c * places + i = omega (arith, length-join 0 c places columnOf (λ c. length-listFrom 0 places (placed c))) in
@@ -82,97 +82,97 @@ module _ (p : Scale) (kind n width : ℕ) (inputs book : List ℕ) where
   cond-below m true x y h l = h
   cond-below m false x y h l = l
 
-  pub below-begun : (m : ℕ) → 0 < m → allBelow m inputs ≡ true → allBelow m book ≡ true → allBelow m (begunWork p kind n width inputs book) ≡ true
+  pub below-begun : (m : ℕ) → 0 < m → allBelow m inputs ≡ true → allBelow m book ≡ true → allBelow m (begunWork p width inputs book) ≡ true
   unfolding begunWork begunPlace allBelow
   below-begun m pos e f =
       every-join (λ (x : ℕ). ltb x m) 0 width columnOf
       (λ c h. every-listTo (λ (x : ℕ). ltb x m) places (placed (0 + c)) (λ i l. lt-ltb (placed (0 + c) i) m
-      (cond-below m (ltb i (shared p kind n)) _ _ (below-at m book _ pos f)
-      (cond-below m (leb 1320 i && ltb i (1320 + n)) _ _ (below-at m inputs _ pos e) pos))))
+      (cond-below m (ltb i (shared p)) _ _ (below-at m book _ pos f)
+      (cond-below m (leb 1320 i && ltb i (1320 + p .n)) _ _ (below-at m inputs _ pos e) pos))))
 
-  module _ (most : n ≤ 8) (room : shared p kind n ≤ 1320) where
+  module _ (most : (p .n) ≤ 8) (room : shared p ≤ 1320) where
     -- nothing is masked yet
-    pub unmasked : 0 < width → (c : ℕ) → maskedIn (begunWork p kind n width inputs book) c ≡ 0
+    pub unmasked : 0 < width → (c : ℕ) → maskedIn (begunWork p width inputs book) c ≡ 0
     unfolding maskedIn begunPlace
     unmasked some c = by (decLt c 8)
       where
-        by : Dec (c < 8) → maskedIn (begunWork p kind n width inputs book) c ≡ 0
+        by : Dec (c < 8) → maskedIn (begunWork p width inputs book) c ≡ 0
         by (yes h) =
             let z : 0 * places + (1376 + c) ≡ 1376 + c = omega arith in
             rw (lt-ltb c 8 h)
             (rw z at (begun-at 0 (1376 + c) some (omega arith))
-            ∙ rw (le-ltb (1376 + c) (shared p kind n) (omega arith), le-leb 1320 (1376 + c) (omega arith), le-ltb (1376 + c) (1320 + n) (omega arith)))
+            ∙ rw (le-ltb (1376 + c) (shared p) (omega arith), le-leb 1320 (1376 + c) (omega arith), le-ltb (1376 + c) (1320 + p .n) (omega arith)))
         by (no h) = rw (le-ltb c 8 (omega arith))
 
 -- ---- The two sides' slices and the plain one
 
-module _ (p : Scale) (kind n bound width : ℕ) (factors draw secret inA inB : List ℕ) (pos : 0 < p .modulus) (most : n ≤ 8) (room : shared p kind n ≤ 1320)
-    (b : Books p kind n width factors draw)
-    (ins : (j c : ℕ) → j < n → c < width → Adds (p .modulus) (getD factors c 0) (getD inA (j * width + c) 0) (getD inB (j * width + c) 0) (getD secret j 0)) where
+module _ (T : Terms) (width : ℕ) (factors draw secret inA inB : List ℕ) (pos : 0 < T .params .scale .modulus) (most : (T .params .n) ≤ 8) (room : shared (T .params) ≤ 1320)
+    (b : Books (T .params) width factors draw)
+    (ins : (j c : ℕ) → j < T .params .n → c < width → Adds (T .params .scale .modulus) (getD factors c 0) (getD inA (j * width + c) 0) (getD inB (j * width + c) 0) (getD secret j 0)) where
   abbrev bookA : List ℕ
-  bookA = serverBook p kind n width factors draw
+  bookA = serverBook (T .params) width factors draw
 
   abbrev bookB : List ℕ
-  bookB = phoneBook p kind n width draw
+  bookB = phoneBook (T .params) width draw
 
   abbrev values : List ℕ
-  values = plainBook p kind n bound width draw secret
+  values = plainBook T width draw secret
 
-  nothing : (m : ℕ) → Adds (p .modulus) m 0 0 0
+  nothing : (m : ℕ) → Adds (T .params .scale .modulus) m 0 0 0
   nothing m = record { total = ≈-eq (omega arith) }
 
   place-adds : (c i : ℕ) → c < width
-      → Adds (p .modulus) (getD factors c 0) (placed p kind n width inA bookA c i) (placed p kind n width inB bookB c i) (placed p kind n 1 secret values 0 i)
+      → Adds (T .params .scale .modulus) (getD factors c 0) (placed (T .params) width inA bookA c i) (placed (T .params) width inB bookB c i) (placed (T .params) 1 secret values 0 i)
   unfolding begunPlace plainBook
-  place-adds c i h = by (decLt i (shared p kind n)) (decLe 1320 i) (decLt i (1320 + n))
+  place-adds c i h = by (decLt i (shared (T .params))) (decLe 1320 i) (decLt i (1320 + T .params .n))
     where
-      by : Dec (i < shared p kind n) → Dec (1320 ≤ i) → Dec (i < 1320 + n)
-          → Adds (p .modulus) (getD factors c 0) (placed p kind n width inA bookA c i) (placed p kind n width inB bookB c i) (placed p kind n 1 secret values 0 i)
+      by : Dec (i < shared (T .params)) → Dec (1320 ≤ i) → Dec (i < 1320 + T .params .n)
+          → Adds (T .params .scale .modulus) (getD factors c 0) (placed (T .params) width inA bookA c i) (placed (T .params) width inB bookB c i) (placed (T .params) 1 secret values 0 i)
       by (yes x) y z =
           let e : i * 1 + 0 ≡ i = omega arith in
-          rw (lt-ltb i (shared p kind n) x, b .server-at i c x h, b .phone-at i c x h, e, getD-listTo (shared p kind n) (value p kind n width draw) i 0 x)
+          rw (lt-ltb i (shared (T .params)) x, b .server-at i c x h, b .phone-at i c x h, e, getD-listTo (shared (T .params)) (value (T .params) width draw) i 0 x)
           (b .adds pos i c)
       by (no x) (yes y) (yes z) =
           let e : (i - 1320) * 1 + 0 ≡ i - 1320 = omega arith in
-          rw (le-ltb i (shared p kind n) (omega arith), le-leb 1320 i y, lt-ltb i (1320 + n) z, e)
+          rw (le-ltb i (shared (T .params)) (omega arith), le-leb 1320 i y, lt-ltb i (1320 + T .params .n) z, e)
           (ins (i - 1320) c (omega arith) h)
       by (no x) (yes y) (no z) =
-          rw (le-ltb i (shared p kind n) (omega arith), le-leb 1320 i y, le-ltb i (1320 + n) (omega arith)) (nothing _)
+          rw (le-ltb i (shared (T .params)) (omega arith), le-leb 1320 i y, le-ltb i (1320 + T .params .n) (omega arith)) (nothing _)
       by (no x) (no y) z =
-          rw (le-ltb i (shared p kind n) (omega arith), lt-leb 1320 i (omega arith)) (nothing _)
+          rw (le-ltb i (shared (T .params)) (omega arith), lt-leb 1320 i (omega arith)) (nothing _)
 
   pub column-adds : (c i : ℕ) → c < width
-      → Adds (p .modulus) (getD factors c 0) (column (begunWork p kind n width inA bookA) c i) (column (begunWork p kind n width inB bookB) c i)
-      (column (plainStart p kind n bound width draw secret) 0 i)
+      → Adds (T .params .scale .modulus) (getD factors c 0) (column (begunWork (T .params) width inA bookA) c i) (column (begunWork (T .params) width inB bookB) c i)
+      (column (plainStart T width draw secret) 0 i)
   unfolding column plainStart
   column-adds c i h = by (decLt i 1344)
     where
       by : Dec (i < 1344)
-          → Adds (p .modulus) (getD factors c 0) (column (begunWork p kind n width inA bookA) c i) (column (begunWork p kind n width inB bookB) c i)
-          (column (begunWork p kind n 1 secret values) 0 i)
+          → Adds (T .params .scale .modulus) (getD factors c 0) (column (begunWork (T .params) width inA bookA) c i) (column (begunWork (T .params) width inB bookB) c i)
+          (column (begunWork (T .params) 1 secret values) 0 i)
       by (yes l) =
-          let a = begun-at p kind n width inA bookA c i h (omega arith) in
-          let b = begun-at p kind n width inB bookB c i h (omega arith) in
-          rw (lt-ltb i 1344 l, a, b, begun-at p kind n 1 secret values 0 i (omega arith) (omega arith))
+          let a = begun-at (T .params) width inA bookA c i h (omega arith) in
+          let b = begun-at (T .params) width inB bookB c i h (omega arith) in
+          rw (lt-ltb i 1344 l, a, b, begun-at (T .params) 1 secret values 0 i (omega arith) (omega arith))
           (place-adds c i h)
       by (no l) = rw (le-ltb i 1344 (omega arith)) (nothing _)
 
-pub start-joined : (p : Scale) (kind n bound : ℕ) (keys0 keys1 draw secret inA inB : List ℕ) → 0 < p .modulus → n ≤ 8 → shared p kind n ≤ 1320
+pub start-joined : (T : Terms) (keys0 keys1 draw secret inA inB : List ℕ) → 0 < T .params .scale .modulus → (T .params .n) ≤ 8 → shared (T .params) ≤ 1320
     → let factors = multipliers keys0 keys1 in let width = length factors in
-    Books p kind n width factors draw
-    → ((j c : ℕ) → j < n → c < width → Adds (p .modulus) (getD factors c 0) (getD inA (j * width + c) 0) (getD inB (j * width + c) 0) (getD secret j 0))
-    → JoinedWork (p .modulus) keys0 keys1 (begunWork p kind n width inA (serverBook p kind n width factors draw))
-    (begunWork p kind n width inB (phoneBook p kind n width draw)) (plainStart p kind n bound width draw secret)
+    Books (T .params) width factors draw
+    → ((j c : ℕ) → j < T .params .n → c < width → Adds (T .params .scale .modulus) (getD factors c 0) (getD inA (j * width + c) 0) (getD inB (j * width + c) 0) (getD secret j 0))
+    → JoinedWork (T .params .scale .modulus) keys0 keys1 (begunWork (T .params) width inA (serverBook (T .params) width factors draw))
+    (begunWork (T .params) width inB (phoneBook (T .params) width draw)) (plainStart T width draw secret)
 unfolding plainStart
-start-joined p kind n bound keys0 keys1 draw secret inA inB pos most room b ins =
+start-joined T keys0 keys1 draw secret inA inB pos most room b ins =
     let factors = multipliers keys0 keys1 in
     let width = length factors in
-    let values = plainBook p kind n bound width draw secret in
+    let values = plainBook T width draw secret in
     record {
-      adds = λ c i h. column-adds p kind n bound width factors draw secret inA inB pos most room b ins c i h;
-      masked₁ = λ c. unmasked p kind n width inA _ most room (omega arith) c ∙ sym (unmasked p kind n 1 secret values most room (omega arith) c);
-      masked₂ = λ c. unmasked p kind n width inB _ most room (omega arith) c ∙ sym (unmasked p kind n 1 secret values most room (omega arith) c);
-      exact₁ = length-begun p kind n width inA _;
-      exact₂ = length-begun p kind n width inB _;
-      exact = length-begun p kind n 1 secret values ∙ omega arith;
+      adds = λ c i h. column-adds T width factors draw secret inA inB pos most room b ins c i h;
+      masked₁ = λ c. unmasked (T .params) width inA _ most room (omega arith) c ∙ sym (unmasked (T .params) 1 secret values most room (omega arith) c);
+      masked₂ = λ c. unmasked (T .params) width inB _ most room (omega arith) c ∙ sym (unmasked (T .params) 1 secret values most room (omega arith) c);
+      exact₁ = length-begun (T .params) width inA _;
+      exact₂ = length-begun (T .params) width inB _;
+      exact = length-begun (T .params) 1 secret values ∙ omega arith;
     }

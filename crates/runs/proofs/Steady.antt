@@ -20,7 +20,7 @@ use Rattle.runs.specs.Records.{Hand, Seat, Event}
 use Rattle.runs.specs.Demands.{Steady, Demand2Steady, takesIn, sendsIn, beganIn, ownHand, otherHand}
 use Rattle.runs.specs.Progress.{sideAt, seatAt, seatFrom, none, worldAt}
 use Rattle.runs.specs.Honest.{Runs}
-use Rattle.runs.proofs.Seats.{Terms, kept-whole, step-is}
+use Rattle.runs.proofs.Seats.{FieldsPass, kept-whole, step-is}
 use Rattle.runs.proofs.Both.{start-pace, pace-after}
 use Rattle.runs.proofs.Whole.{honest-pair, t3}
 use Rattle.runs.proofs.Tally.{Tally, tally}
@@ -47,7 +47,7 @@ all-rounds number m u l = by (eqb (takenBy number m) rounds) refl
         let f : takenBy number m ≡ rounds = eqb-true (takenBy number m) rounds e in
         ne-eqb (sentBy number m) rounds (λ x. omega arith)
 
-module _ (k : ℕ) (s : Settings) (serial : ℕ) (numbers : ℕ → List ℕ) (h : Hand) (u : h .number < 2) (t : Terms s serial h) (m : ℕ) (l : m ≤ steps) where
+module _ (k : ℕ) (s : Settings) (serial : ℕ) (numbers : ℕ → List ℕ) (h : Hand) (u : h .number < 2) (t : FieldsPass s serial h) (m : ℕ) (l : m ≤ steps) where
   begun-goes : (underWay (sideAt k s serial numbers h m) || finished (sideAt k s serial numbers h m)) ≡ true
   unfolding underWay sendDue takeDue finished sideAt begunSide phaseAfter
   begun-goes = rw (kept-whole k s serial numbers h t m) (phases (goesOn m) (sendsAfter (h .number) m))
@@ -76,7 +76,7 @@ module _ (k : ℕ) (s : Settings) (serial : ℕ) (numbers : ℕ → List ℕ) (h
   steady-at log e f = record { goes-on = begun-goes; in-time = rw (e, f) finished-at; by-rounds = rw e count-at }
 
 -- a run that has begun has a count above 0
-steady-from : (k : ℕ) (s : Settings) (serial : ℕ) (numbers : ℕ → List ℕ) (h : Hand) → h .number < 2 → Terms s serial h → (x : Seat) (log : List Event) (c : ℕ)
+steady-from : (k : ℕ) (s : Settings) (serial : ℕ) (numbers : ℕ → List ℕ) (h : Hand) → h .number < 2 → FieldsPass s serial h → (x : Seat) (log : List Event) (c : ℕ)
     → c ≤ suc steps → Tally (h .number) log 0 c → beganIn log ≡ true → Steady s log (seatFrom k s serial numbers h x c)
 steady-from k s serial numbers h u t x log zero l a b = absurd (true≢false (sym b ∙ or-false (beganIn log) (a .begun)))
   where

@@ -11,7 +11,7 @@ use Rattle.lists.specs.Answers.{ask}
 use Rattle.lists.specs.Lists.{allBelow}
 use Rattle.field.specs.Field.{q}
 use Rattle.settings.specs.Sizes.{widthOf, shared, workLength}
-use Rattle.settings.specs.Questions.{askSettings}
+use Rattle.settings.specs.Questions.{askShape, askSettings}
 use Rattle.settings.specs.Order.{rounds, steps, takenBy, sendStep, takeStep}
 use Rattle.state.specs.State.{underWay, sendDue, takeDue}
 use Rattle.side.specs.Side.{handedNo, beginNo}
@@ -63,11 +63,11 @@ pub record Handed (k : ℕ) (s : Settings) (h : Hand) : Type 0 where
 module _ (k : ℕ) (s : Settings) (serial : ℕ) (numbers : ℕ → List ℕ) (h : Hand) where
   module _ (u : Which h) (v : Kept k s serial numbers h) (f : Handed k s h) (x : Seat) (i : Idle k serial x) where
     begin-in : eqb (beginNoAt k s serial h x) 0 ≡ true
-    unfolding beginNo handedNo askSettings ask
+    unfolding beginNo handedNo askSettings askShape ask
     begin-in =
         let a = eq-eqb (length (x .work)) (workLength k) (i .exact) in
         let b = lt-ltb (x .side .serial) serial (i .last) in
-        rw (i .none, v .terms .bits, v .terms .count, v .terms .bound, v .terms .keys-ok, f .inputs-exact, f .book-exact, a, f .low, b)
+        rw (i .none, v .terms .number-bit, v .terms .bits, v .terms .count, v .terms .bound, v .terms .keys-ok, f .inputs-exact, f .book-exact, a, f .low, b)
         refl
 
     module _ (message-of : ℕ → List ℕ) (z : Heard k s serial numbers h message-of) where

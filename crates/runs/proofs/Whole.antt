@@ -17,7 +17,7 @@ use Rattle.runs.specs.Demands.{Fixed, Secret, Shares, Possible, ownHand,
 use Rattle.runs.specs.Progress.{none, worldAt}
 use Rattle.runs.specs.Honest.{SideRuns, Runs}
 use Rattle.runs.specs.Theorems.{T3}
-use Rattle.runs.proofs.Seats.{Which, Terms, handAs, said}
+use Rattle.runs.proofs.Seats.{Which, FieldsPass, handAs, said}
 use Rattle.runs.proofs.Seats.Which.{server, phone}
 use Rattle.runs.proofs.Both.{HonestSide, start-pace, world-at-counts}
 
@@ -45,11 +45,12 @@ allowed s e =
 
 -- the kept fields of either side pass
 pub terms : (k : ℕ) (s : Settings) (serial : ℕ) (keys0 keys1 : List ℕ) → Fixed k s serial keys0 keys1 → (number : ℕ) → number < 2
-    → (draw inputs : List ℕ) → Terms s serial (handOf k s number keys0 keys1 draw inputs)
+    → (draw inputs : List ℕ) → FieldsPass s serial (handOf k s number keys0 keys1 draw inputs)
 terms k s serial keys0 keys1 f number l draw inputs =
     let a = allowed s (f .settings) in
     record {
-      bits = rw (lt-ltb number 2 l, a .set-bit) (a .kind-bit);
+      number-bit = lt-ltb number 2 l;
+      bits = rw (a .set-bit) (a .kind-bit);
       count = a .count;
       bound = a .bound;
       keys-ok = keys-of number;
@@ -61,7 +62,7 @@ terms k s serial keys0 keys1 f number l draw inputs =
     keys-of (suc n) = rw (ne-eqb (suc n) 0 (λ z. omega arith)) (f .phone-keys)
 
 honest : (k : ℕ) (s : Settings) (serial : ℕ) (numbers : ℕ → List ℕ) (h o : Hand) → SideRuns k s serial numbers h (said k s serial numbers o)
-    → h .number < 2 → Terms s serial h → HonestSide k s serial numbers h o
+    → h .number < 2 → FieldsPass s serial h → HonestSide k s serial numbers h o
 honest k s serial numbers h o z l t =
     record {
       which = which-side h l;

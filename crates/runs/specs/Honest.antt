@@ -9,7 +9,7 @@ use Rattle.lists.specs.Lists.{allBelow, allTo}
 use Rattle.field.specs.Field.{q}
 use Rattle.settings.specs.Sizes.{widthOf, openings, fieldCount, shared, workLength}
 use Rattle.settings.specs.Order.{rounds, takeStep}
-use Rattle.message.specs.Message.{headerIn, headerNumber, fieldsOk}
+use Rattle.message.specs.Message.{headerIn, headerNumber, fieldsOk, headerWith}
 use Rattle.column.specs.Run.{plainOpened}
 use Rattle.opening.specs.Opening.{passes}
 use Rattle.side.specs.Side.{openedList}

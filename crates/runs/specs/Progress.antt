@@ -15,7 +15,7 @@ use Rattle.opening.specs.Opening.{message}
 use Rattle.side.specs.Side.{begunSide}
 use Rattle.settings.specs.declared.Settings.{Settings}
 use Rattle.settings.specs.Settings.{paramsIn, termsOf}
-use Rattle.runs.specs.Records.{Hand, Seat, World, Who, Call, Move}
+use Rattle.runs.specs.Records.{Hand, Seat, World, Who, Call, Move, runOf}
 use Rattle.runs.specs.Records.Who.{mine, theirs}
 use Rattle.runs.specs.Records.Call.{begin, send, takeLatest, answer, count}
 

@@ -10,7 +10,7 @@ use Rattle.lists.specs.Answers.{ask}
 use Rattle.lists.proofs.Questions.{passed, both-yes}
 use Rattle.settings.specs.declared.Shape.{Shape}
 use Rattle.settings.specs.declared.Settings.{Settings}
-use Rattle.settings.specs.Questions.{isBit, countOk, boundOk, shapeOk, askShape, askSettings, ShapeReady, Ready}
+use Rattle.settings.specs.Questions.{isBit, countOk, boundOk, shapeOk, settingsOk, askShape, askSettings, ShapeReady, Ready}
 
 -- questions 2 and 3, answered yes
 pub count-ready : (n : ℕ) → countOk n ≡ true → (1 ≤ n) × (n ≤ 8)
@@ -139,3 +139,21 @@ module _ (number : ℕ) (s : Settings) where
 
   pub settings-skip : (r x rest : ℕ) → r ≡ askSettings number s 0 → r ≡ 0 → x ≡ rest → x ≡ askSettings number s rest
   settings-skip r x rest e z h = h ∙ sym (settings-pass rest (sym e ∙ z))
+
+-- settings that pass the three questions as one test
+pub settings-ok-ready : (s : Settings) → settingsOk s ≡ true → Ready s
+settings-ok-ready s e =
+    let a = s .shape in
+    let three = both-yes (isBit (a .set) && isBit (a .kind) && countOk (a .n)) (boundOk (a .kind) (s .bound)) e in
+    let two = both-yes (isBit (a .set) && isBit (a .kind)) (countOk (a .n)) (three .0) in
+    let bits = both-yes (isBit (a .set)) (isBit (a .kind)) (two .0) in
+    let counted = count-ready (a .n) (two .1) in
+    let limits = bound-ready (a .kind) (s .bound) (three .1) in
+    record {
+      sets = ltb-true (a .set) 2 (bits .0);
+      kinds = ltb-true (a .kind) 2 (bits .1);
+      some = counted .0;
+      most = counted .1;
+      bound-most = limits .0;
+      bound-some = limits .1;
+    }
