@@ -21,7 +21,6 @@ use Rattle.settings.proofs.Sets.{lawful}
 use Rattle.rounding.proofs.Decompose.{high-is}
 use Rattle.settings.specs.Sizes.{widthOf, openings, openingsUpTo}
 use Rattle.settings.specs.Order.{rounds, steps}
-use Rattle.book.specs.Theorems.{Sizes}
 use Rattle.column.specs.Run.{openedFrom, plainOpened}
 use Rattle.column.specs.Theorems.{Sound, T2}
 use Rattle.state.specs.State.{heldAnswer, finished, countCall}
@@ -123,9 +122,9 @@ opened-size : (s : Settings) (width : ℕ) (draw secret : List ℕ)
 unfolding plainOpened openedFrom
 opened-size s width draw secret = length-listFrom 0 _ _
 
-pub demand2 : (k : ℕ) → T3 k → T2 → Sizes → Demand2 k
+pub demand2 : (k : ℕ) → T3 k → T2 → Demand2 k
 unfolding worldAt answerOf
-demand2 k progress t2 z s serial keys0 keys1 f secret inputs draw x y d w i calls e =
+demand2 k progress t2 s serial keys0 keys1 f secret inputs draw x y d w i calls e =
     let numbers : ℕ → List ℕ = plainOpened (termsOf s) (widthOf k) draw secret in
     let h : Hand = ownHand k s 0 keys0 keys1 inputs draw in
     let o : Hand = otherHand k s 0 keys0 keys1 inputs secret draw in

@@ -21,7 +21,7 @@ module _ (k : ℕ) where
   progress = t3 k honest
 
   pub every-run-ends : Demand2 k
-  every-run-ends = demand2 k progress plain-run (laws .sizes)
+  every-run-ends = demand2 k progress plain-run
 
   pub every-run-steady : Demand2Steady k
   every-run-steady = steady k honest

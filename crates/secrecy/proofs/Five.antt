@@ -6,7 +6,6 @@ use Prim.Native.Nat.{ℕ, _-_, _<_}
 use native.Mathlib.Decide.{decLt}
 use native.Mathlib.Omega.{arith}
 use lib.Dec.{eqb}
-use Rattle.settings.specs.Sets.{scaleOf}
 use Rattle.settings.specs.Sizes.{widthOf}
 use Rattle.settings.specs.Order.{rounds}
 use Rattle.book.specs.Deal.{multipliers}
@@ -14,33 +13,35 @@ use Rattle.column.specs.Run.{plainOpened}
 use Rattle.column.specs.Theorems.{T2}
 use Rattle.settings.specs.declared.Settings.{Settings}
 use Rattle.settings.specs.Questions.{settingsOk}
+use Rattle.settings.specs.Settings.{termsOf}
+use Rattle.runs.proofs.Answers.{sound}
 use Rattle.runs.specs.Records.{answerOf, bookOf}
 use Rattle.runs.specs.Demands.{Secret, Possible}
 use Rattle.secrecy.specs.Paired.{paired}
 use Rattle.secrecy.specs.Theorems.{T5}
 use Rattle.secrecy.proofs.Backs.{good-paired, same-books, back-paired, rounds-same}
-use Rattle.secrecy.proofs.Shapes.{sound, good, able, shapes}
+use Rattle.secrecy.proofs.Shapes.{good, able, shapes}
 
 module _ (k : ℕ) (t2 : T2) (s : Settings) (number : ℕ) (keys0 keys1 : List ℕ) where
   abbrev There : List ℕ → List ℕ → List ℕ → List ℕ
-  There x x′ d = paired (scaleOf (s .set)) (s .kind) (s .n) (s .bound) (widthOf k) x x′ number (multipliers keys0 keys1) d
+  There x x′ d = paired (termsOf s) (widthOf k) x x′ number (multipliers keys0 keys1) d
 
   abbrev Opened : List ℕ → List ℕ → ℕ → List ℕ
-  Opened d x r = plainOpened (scaleOf (s .set)) (s .kind) (s .n) (s .bound) (widthOf k) d x r
+  Opened d x r = plainOpened (termsOf s) (widthOf k) d x r
 
   possible : (x x′ d : List ℕ) → Possible k s d → Possible k s (There x x′ d)
   possible x x′ d hd =
-      able k s _ (good-paired (scaleOf (s .set)) (s .kind) (s .n) (s .bound) (widthOf k) (omega arith) x x′ (multipliers keys0 keys1) d (good k s d hd) number)
+      able k s _ (good-paired (termsOf s) (widthOf k) (omega arith) x x′ (multipliers keys0 keys1) d (good k s d hd) number)
 
   back : (x x′ d : List ℕ) → settingsOk s ≡ true → Secret s x → Secret s x′ → Possible k s d → There x′ x (There x x′ d) ≡ d
   back x x′ d ok hx hx′ hd =
-      back-paired (scaleOf (s .set)) (s .kind) (s .n) (s .bound) (widthOf k) (omega arith) x x′
+      back-paired (termsOf s) (widthOf k) (omega arith) x x′
       (shapes k t2 s x ok hx) (shapes k t2 s x′ ok hx′) (multipliers keys0 keys1) d (good k s d hd) number
 
   -- the last round opens the answer
   answers : (x d : List ℕ) → settingsOk s ≡ true → Secret s x → Possible k s d → Opened d x (rounds - 1) ≡ answerOf s x
   unfolding answerOf
-  answers x d ok hx hd = t2 .answer (scaleOf (s .set)) (s .kind) (s .n) (s .bound) k d x (sound k s x d ok hx hd)
+  answers x d ok hx hd = t2 .answer (termsOf s) k d x (sound k s x d ok hx hd)
 
   same-openings : (x x′ d : List ℕ) → settingsOk s ≡ true → Secret s x → Secret s x′ → Possible k s d → answerOf s x ≡ answerOf s x′
       → (r : ℕ) → r < rounds → Opened (There x x′ d) x′ r ≡ Opened d x r
@@ -48,7 +49,7 @@ module _ (k : ℕ) (t2 : T2) (s : Settings) (number : ℕ) (keys0 keys1 : List �
     where
       by : Dec (r < rounds - 1) → Opened (There x x′ d) x′ r ≡ Opened d x r
       by (yes h) =
-          rounds-same (scaleOf (s .set)) (s .kind) (s .n) (s .bound) (widthOf k) (omega arith) x x′
+          rounds-same (termsOf s) (widthOf k) (omega arith) x x′
           (shapes k t2 s x ok hx) (shapes k t2 s x′ ok hx′) (multipliers keys0 keys1) d (good k s d hd) number r h
       by (no h) =
           let last : r ≡ rounds - 1 = omega arith in
@@ -57,7 +58,7 @@ module _ (k : ℕ) (t2 : T2) (s : Settings) (number : ℕ) (keys0 keys1 : List �
   same-book : (x x′ d : List ℕ) → Possible k s d → bookOf k s number keys0 keys1 (There x x′ d) ≡ bookOf k s number keys0 keys1 d
   unfolding paired
   same-book x x′ d hd =
-      same-books (scaleOf (s .set)) (s .kind) (s .n) (s .bound) (widthOf k) (omega arith) x x′ (multipliers keys0 keys1) d (good k s d hd) (omega arith) (eqb number 0)
+      same-books (termsOf s) (widthOf k) (omega arith) x x′ (multipliers keys0 keys1) d (good k s d hd) (omega arith) (eqb number 0)
 
 pub five : (k : ℕ) → T2 → T5 k
 five k t2 = record {

@@ -14,10 +14,10 @@ use Rattle.field.specs.Field.{add, sub}
 use Rattle.field.proofs.Congruence.{≈-lt}
 use Rattle.field.proofs.Solve.{at, _⊕_, _⊖_, _⊗_, red, solve}
 use Rattle.field.proofs.Sums.{sum-cong}
-use Rattle.settings.specs.Sets.{Scale}
 use Rattle.rounding.specs.Digits.{digit}
 use Rattle.book.specs.Book.{Entry, groupGap, entryOf, maskAt, tripleAt, groupAt, isDrawn, drawn, value, valueOf}
 use Rattle.settings.specs.Sizes.{shared, drawLength, groups}
+use Rattle.settings.specs.Settings.{Terms}
 use Rattle.book.specs.Book.Entry.{mask, place, left, right, product, groupMask, groupPlace}
 use Rattle.book.specs.Deal.{inOrder}
 use Rattle.book.specs.Theorems.{At, at-place, at-product, at-groupPlace, Holds}
@@ -72,59 +72,59 @@ pub in-order : (count width : ℕ) (f f′ : ℕ → ℕ → ℕ) → 0 < width 
 in-order count width f f′ pos h =
     listTo-cong (count * width) _ _ (λ x b. h (x / width) (x % width) (div-lt-iff-lt-mul pos .1 b) (mod-lt x pos))
 
-module _ (p : Scale) (kind n bound width : ℕ) where
+module _ (T : Terms) (width : ℕ) where
   -- ---- draws
 
   pub record Good (d : List ℕ) : Type 0 where
-    pub size : length d ≡ drawLength p kind n width
-    pub below : allBelow (p .modulus) d ≡ true
+    pub size : length d ≡ drawLength (T .params) width
+    pub below : allBelow (T .params .scale .modulus) d ≡ true
 
   -- the same drawn numbers
   abbrev pub Same : List ℕ → List ℕ → Type 0
-  Same d d′ = (k : ℕ) → k < shared p kind n → isDrawn (entryOf p kind n k) ≡ true → drawn p kind n width d k ≡ drawn p kind n width d′ k
+  Same d d′ = (k : ℕ) → k < shared (T .params) → isDrawn (entryOf (T .params) k) ≡ true → drawn (T .params) width d k ≡ drawn (T .params) width d′ k
 
-  pub same-at : (d d′ : List ℕ) → Same d d′ → (k : ℕ) (e : Entry) → Holds p kind n k e → isDrawn e ≡ true
-      → drawn p kind n width d k ≡ drawn p kind n width d′ k
+  pub same-at : (d d′ : List ℕ) → Same d d′ → (k : ℕ) (e : Entry) → Holds (T .params) k e → isDrawn e ≡ true
+      → drawn (T .params) width d k ≡ drawn (T .params) width d′ k
   same-at d d′ s k e h i = s k (h .0) (ap isDrawn (h .1) ∙ i)
 
   -- the same masks r
   abbrev pub SameMasks : List ℕ → List ℕ → Type 0
-  SameMasks d d′ = (c : ℕ) → c < n → drawn p kind n width d (maskAt p kind c) ≡ drawn p kind n width d′ (maskAt p kind c)
+  SameMasks d d′ = (c : ℕ) → c < T .params .n → drawn (T .params) width d (maskAt (T .params) c) ≡ drawn (T .params) width d′ (maskAt (T .params) c)
 
   pub masks-same : (d d′ : List ℕ) → Same d d′ → SameMasks d d′
-  masks-same d d′ s c h = same-at d d′ s (maskAt p kind c) (mask c) (holds-mask p kind n c h) refl
+  masks-same d d′ s c h = same-at d d′ s (maskAt (T .params) c) (mask c) (holds-mask (T .params) c h) refl
 
   -- the values follow the drawn numbers
-  pub value-same : (d d′ : List ℕ) → Same d d′ → (k : ℕ) → k < shared p kind n → value p kind n width d k ≡ value p kind n width d′ k
+  pub value-same : (d d′ : List ℕ) → Same d d′ → (k : ℕ) → k < shared (T .params) → value (T .params) width d k ≡ value (T .params) width d′ k
   unfolding value
-  value-same d d′ s k h = go (entryOf p kind n k) refl (at-entry p kind n k h)
+  value-same d d′ s k h = go (entryOf (T .params) k) refl (at-entry (T .params) k h)
     where
-      go : (e : Entry) → entryOf p kind n k ≡ e → At p kind n k e → valueOf p kind n width d k e ≡ valueOf p kind n width d′ k e
+      go : (e : Entry) → entryOf (T .params) k ≡ e → At (T .params) k e → valueOf (T .params) width d k e ≡ valueOf (T .params) width d′ k e
       go (mask c) i a = same-at d d′ s k (mask c) (h, i) refl
       go (left c t) i a = same-at d d′ s k (left c t) (h, i) refl
       go (right c t) i a = same-at d d′ s k (right c t) (h, i) refl
       go (groupMask g) i a = same-at d d′ s k (groupMask g) (h, i) refl
       go (place c i j) e (at-place hc hi hj f) =
-          ap (λ (r : ℕ). bit (eqb j (digit p r i))) (same-at d d′ s (maskAt p kind c) (mask c) (holds-mask p kind n c hc) refl)
+          ap (λ (r : ℕ). bit (eqb j (digit (T .params .scale) r i))) (same-at d d′ s (maskAt (T .params) c) (mask c) (holds-mask (T .params) c hc) refl)
       go (product c t) e (at-product hc ht f) =
-          ap₂ (λ (a b : ℕ). a * b % p .modulus)
-          (same-at d d′ s (tripleAt p kind c t) (left c t) (holds-left p kind n c t hc ht) refl)
-          (same-at d d′ s (tripleAt p kind c t + 1) (right c t) (holds-right p kind n c t hc ht) refl)
+          ap₂ (λ (a b : ℕ). a * b % T .params .scale .modulus)
+          (same-at d d′ s (tripleAt (T .params) c t) (left c t) (holds-left (T .params) c t hc ht) refl)
+          (same-at d d′ s (tripleAt (T .params) c t + 1) (right c t) (holds-right (T .params) c t hc ht) refl)
       go (groupPlace g j) e (at-groupPlace hg hj f) =
-          ap (λ (r : ℕ). bit (eqb j (r / groupGap p kind n))) (same-at d d′ s (groupAt p kind n g) (groupMask g) (holds-ρ p kind n g hg) refl)
+          ap (λ (r : ℕ). bit (eqb j (r / groupGap (T .params)))) (same-at d d′ s (groupAt (T .params) g) (groupMask g) (holds-ρ (T .params) g hg) refl)
 
   -- ---- what the openings hide: functions of the secret and the masks r
 
   -- u (part 0) or v (part 1) of triple t of coefficient c
   unfoldable pub factorOf : List ℕ → List ℕ → ℕ → ℕ → ℕ → ℕ
   factorOf x d c t part =
-      clearFactor p kind n bound (maskedOf p kind n bound width d x c) (maskOf p kind n bound width d x c) (1 + t / 2) (t % 2) part
+      clearFactor T (maskedOf T width d x c) (maskOf T width d x c) (1 + t / 2) (t % 2) part
 
   -- g × n of zero check g
   unfoldable pub checkOf : List ℕ → List ℕ → ℕ → ℕ
-  checkOf x d g = groupGap p kind n * clearChecked p kind n bound (maskedOf p kind n bound width d x) (maskOf p kind n bound width d x) g
+  checkOf x d g = groupGap (T .params) * clearChecked T (maskedOf T width d x) (maskOf T width d x) g
 
-  pub factor-same : (x d d′ : List ℕ) → SameMasks d d′ → (c t part : ℕ) → c < n → factorOf x d c t part ≡ factorOf x d′ c t part
+  pub factor-same : (x d d′ : List ℕ) → SameMasks d d′ → (c t part : ℕ) → c < T .params .n → factorOf x d c t part ≡ factorOf x d′ c t part
   unfolding factorOf maskedOf maskOf
   factor-same x d d′ s c t part h = rw (s c h)
 
@@ -132,23 +132,23 @@ module _ (p : Scale) (kind n bound width : ℕ) where
   cond-same true h e = h refl
   cond-same false h e = e
 
-  pub check-same : (x d d′ : List ℕ) → SameMasks d d′ → (g : ℕ) → g < groups kind n → checkOf x d g ≡ checkOf x d′ g
+  pub check-same : (x d d′ : List ℕ) → SameMasks d d′ → (g : ℕ) → g < groups (T .params) → checkOf x d g ≡ checkOf x d′ g
   unfolding checkOf clearChecked maskedOf maskOf
   check-same x d d′ s g h =
-      ap (λ (z : ℕ). groupGap p kind n * z)
-      (cond-same (eqb kind 0)
-      (λ e. let l : g < n = rw e at h in rw (s g l))
-      (ap (λ (z : ℕ). n - z) (sum-cong n _ _ (λ c l. rw (s c l)))))
+      ap (λ (z : ℕ). groupGap (T .params) * z)
+      (cond-same (eqb (T .params .kind) 0)
+      (λ e. let l : g < T .params .n = rw e at h in rw (s g l))
+      (ap (λ (z : ℕ). (T .params .n) - z) (sum-cong (T .params .n) _ _ (λ c l. rw (s c l)))))
 
   -- the openings of a secret: the mask r is taken away in round 1, a and b from the factors, ρ is added to the check
   pub record Opens (x d : List ℕ) : Type 0 where
-    pub first : (c : ℕ) → c < n
-        → openedOf p kind n bound width d x 0 c ≡ sub (p .modulus) (getD x c 0 + shiftOf (p .alpha) kind bound) (drawn p kind n width d (maskAt p kind c))
-    pub factor : (c t part : ℕ) → c < n → t < 8 → part < 2
-        → openedOf p kind n bound width d x (1 + t / 2) (tripleOpening c t part)
-        ≡ sub (p .modulus) (factorOf x d c t part) (drawn p kind n width d (tripleAt p kind c t + part))
-    pub check : (g : ℕ) → g < groups kind n
-        → openedOf p kind n bound width d x 5 g ≡ add (p .modulus) (drawn p kind n width d (groupAt p kind n g)) (checkOf x d g)
+    pub first : (c : ℕ) → c < T .params .n
+        → openedOf T width d x 0 c ≡ sub (T .params .scale .modulus) (getD x c 0 + shiftOf T) (drawn (T .params) width d (maskAt (T .params) c))
+    pub factor : (c t part : ℕ) → c < T .params .n → t < 8 → part < 2
+        → openedOf T width d x (1 + t / 2) (tripleOpening c t part)
+        ≡ sub (T .params .scale .modulus) (factorOf x d c t part) (drawn (T .params) width d (tripleAt (T .params) c t + part))
+    pub check : (g : ℕ) → g < groups (T .params)
+        → openedOf T width d x 5 g ≡ add (T .params .scale .modulus) (drawn (T .params) width d (groupAt (T .params) g)) (checkOf x d g)
 
   abbrev pub Shapes : List ℕ → Type 0
   Shapes x = (d : List ℕ) → Good d → Opens x d

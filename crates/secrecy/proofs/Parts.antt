@@ -12,8 +12,8 @@ use Rattle.lists.specs.Answers.{bit}
 use Rattle.lists.specs.Lists.{listTo, joinFrom, every, allBelow}
 use Rattle.lists.proofs.Lists.{length-listFrom, getD-listTo, ahead, ahead-more, join-at, join-is}
 use Rattle.lists.proofs.Every.{every-listTo, every-join}
-use Rattle.settings.specs.Sets.{Scale}
 use Rattle.settings.specs.Sizes.{shared, drawLength}
+use Rattle.settings.specs.Settings.{Params}
 use Rattle.book.specs.Book.{isDrawn, entryOf, drawAt, drawn, phoneNumber}
 use Rattle.book.proofs.Draws.{drawAt-none, drawAt-more, drawAt-end}
 use Rattle.secrecy.specs.Paired.{drawFrom}
@@ -60,61 +60,61 @@ module _ (width : ℕ) where
 
 -- ---- the draw
 
-module _ (p : Scale) (kind n width : ℕ) (own : ℕ → ℕ) (phone : ℕ → ℕ → ℕ) where
+module _ (p : Params) (width : ℕ) (own : ℕ → ℕ) (phone : ℕ → ℕ → ℕ) where
   abbrev pieces : ℕ → List ℕ
-  pieces k = piece width (isDrawn (entryOf p kind n k)) (own k) (phone k)
+  pieces k = piece width (isDrawn (entryOf p k)) (own k) (phone k)
 
   -- the piece of place k begins where the dealer's cursor stands
-  ahead-pieces : (k : ℕ) → k ≤ shared p kind n → ahead 0 k pieces ≡ drawAt p kind n width k
+  ahead-pieces : (k : ℕ) → k ≤ shared p → ahead 0 k pieces ≡ drawAt p width k
   unfolding joinFrom
-  ahead-pieces zero h = sym (drawAt-none p kind n width)
+  ahead-pieces zero h = sym (drawAt-none p width)
   ahead-pieces (suc k) h =
       let z : 0 + k ≡ k = zero-add k in
       let e : ahead 0 (suc k) pieces ≡ ahead 0 k pieces + length (pieces k) = rw z at (ahead-more 0 k pieces) in
-      omega (arith, e, ahead-pieces k (omega arith), length-piece width (isDrawn (entryOf p kind n k)) (own k) (phone k), drawAt-more p kind n width k (omega arith))
+      omega (arith, e, ahead-pieces k (omega arith), length-piece width (isDrawn (entryOf p k)) (own k) (phone k), drawAt-more p width k (omega arith))
 
-  pub length-drawFrom : length (drawFrom p kind n width own phone) ≡ drawLength p kind n width
+  pub length-drawFrom : length (drawFrom p width own phone) ≡ drawLength p width
   unfolding drawFrom
-  length-drawFrom = ahead-pieces (shared p kind n) (omega arith) ∙ drawAt-end p kind n width
+  length-drawFrom = ahead-pieces (shared p) (omega arith) ∙ drawAt-end p width
 
-  getD-drawFrom : (k x : ℕ) → k < shared p kind n → x < length (pieces k)
-      → getD (drawFrom p kind n width own phone) (drawAt p kind n width k + x) 0 ≡ getD (pieces k) x 0
+  getD-drawFrom : (k x : ℕ) → k < shared p → x < length (pieces k)
+      → getD (drawFrom p width own phone) (drawAt p width k + x) 0 ≡ getD (pieces k) x 0
   unfolding drawFrom
-  getD-drawFrom k x h b = rw (← ahead-pieces k (omega arith)) (join-at (shared p kind n) pieces 0 k x h b)
+  getD-drawFrom k x h b = rw (← ahead-pieces k (omega arith)) (join-at (shared p) pieces 0 k x h b)
 
-  pub drawn-drawFrom : (k : ℕ) → k < shared p kind n → isDrawn (entryOf p kind n k) ≡ true
-      → drawn p kind n width (drawFrom p kind n width own phone) k ≡ own k
+  pub drawn-drawFrom : (k : ℕ) → k < shared p → isDrawn (entryOf p k) ≡ true
+      → drawn p width (drawFrom p width own phone) k ≡ own k
   unfolding drawn
   drawn-drawFrom k h e =
-      (rw add-zero at (getD-drawFrom k 0 h (rw e (omega arith)))) ∙ head (isDrawn (entryOf p kind n k)) e
+      (rw add-zero at (getD-drawFrom k 0 h (rw e (omega arith)))) ∙ head (isDrawn (entryOf p k)) e
     where
       head : (b : Bool) → b ≡ true → getD (piece width b (own k) (phone k)) 0 0 ≡ own k
       head true e = refl
       head false e = absurd (true≢false (sym e))
 
-  pub phone-drawFrom : (k c : ℕ) → k < shared p kind n → c < width
-      → phoneNumber p kind n width (drawFrom p kind n width own phone) k c ≡ phone k c
+  pub phone-drawFrom : (k c : ℕ) → k < shared p → c < width
+      → phoneNumber p width (drawFrom p width own phone) k c ≡ phone k c
   unfolding phoneNumber
   phone-drawFrom k c h l =
-      let b = isDrawn (entryOf p kind n k) in
-      rw (add-assoc (drawAt p kind n width k) (bit b) c)
+      let b = isDrawn (entryOf p k) in
+      rw (add-assoc (drawAt p width k) (bit b) c)
       (getD-drawFrom k (bit b + c) h (omega (arith, length-piece width b (own k) (phone k))) ∙ phone-piece width b (own k) (phone k) c l)
 
-  pub below-drawFrom : (m : ℕ) → ((k : ℕ) → own k < m) → ((k c : ℕ) → phone k c < m) → allBelow m (drawFrom p kind n width own phone) ≡ true
+  pub below-drawFrom : (m : ℕ) → ((k : ℕ) → own k < m) → ((k c : ℕ) → phone k c < m) → allBelow m (drawFrom p width own phone) ≡ true
   unfolding drawFrom allBelow
   below-drawFrom m h k =
-      every-join (λ (x : ℕ). ltb x m) 0 (shared p kind n) pieces (λ x l.
-      rw zero-add (below-piece width m (isDrawn (entryOf p kind n x)) (own x) (phone x) (h x) (k x)))
+      every-join (λ (x : ℕ). ltb x m) 0 (shared p) pieces (λ x l.
+      rw zero-add (below-piece width m (isDrawn (entryOf p x)) (own x) (phone x) (h x) (k x)))
 
   -- a draw whose parts are these is made of them
-  pub drawFrom-is : (draw : List ℕ) → length draw ≡ drawLength p kind n width
-      → ((k : ℕ) → k < shared p kind n → isDrawn (entryOf p kind n k) ≡ true → own k ≡ drawn p kind n width draw k)
-      → ((k c : ℕ) → k < shared p kind n → c < width → phone k c ≡ phoneNumber p kind n width draw k c)
-      → drawFrom p kind n width own phone ≡ draw
+  pub drawFrom-is : (draw : List ℕ) → length draw ≡ drawLength p width
+      → ((k : ℕ) → k < shared p → isDrawn (entryOf p k) ≡ true → own k ≡ drawn p width draw k)
+      → ((k c : ℕ) → k < shared p → c < width → phone k c ≡ phoneNumber p width draw k c)
+      → drawFrom p width own phone ≡ draw
   unfolding drawFrom drawn phoneNumber
   drawFrom-is draw e h f =
-      join-is 0 (shared p kind n) pieces 0 draw (e ∙ sym length-drawFrom)
+      join-is 0 (shared p) pieces 0 draw (e ∙ sym length-drawFrom)
       (λ k x b l. let z : 0 + k ≡ k = zero-add k in
       rw (z, ahead-pieces k (omega arith))
-      (piece-is width (isDrawn (entryOf p kind n k)) (own k) (phone k) draw (drawAt p kind n width k) (h k b)
+      (piece-is width (isDrawn (entryOf p k)) (own k) (phone k) draw (drawAt p width k) (h k b)
       (λ c m. f k c b m) x (rw z at l)))

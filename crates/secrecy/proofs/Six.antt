@@ -4,13 +4,13 @@ use mathlib.Core.List.{List}
 use mathlib.Core.Bool.{cond}
 use Prim.Native.Nat.{ℕ, _<_}
 use lib.Dec.{eqb}
-use Rattle.settings.specs.Sets.{scaleOf}
 use Rattle.settings.specs.Sizes.{widthOf}
 use Rattle.book.specs.Deal.{multipliers}
 use Rattle.book.specs.Theorems.{Laws}
 use Rattle.column.specs.Run.{plainOpened}
 use Rattle.column.specs.Theorems.{T1Work, T2}
 use Rattle.settings.specs.declared.Settings.{Settings}
+use Rattle.settings.specs.Settings.{termsOf}
 use Rattle.runs.specs.Records.{Hand, World, Move, Event, answerOf, worldAfter, events, recordOf}
 use Rattle.runs.specs.Demands.{Fixed, Secret, Shares, Possible, Start, ownHand, otherHand}
 use Rattle.runs.specs.Progress.{none, countsAfter, worldAt}
@@ -27,10 +27,10 @@ module _ (k : ℕ) (t1 : T1Work) (t3 : T3 k) (t5 : T5 k) (laws : Laws)
     (s : Settings) (serial : ℕ) (keys0 keys1 : List ℕ) (f : Fixed k s serial keys0 keys1) (number : ℕ) (u : number < 2)
     (inputs x x′ : List ℕ) (hi : Shares k s inputs) (hx : Secret s x) (hx′ : Secret s x′) where
   abbrev There : List ℕ → List ℕ → List ℕ → List ℕ
-  There x x′ d = paired (scaleOf (s .set)) (s .kind) (s .n) (s .bound) (widthOf k) x x′ number (multipliers keys0 keys1) d
+  There x x′ d = paired (termsOf s) (widthOf k) x x′ number (multipliers keys0 keys1) d
 
   abbrev N : List ℕ → List ℕ → ℕ → List ℕ
-  N x d rounds = plainOpened (scaleOf (s .set)) (s .kind) (s .n) (s .bound) (widthOf k) d x rounds
+  N x d rounds = plainOpened (termsOf s) (widthOf k) d x rounds
 
   abbrev own : List ℕ → Hand
   own d = ownHand k s number keys0 keys1 inputs d
@@ -77,8 +77,8 @@ pub demand3 : (k : ℕ) → T1Work → T2 → Laws → T3 k → Demand3 k
 demand3 k t1 t2 laws t3 s serial keys0 keys1 f number u inputs x x′ hi hx hx′ alike =
     let t5 = five k t2 in
     record {
-      there = λ d. paired (scaleOf (s .set)) (s .kind) (s .n) (s .bound) (widthOf k) x x′ number (multipliers keys0 keys1) d;
-      back = λ d. paired (scaleOf (s .set)) (s .kind) (s .n) (s .bound) (widthOf k) x′ x number (multipliers keys0 keys1) d;
+      there = λ d. paired (termsOf s) (widthOf k) x x′ number (multipliers keys0 keys1) d;
+      back = λ d. paired (termsOf s) (widthOf k) x′ x number (multipliers keys0 keys1) d;
       there-possible = λ d hd. t5 .possible s number keys0 keys1 x x′ d (f .settings) hx hx′ hd;
       back-possible = λ d hd. t5 .possible s number keys0 keys1 x′ x d (f .settings) hx′ hx hd;
       back-there = λ d hd. t5 .back s number keys0 keys1 x x′ d (f .settings) hx hx′ hd;

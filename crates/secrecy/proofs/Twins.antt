@@ -14,10 +14,11 @@ use Rattle.field.specs.Forms.{Adds}
 use Rattle.field.proofs.Congruence.{≈-eq, ≈-sym, ≈-trans, ≈-lt, ≈-cancel}
 use Rattle.settings.specs.Sizes.{widthOf, openings}
 use Rattle.settings.specs.Order.{rounds, steps, sentBy}
-use Rattle.message.specs.Message.{messageOf, headerNumber}
+use Rattle.message.specs.Message.{messageOf, headerNumber, headerWith}
 use Rattle.column.specs.Theorems.{T1Work}
 use Rattle.opening.specs.Opening.{partColumn}
 use Rattle.settings.specs.declared.Settings.{Settings}
+use Rattle.settings.specs.Settings.{paramsIn}
 use Rattle.runs.specs.Records.{Hand, Seat, World, Move, worldAfter, events}
 use Rattle.runs.specs.Progress.{messageAt, seatAt, seatFrom, none, countsAfter, worldAt}
 use Rattle.runs.proofs.Seats.{which-below}
@@ -41,16 +42,16 @@ module _ (t1 : T1Work) (k : ℕ) (s : Settings) (serial : ℕ) (factors : List �
   faces = v .faces ∙ sym (v′ .faces)
 
   -- the openings of a round
-  plain-same : (R j : ℕ) → R < rounds → j < openings (s .kind) (s .n) (suc R) → plain R j ≡ plain′ R j
+  plain-same : (R j : ℕ) → R < rounds → j < openings (paramsIn s) (suc R) → plain R j ≡ plain′ R j
   plain-same R j l b =
-      let at : (f : ℕ → ℕ) → getD (listTo (openings (s .kind) (s .n) (suc R)) f) j 0 ≡ f j = λ f. getD-listTo (openings (s .kind) (s .n) (suc R)) f j 0 b in
+      let at : (f : ℕ → ℕ) → getD (listTo (openings (paramsIn s) (suc R)) f) j 0 ≡ f j = λ f. getD-listTo (openings (paramsIn s) (suc R)) f j 0 b in
       sym (at (plain R)) ∙ ap (λ (ns : List ℕ). getD ns j 0) (sym (v .opens R) ∙ same R l ∙ v′ .opens R) ∙ at (plain′ R)
 
   own-same-share : (R c j : ℕ) → R < rounds → sharing k s serial N h R c j ≡ sharing k s serial N′ h R c j
   unfolding sharing
   own-same-share R c j l = rw (work-same k s serial N N′ same h R (omega arith))
 
-  share-same : (R c j : ℕ) → R < rounds → c < widthOf k → j < openings (s .kind) (s .n) (suc R) → sharing k s serial N o R c j ≡ sharing k s serial N′ o′ R c j
+  share-same : (R c j : ℕ) → R < rounds → c < widthOf k → j < openings (paramsIn s) (suc R) → sharing k s serial N o R c j ≡ sharing k s serial N′ o′ R c j
   share-same R c j l b m =
       missing-same q (getD factors c 0) (sharing k s serial N h R c j) (sharing k s serial N o R c j) (sharing k s serial N′ o′ R c j) (plain R j)
       (v .adds R c j b) (rw (own-same-share R c j l, plain-same R j l m) (v′ .adds R c j b))
@@ -60,7 +61,7 @@ module _ (t1 : T1Work) (k : ℕ) (s : Settings) (serial : ℕ) (factors : List �
   fields-same : (R : ℕ) → R < rounds → fieldsAt k s serial N o R ≡ fieldsAt k s serial N′ o′ R
   unfolding fieldsAt
   fields-same R l =
-      join-cong 0 (openings (s .kind) (s .n) (suc R)) _ _ (λ j m.
+      join-cong 0 (openings (paramsIn s) (suc R)) _ _ (λ j m.
       ap₂ _∷_ (share-same R 0 (0 + j) l (omega arith) (omega arith))
       (listTo-cong k _ _ (λ i b.
       share-same R (partColumn k (1 - o .number) i) (0 + j) l (part-inside k s serial N o (v .other .which) i b) (omega arith)
@@ -69,7 +70,7 @@ module _ (t1 : T1Work) (k : ℕ) (s : Settings) (serial : ℕ) (factors : List �
   message-same : (R : ℕ) → R < rounds → messageAt k s serial N o (suc R) ≡ messageAt k s serial N′ o′ (suc R)
   message-same R l =
       message-is k s serial N t1 o (v .other) R l
-      ∙ ap₂ (λ (number : ℕ) (fields : List ℕ). messageOf (headerNumber number (s .set) (s .kind) (s .n) (s .bound) (suc R) serial) fields) faces (fields-same R l)
+      ∙ ap₂ (λ (number : ℕ) (fields : List ℕ). messageOf (headerNumber (headerWith number s (suc R) serial)) fields) faces (fields-same R l)
       ∙ sym (message-is k s serial N′ t1 o′ (v′ .other) R l)
 
   latest-by : (sends : ℕ) → sends ≤ rounds → cond (eqb sends 0) [] (messageAt k s serial N o sends) ≡ cond (eqb sends 0) [] (messageAt k s serial N′ o′ sends)

@@ -3,13 +3,13 @@ use Prim.Native.Nat.{ℕ, _<_}
 use mathlib.Core.Path.{_≡_}
 use mathlib.Core.Bool.{true}
 use mathlib.Core.List.{List}
-use Rattle.settings.specs.Sets.{scaleOf}
 use Rattle.settings.specs.Sizes.{widthOf}
 use Rattle.settings.specs.Order.{rounds}
 use Rattle.book.specs.Deal.{multipliers}
 use Rattle.column.specs.Run.{plainOpened}
 use Rattle.settings.specs.declared.Settings.{Settings}
 use Rattle.settings.specs.Questions.{settingsOk}
+use Rattle.settings.specs.Settings.{termsOf}
 use Rattle.runs.specs.Records.{answerOf, bookOf}
 use Rattle.runs.specs.Demands.{Secret, Possible}
 use Rattle.secrecy.specs.Paired.{paired}
@@ -18,20 +18,20 @@ use Rattle.secrecy.specs.Paired.{paired}
 pub record T5 (k : ℕ) : Type 0 where
   pub possible : (s : Settings) (number : ℕ) (keys0 keys1 x x′ draw : List ℕ)
       → settingsOk s ≡ true → Secret s x → Secret s x′ → Possible k s draw
-      → Possible k s (paired (scaleOf (s .set)) (s .kind) (s .n) (s .bound) (widthOf k) x x′ number (multipliers keys0 keys1) draw)
+      → Possible k s (paired (termsOf s) (widthOf k) x x′ number (multipliers keys0 keys1) draw)
   pub back : (s : Settings) (number : ℕ) (keys0 keys1 x x′ draw : List ℕ)
       → settingsOk s ≡ true → Secret s x → Secret s x′ → Possible k s draw
-      → let there : List ℕ → List ℕ → List ℕ → List ℕ = λ a b d. paired (scaleOf (s .set)) (s .kind) (s .n) (s .bound) (widthOf k) a b number (multipliers keys0 keys1) d in
+      → let there : List ℕ → List ℕ → List ℕ → List ℕ = λ a b d. paired (termsOf s) (widthOf k) a b number (multipliers keys0 keys1) d in
       there x′ x (there x x′ draw) ≡ draw
   pub same-openings : (s : Settings) (number : ℕ) (keys0 keys1 x x′ draw : List ℕ)
       → settingsOk s ≡ true → Secret s x → Secret s x′ → Possible k s draw
       → answerOf s x ≡ answerOf s x′
       → (round : ℕ)
       → round < rounds
-      → plainOpened (scaleOf (s .set)) (s .kind) (s .n) (s .bound) (widthOf k)
-      (paired (scaleOf (s .set)) (s .kind) (s .n) (s .bound) (widthOf k) x x′ number (multipliers keys0 keys1) draw) x′ round
-      ≡ plainOpened (scaleOf (s .set)) (s .kind) (s .n) (s .bound) (widthOf k) draw x round
+      → plainOpened (termsOf s) (widthOf k)
+      (paired (termsOf s) (widthOf k) x x′ number (multipliers keys0 keys1) draw) x′ round
+      ≡ plainOpened (termsOf s) (widthOf k) draw x round
   pub same-book : (s : Settings) (number : ℕ) (keys0 keys1 x x′ draw : List ℕ)
       → settingsOk s ≡ true → number < 2 → Secret s x → Secret s x′ → Possible k s draw
-      → bookOf k s number keys0 keys1 (paired (scaleOf (s .set)) (s .kind) (s .n) (s .bound) (widthOf k) x x′ number (multipliers keys0 keys1) draw)
+      → bookOf k s number keys0 keys1 (paired (termsOf s) (widthOf k) x x′ number (multipliers keys0 keys1) draw)
       ≡ bookOf k s number keys0 keys1 draw
