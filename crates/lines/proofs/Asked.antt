@@ -13,16 +13,16 @@ use Rattle.lists.proofs.Lists.{getD-listTo, listTo-getD}
 use Rattle.lists.proofs.Every.{below-at, every-listTo}
 use Rattle.lists.proofs.Questions.{and-true, passed}
 use Rattle.field.specs.Field.{q}
-use Rattle.settings.specs.Sets.{scaleOf}
 use Rattle.settings.specs.Sizes.{keyCount, shared, workLength}
-use Rattle.settings.specs.Questions.{isBit, countOk, boundOk, askSettings}
+use Rattle.settings.specs.Questions.{askShape, isBit, countOk, boundOk, askSettings}
 use Rattle.settings.proofs.Ready.{count-ready}
+use Rattle.settings.specs.Settings.{paramsIn}
 use Rattle.book.specs.Deal.{dealNo}
 use Rattle.state.specs.State.{freshSide, whole, sendDue, takeDue, underWay}
 use Rattle.side.specs.Side.{handedNo, beginNo}
 use Rattle.syntax.specs.declared.Order.{Order}
-use Rattle.lines.specs.Plain.{secretOf, orderNo}
-use Rattle.lines.specs.Play.{width, ones, inColumns, Lent}
+use Rattle.lines.specs.Plain.{secretOf, orderNo, settingsOf}
+use Rattle.lines.specs.Play.{width, ones, inColumns, Lent, runFor}
 use Rattle.lines.proofs.Laws.{length-front}
 use Rattle.lines.proofs.Handed.{ones-ok, columns-long, columns-below, zeros-below}
 
@@ -76,25 +76,25 @@ in-turn true true false r s t e f = refl
 in-turn true true true r s t e f = e refl ∙ no-more s t (f refl)
 
 module _ (serial : ℕ) (o : Order) (eight : length (o .numbers) ≡ 8) (draw inputs zeros a b work : List ℕ) (l : Lent o draw inputs zeros a b) (work-long : length work ≡ workLength keyCount) where
-  deal-asks : dealNo keyCount (o .set) (o .kind) (o .count) ones ones draw a b ≡ ask (isBit (o .set) && isBit (o .kind)) 1 (ask (countOk (o .count)) 2 0)
-  unfolding dealNo ask
+  deal-asks : dealNo keyCount (settingsOf o .shape) ones ones draw a b ≡ ask (isBit (o .set) && isBit (o .kind)) 1 (ask (countOk (o .count)) 2 0)
+  unfolding dealNo askShape ask
   deal-asks = rw (ones-ok, eq-eqb _ _ (l .draw-long), eq-eqb _ _ (l .server-long), eq-eqb _ _ (l .phone-long), l .draw-below)
 
   -- a book of the order's length, with numbers below q
   abbrev pub IsBook : List ℕ → Type 0
-  IsBook book = (length book ≡ shared (scaleOf (o .set)) (o .kind) (o .count) * width) × (allBelow q book ≡ true)
+  IsBook book = (length book ≡ shared (paramsIn (settingsOf o)) * width) × (allBelow q book ≡ true)
 
   abbrev handed : List ℕ → List ℕ → ℕ
-  handed xs book = handedNo keyCount freshSide (o .set) (o .kind) (o .count) ones serial xs book work
+  handed xs book = handedNo keyCount freshSide (runFor serial o 0) xs book work
 
   handed-asks : (xs book : List ℕ) → length xs ≡ o .count * width → IsBook book → handed xs book ≡ ask (allBelow q xs) 6 (ask (ltb 0 serial) 7 0)
   unfolding handedNo ask
   handed-asks xs book e f = rw (ones-ok, eq-eqb _ _ e, eq-eqb _ _ (f .0), eq-eqb _ _ work-long, f .1, and-true (allBelow q xs))
 
   begin-asks : (number : ℕ) → number < 2 → (xs book : List ℕ)
-      → beginNo keyCount freshSide number (o .set) (o .kind) (o .count) (o .bound) ones serial xs book work
+      → beginNo keyCount freshSide (runFor serial o number) xs book work
       ≡ ask (isBit (o .set) && isBit (o .kind)) 1 (ask (countOk (o .count)) 2 (ask (boundOk (o .kind) (o .bound)) 3 (handed xs book)))
-  unfolding beginNo underWay sendDue takeDue whole askSettings ask
+  unfolding beginNo handedNo underWay sendDue takeDue whole askSettings askShape ask
   begin-asks number h xs book = rw (lt-ltb number 2 h)
 
   coefficients-long : countOk (o .count) ≡ true → length (inColumns (secretOf o)) ≡ o .count * width
@@ -104,10 +104,10 @@ module _ (serial : ℕ) (o : Order) (eight : length (o .numbers) ≡ 8) (draw in
   -- the first no of a line is the first no of the deal, the server's begin and the phone's begin
   pub asked-in-order : (server phone : List ℕ) → IsBook server → IsBook phone
       → orderNo serial o
-      ≡ firstNo (dealNo keyCount (o .set) (o .kind) (o .count) ones ones draw a b)
-      (firstNo (beginNo keyCount freshSide 0 (o .set) (o .kind) (o .count) (o .bound) ones serial (inColumns (secretOf o)) server work)
-      (beginNo keyCount freshSide 1 (o .set) (o .kind) (o .count) (o .bound) ones serial zeros phone work))
-  unfolding orderNo askSettings
+      ≡ firstNo (dealNo keyCount (settingsOf o .shape) ones ones draw a b)
+      (firstNo (beginNo keyCount freshSide (runFor serial o 0) (inColumns (secretOf o)) server work)
+      (beginNo keyCount freshSide (runFor serial o 1) zeros phone work))
+  unfolding orderNo askSettings askShape ask
   asked-in-order server phone f g =
       rw (deal-asks, begin-asks 0 (omega arith) (inColumns (secretOf o)) server, begin-asks 1 (omega arith) zeros phone)
       (in-turn (isBit (o .set) && isBit (o .kind)) (countOk (o .count)) (boundOk (o .kind) (o .bound)) (ask (allBelow q (secretOf o)) 6 (ask (ltb 0 serial) 7 0)) (handed (inColumns (secretOf o)) server) (handed zeros phone)

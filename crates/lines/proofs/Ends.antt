@@ -12,16 +12,16 @@ use Rattle.lists.specs.Lists.{allBelow, inFront}
 use Rattle.lists.proofs.Lists.{length-listFrom}
 use Rattle.lists.proofs.Questions.{passed, both-yes}
 use Rattle.field.specs.Field.{q}
-use Rattle.settings.specs.Sets.{scaleOf}
 use Rattle.settings.specs.Sizes.{keyCount, shared, drawLength, workLength}
-use Rattle.settings.specs.Questions.{isBit, countOk, boundOk, askSettings, SettingsReady}
+use Rattle.settings.specs.Questions.{askShape, isBit, countOk, boundOk, askSettings, Ready}
 use Rattle.settings.proofs.Ready.{settings-ready, settings-rest}
 use Rattle.settings.specs.Order.{rounds}
 use Rattle.book.specs.Deal.{multipliers, serverBook, phoneBook, Dealt, dealNo, dealCall}
 use Rattle.state.specs.declared.Side.{Side}
-use Rattle.state.specs.State.{freshSide, whole, sendDue, takeDue, underWay, finished, answerPlaces, heldAnswer, answerNo, answerCall}
+use Rattle.state.specs.State.{freshSide, whole, sendDue, takeDue, underWay, finished, placesOf, heldAnswer, answerNo, answerCall}
 use Rattle.state.proofs.States.{finished-whole, places-most}
 use Rattle.settings.specs.declared.Settings.{Settings}
+use Rattle.settings.specs.Settings.{paramsIn}
 use Rattle.runs.specs.Records.{answerOf, missing, Hand, Seat, World, outcome, step, worldAfter}
 use Rattle.runs.specs.Demands.{Fixed, Idle, ownHand, otherHand, Ended}
 use Rattle.runs.proofs.Theorem.{every-run-ends}
@@ -31,7 +31,7 @@ use Rattle.lines.specs.Plain.{settingsOf, secretOf, orderNo, outcomeOf}
 use Rattle.lines.specs.Play.{mostDraw, mostBook, mostInputs, width, roundsPlayed, ones, inColumns, begunAt, zeroWork, toldBy, playedWith, Lent}
 use Rattle.lines.proofs.Laws.{length-front}
 use Rattle.lines.proofs.Rounds.{playCalls, roundCalls, rounds-are, carried}
-use Rattle.lines.proofs.Handed.{settings-ok, ones-ok, columns-long, columns-below, missing-none, front-zeros, zeros-below, zeros-long}
+use Rattle.lines.proofs.Handed.{settings-pass-all, ones-ok, columns-long, columns-below, missing-none, front-zeros, zeros-below, zeros-long}
 
 -- ---- The answer of a side that has ended
 
@@ -39,12 +39,12 @@ abbrev given : ℕ → List ℕ → Outcome
 given count numbers = record { refused = 0; length = count; numbers = inFront numbers (replicate 8 0) }
 
 module _ (s : Settings) (secret : List ℕ) (x : Side) (done : finished x ≡ true) (held : heldAnswer x ≡ answerOf s secret) where
-  places : answerPlaces x ≡ length (answerOf s secret)
-  places = sym (length-listFrom 0 (answerPlaces x) (λ (j : ℕ). getD (x .answer) j 0)) ∙ ap length held
+  places : placesOf x ≡ length (answerOf s secret)
+  places = sym (length-listFrom 0 (placesOf x) (λ (j : ℕ). getD (x .answer) j 0)) ∙ ap length held
 
   asked : answerNo x (replicate 8 0) ≡ 0
   unfolding answerNo ask
-  asked = rw (done, le-leb (answerPlaces x) 8 (places-most x (finished-whole x done)))
+  asked = rw (done, le-leb (placesOf x) 8 (places-most x (finished-whole x done)))
 
   told-is : toldBy x ≡ given (length (answerOf s secret)) (answerOf s secret)
   unfolding toldBy answerCall
@@ -53,9 +53,9 @@ module _ (s : Settings) (secret : List ℕ) (x : Side) (done : finished x ≡ tr
 -- ---- The play
 
 -- what an order that no question refuses has passed
-pub order-ready : (serial : ℕ) (o : Order) → orderNo serial o ≡ 0 → SettingsReady 0 (o .set) (o .kind) (o .count) (o .bound)
+pub order-ready : (serial : ℕ) (o : Order) → orderNo serial o ≡ 0 → Ready (settingsOf o)
 unfolding orderNo
-order-ready serial o e = settings-ready 0 (o .set) (o .kind) (o .count) (o .bound) _ e
+order-ready serial o e = settings-ready 0 (settingsOf o) _ e .1
 
 module _ (serial : ℕ) (o : Order) (ok : orderNo serial o ≡ 0) (fits : serial < 4294967296) (room : o .count ≤ length (o .numbers)) where
   abbrev s : Settings
@@ -67,15 +67,15 @@ module _ (serial : ℕ) (o : Order) (ok : orderNo serial o ≡ 0) (fits : serial
   abbrev rest : ℕ
   rest = ask (allBelow q secret) 6 (ask (ltb 0 serial) 7 0)
 
-  opened : askSettings 0 (o .set) (o .kind) (o .count) (o .bound) rest ≡ 0
+  opened : askSettings 0 (settingsOf o) rest ≡ 0
   unfolding orderNo
   opened = ok
 
-  ready : SettingsReady 0 (o .set) (o .kind) (o .count) (o .bound)
+  ready : Ready (settingsOf o)
   ready = order-ready serial o ok
 
   six : (allBelow q secret ≡ true) × (ask (ltb 0 serial) 7 0 ≡ 0)
-  six = passed (allBelow q secret) 5 (ask (ltb 0 serial) 7 0) (settings-rest 0 (o .set) (o .kind) (o .count) (o .bound) rest opened)
+  six = passed (allBelow q secret) 5 (ask (ltb 0 serial) 7 0) (settings-rest 0 (settingsOf o) rest opened)
 
   above : 1 ≤ serial
   above = omega (arith, ltb-true 0 serial (passed (ltb 0 serial) 6 0 (six .1) .0))
@@ -86,7 +86,7 @@ module _ (serial : ℕ) (o : Order) (ok : orderNo serial o ≡ 0) (fits : serial
   fixed : Fixed keyCount s serial ones ones
   fixed =
       record {
-        settings = settings-ok (o .set) (o .kind) (o .count) (o .bound) rest opened;
+        settings = settings-pass-all (settingsOf o) rest opened;
         above = above;
         fits = fits;
         server-count = length-replicate {A = ℕ} keyCount 1;
@@ -100,10 +100,10 @@ module _ (serial : ℕ) (o : Order) (ok : orderNo serial o ≡ 0) (fits : serial
   idle = record { side = freshSide; work = zeroWork; latest = [] }
 
   idle-is : Idle keyCount serial idle
-  unfolding underWay sendDue takeDue whole askSettings ask
+  unfolding underWay sendDue takeDue whole askSettings askShape ask
   idle-is = record { none = refl; last = above; exact = length-replicate {A = ℕ} (workLength keyCount) 0; silent = refl }
 
-  module _ (draw : List ℕ) (draw-long : length draw ≡ drawLength (scaleOf (o .set)) (o .kind) (o .count) width) (draw-below : allBelow q draw ≡ true) where
+  module _ (draw : List ℕ) (draw-long : length draw ≡ drawLength (paramsIn (settingsOf o)) width) (draw-below : allBelow q draw ≡ true) where
     abbrev inputs : List ℕ
     inputs = inColumns secret
 
@@ -138,8 +138,8 @@ module _ (serial : ℕ) (o : Order) (ok : orderNo serial o ≡ 0) (fits : serial
     begins-are = refl
 
     pub played : playedWith serial o inputs (replicate (o .count * width) 0)
-        (serverBook (scaleOf (o .set)) (o .kind) (o .count) width (multipliers ones ones) draw)
-        (phoneBook (scaleOf (o .set)) (o .kind) (o .count) width draw)
+        (serverBook (paramsIn (settingsOf o)) width (multipliers ones ones) draw)
+        (phoneBook (paramsIn (settingsOf o)) width draw)
         ≡ outcomeOf serial o
     unfolding playedWith outcomeOf
     played =
@@ -149,16 +149,16 @@ module _ (serial : ℕ) (o : Order) (ok : orderNo serial o ≡ 0) (fits : serial
         ∙ told-is s secret (worldAfter keyCount s serial server phone start playCalls .own .side) (ended .done) (ended .answer)
         ∙ rw ok
 
-    module _ (a b : List ℕ) (a-long : length a ≡ shared (scaleOf (o .set)) (o .kind) (o .count) * width) (b-long : length b ≡ shared (scaleOf (o .set)) (o .kind) (o .count) * width) where
-      deal-asked : dealNo keyCount (o .set) (o .kind) (o .count) ones ones draw a b ≡ 0
-      unfolding dealNo ask
+    module _ (a b : List ℕ) (a-long : length a ≡ shared (paramsIn (settingsOf o)) * width) (b-long : length b ≡ shared (paramsIn (settingsOf o)) * width) where
+      deal-asked : dealNo keyCount (settingsOf o .shape) ones ones draw a b ≡ 0
+      unfolding dealNo askShape ask
       deal-asked =
           let x = both-yes (isBit (o .set) && isBit (o .kind) && countOk (o .count)) (boundOk (o .kind) (o .bound)) (fixed .settings) in
           let y = both-yes (isBit (o .set) && isBit (o .kind)) (countOk (o .count)) (x .0) in
           rw (y .0, y .1, ones-ok, eq-eqb _ _ draw-long, eq-eqb _ _ a-long, eq-eqb _ _ b-long, draw-below)
 
       -- the deal is not refused
-      pub dealt : dealCall keyCount (o .set) (o .kind) (o .count) ones ones draw a b ≡ record { refused = 0; server = server .book; phone = phone .book }
+      pub dealt : dealCall keyCount (settingsOf o .shape) ones ones draw a b ≡ record { refused = 0; server = server .book; phone = phone .book }
       unfolding dealCall
       dealt = rw deal-asked
 
@@ -166,7 +166,7 @@ module _ (serial : ℕ) (o : Order) (ok : orderNo serial o ≡ 0) (fits : serial
 pub deal-play : (serial : ℕ) (o : Order) → orderNo serial o ≡ 0 → serial < 4294967296 → o .count ≤ length (o .numbers)
     → (draw inputs zeros a b : List ℕ) → Lent o draw inputs zeros a b
     → (r : ℕ) (spread server phone : List ℕ) → spread ≡ inColumns (secretOf o)
-    → _≡_ {A = Dealt} (record { refused = r; server = server; phone = phone }) (dealCall keyCount (o .set) (o .kind) (o .count) ones ones draw a b)
+    → _≡_ {A = Dealt} (record { refused = r; server = server; phone = phone }) (dealCall keyCount (settingsOf o .shape) ones ones draw a b)
     → playedWith serial o spread zeros server phone ≡ outcomeOf serial o
 deal-play serial o ok fits room draw inputs zeros a b l r spread server phone e d =
     let books = d ∙ dealt serial o ok fits room draw (l .draw-long) (l .draw-below) a b (l .server-long) (l .phone-long) in
@@ -176,8 +176,8 @@ deal-play serial o ok fits room draw inputs zeros a b l r spread server phone e 
     ∙ played serial o ok fits room draw (l .draw-long) (l .draw-below)
 
 -- the fronts of zero arrays are the slices that an order asks for
-pub lent-is : (o : Order) (drawn size : ℕ) → drawn ≡ drawLength (scaleOf (o .set)) (o .kind) (o .count) width → drawn ≤ mostDraw
-    → size ≡ shared (scaleOf (o .set)) (o .kind) (o .count) → size ≤ 1320 → o .count ≤ 8
+pub lent-is : (o : Order) (drawn size : ℕ) → drawn ≡ drawLength (paramsIn (settingsOf o)) width → drawn ≤ mostDraw
+    → size ≡ shared (paramsIn (settingsOf o)) → size ≤ 1320 → o .count ≤ 8
     → Lent o (take drawn (replicate mostDraw 0)) (take (o .count * width) (replicate mostInputs 0)) (take (o .count * width) (replicate mostInputs 0)) (take (size * width) (replicate mostBook 0)) (take (size * width) (replicate mostBook 0))
 lent-is o drawn size e l f m h =
     record {

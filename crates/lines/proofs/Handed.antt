@@ -10,26 +10,26 @@ use borrow.Author.Tests.{lt-ltb}
 use Rattle.lists.specs.Lists.{every, listFrom, allBelow}
 use Rattle.lists.proofs.Lists.{length-listFrom, getD-listTo, listTo-cong}
 use Rattle.lists.proofs.Every.{below-at, every-listTo}
-use Rattle.lists.proofs.Questions.{passed, both-yes, and-yes}
+use Rattle.lists.proofs.Questions.{passed, and-yes}
 use Rattle.field.specs.Field.{q, sub}
 use Rattle.settings.specs.Sizes.{keyCount, widthOf}
-use Rattle.settings.specs.Questions.{isBit, countOk, boundOk, keysOk, askSettings}
+use Rattle.settings.specs.Questions.{isBit, countOk, boundOk, keysOk, askSettings, askShape, settingsOk}
+use Rattle.settings.specs.declared.Settings.{Settings}
 use Rattle.book.specs.Deal.{multipliers}
 use Rattle.runs.specs.Records.{missing}
 use Rattle.lines.specs.Play.{width, ones, inColumns}
 
 -- settings that passed questions 1 to 3
-pub settings-ok : (set kind n bound rest : ℕ) → askSettings 0 set kind n bound rest ≡ 0
-    → (isBit set && isBit kind && countOk n && boundOk kind bound) ≡ true
-unfolding askSettings
-settings-ok set kind n bound rest e =
-    let one = passed (isBit 0 && isBit set && isBit kind) 0 _ e in
-    let two = passed (countOk n) 1 _ (one .1) in
-    let three = passed (boundOk kind bound) 2 rest (two .1) in
-    let bits = both-yes (isBit 0 && isBit set) (isBit kind) (one .0) in
-    let bit = both-yes (isBit 0) (isBit set) (bits .0) in
-    and-yes (isBit set && isBit kind && countOk n) (boundOk kind bound)
-    (and-yes (isBit set && isBit kind) (countOk n) (and-yes (isBit set) (isBit kind) (bit .1) (bits .1)) (two .0))
+pub settings-pass-all : (s : Settings) (rest : ℕ) → askSettings 0 s rest ≡ 0 → settingsOk s ≡ true
+unfolding askSettings askShape
+settings-pass-all s rest e =
+    let a = s .shape in
+    let one = passed (isBit 0) 0 _ e in
+    let bits = passed (isBit (a .set) && isBit (a .kind)) 0 _ (one .1) in
+    let two = passed (countOk (a .n)) 1 _ (bits .1) in
+    let three = passed (boundOk (a .kind) (s .bound)) 2 rest (two .1) in
+    and-yes (isBit (a .set) && isBit (a .kind) && countOk (a .n)) (boundOk (a .kind) (s .bound))
+    (and-yes (isBit (a .set) && isBit (a .kind)) (countOk (a .n)) (bits .0) (two .0))
     (three .0)
 
 -- the keys pass question 4

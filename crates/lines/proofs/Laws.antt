@@ -14,6 +14,7 @@ use Rattle.opening.specs.Opening.{message}
 use Rattle.side.specs.Side.{sendNo, sentSide, afterSend, sendCall}
 use Rattle.side.proofs.Sending.{send-ready}
 use Rattle.lists.specs.Lists.{inFront}
+use Rattle.settings.specs.Settings.{paramsIn}
 use Rattle.runs.specs.Records.{Seat, World}
 use Rattle.lines.specs.Play.{sentAt, tookAt, serverHalf, phoneHalf, roundPlayed, roundsPlayed}
 
@@ -24,7 +25,7 @@ send-fits s work out = by (eqb (sendNo keyCount s work out) 0) refl
   where
     by : (b : Bool) → eqb (sendNo keyCount s work out) 0 ≡ b
         → cond b
-        (afterSend 0 (messageLength keyCount (s .kind) (s .n) (s .round)) (sentSide s) (inFront (message keyCount s work) out))
+        (afterSend 0 (messageLength keyCount (paramsIn (s .settings)) (s .round)) (sentSide s) (inFront (message keyCount s work) out))
         (afterSend (sendNo keyCount s work out) 0 s out)
         .sent .length ≤ length out
     by true e = send-ready keyCount s work out (eqb-true _ 0 e) .room

@@ -12,6 +12,7 @@ use Rattle.settings.specs.Sizes.{keyCount, mostBytes, messageLength}
 use Rattle.settings.specs.Order.{rounds}
 use Rattle.settings.proofs.Sizes.{openings-most}
 use Rattle.settings.specs.declared.Settings.{Settings}
+use Rattle.settings.specs.Settings.{paramsIn, Params}
 use Rattle.runs.specs.Records.{Hand, World, Move, outcome, step, worldAfter}
 use Rattle.runs.specs.Records.Who.{mine, theirs}
 use Rattle.runs.specs.Records.Call.{begin, send, takeLatest}
@@ -50,15 +51,15 @@ module _ (s : Settings) (serial : ℕ) (h o : Hand) where
   rounds-are (suc n) w = one-round w (roundCalls n) ∙ rounds-are n (roundPlayed w) ∙ first-last n w
 
 -- every message fits the lent output
-message-fits : (kind n round : ℕ) → n ≤ 8 → messageLength keyCount kind n round ≤ mostBytes keyCount
+message-fits : (p : Params) (round : ℕ) → p .n ≤ 8 → messageLength keyCount p round ≤ mostBytes keyCount
 unfolding messageLength
-message-fits kind n round h = omega (arith, openings-most kind n round h)
+message-fits p round h = omega (arith, openings-most p round h)
 
-module _ (s : Settings) (most : s .n ≤ 8) where
+module _ (s : Settings) (most : s .shape .n ≤ 8) where
   roomy : (round : ℕ) → leb (length (outFor keyCount s round)) (length lent) ≡ true
   roomy round =
-      let n : ℕ = messageLength keyCount (s .kind) (s .n) round in
-      le-leb (length (replicate {A = ℕ} n 0)) (mostBytes keyCount) (omega (arith, length-replicate {A = ℕ} n 0, message-fits (s .kind) (s .n) round most))
+      let n : ℕ = messageLength keyCount (paramsIn s) round in
+      le-leb (length (replicate {A = ℕ} n 0)) (mostBytes keyCount) (omega (arith, length-replicate {A = ℕ} n 0, message-fits (paramsIn s) round most))
 
   holds-rounds : (i n : ℕ) → holds (joinFrom i n (λ (j : ℕ). roundInOrder keyCount s (1 + j))) (roundCalls n) ≡ true
   unfolding joinFrom holds

@@ -9,6 +9,7 @@ use Rattle.lists.specs.Lists.{allBelow, inFront}
 use Rattle.field.specs.Field.{q}
 use Rattle.settings.specs.Questions.{askSettings}
 use Rattle.settings.specs.declared.Settings.{Settings}
+use Rattle.settings.specs.Settings.{settingsWith}
 use Rattle.runs.specs.Records.{answerOf}
 use Rattle.syntax.specs.declared.Order.{Order}
 use Rattle.lines.specs.declared.Outcome.{Outcome}
@@ -18,7 +19,7 @@ use Rattle.syntax.specs.Answer.{answerText, textOf}
 
 -- the settings of a line
 abbrev pub settingsOf : Order → Settings
-settingsOf o = record { set = o .set; kind = o .kind; n = o .count; bound = o .bound }
+settingsOf o = settingsWith (o .set) (o .kind) (o .count) (o .bound)
 
 -- its coefficients
 abbrev pub secretOf : Order → List ℕ
@@ -29,7 +30,7 @@ secretOf o = take (o .count) (o .numbers)
 -- has serial 0. The phone's begin refuses nothing more.
 unfoldable pub orderNo : ℕ → Order → ℕ
 orderNo serial o =
-    askSettings 0 (o .set) (o .kind) (o .count) (o .bound)
+    askSettings 0 (settingsOf o)
     (ask (allBelow q (secretOf o)) 6
     (ask (ltb 0 serial) 7
     0))

@@ -7,9 +7,11 @@ use lib.Dec.{eqb}
 use lib.ListN.{length, getD, take, replicate}
 use Rattle.lists.specs.Lists.{listTo, allBelow}
 use Rattle.field.specs.Field.{q}
-use Rattle.settings.specs.Sets.{scaleOf}
 use Rattle.settings.specs.Sizes.{keyCount, widthOf, mostBytes, shared, drawLength, workLength}
 use Rattle.settings.specs.Order.{rounds}
+use Rattle.settings.specs.Settings.{paramsIn}
+use Rattle.lines.specs.Plain.{settingsOf}
+use Rattle.side.specs.declared.Run.{Run}
 use Rattle.state.specs.declared.Side.{Side}
 use Rattle.state.specs.State.{freshSide, answerCall}
 use Rattle.side.specs.Side.{After, beginCall, sendCall, takeCall}
@@ -90,10 +92,14 @@ inColumns xs = listTo (length xs * width) (λ (x : ℕ). getD xs (x / width) 0)
 abbrev pub begunBy : After → Seat
 begunBy a = record { side = a .done .side; work = a .work; latest = [] }
 
+-- what its begin is handed: "keys 1, serial = line number"
+abbrev pub runFor : ℕ → Order → ℕ → Run
+runFor serial o number = record { number = number; settings = settingsOf o; keys = ones; serial = serial }
+
 -- side `number`, begun from a fresh side, with keys 1
 unfoldable pub begunAt : ℕ → Order → ℕ → List ℕ → List ℕ → List ℕ → Seat
 begunAt serial o number inputs book work =
-    begunBy (beginCall keyCount freshSide number (o .set) (o .kind) (o .count) (o .bound) ones serial inputs book work)
+    begunBy (beginCall keyCount freshSide (runFor serial o number) inputs book work)
 
 -- ---- The end
 
@@ -126,9 +132,9 @@ mostDraw = mostBook + 144
 
 -- lent slices of the lengths that an order asks for; a draw of numbers below q
 pub record Lent (o : Order) (draw serverInputs phoneInputs serverBook phoneBook : List ℕ) : Type 0 where
-  pub draw-long : length draw ≡ drawLength (scaleOf (o .set)) (o .kind) (o .count) width
+  pub draw-long : length draw ≡ drawLength (paramsIn (settingsOf o)) width
   pub draw-below : allBelow q draw ≡ true
   pub inputs-long : length serverInputs ≡ o .count * width
   pub zeros : phoneInputs ≡ replicate (o .count * width) 0
-  pub server-long : length serverBook ≡ shared (scaleOf (o .set)) (o .kind) (o .count) * width
-  pub phone-long : length phoneBook ≡ shared (scaleOf (o .set)) (o .kind) (o .count) * width
+  pub server-long : length serverBook ≡ shared (paramsIn (settingsOf o)) * width
+  pub phone-long : length phoneBook ≡ shared (paramsIn (settingsOf o)) * width

@@ -6,18 +6,23 @@ ghost use lib.ListN.{length};
 ghost use Rattle.settings.specs.Sizes.{keyCount, mostBytes};
 ghost use Rattle.settings.specs.Order.{rounds};
 ghost use Rattle.syntax.specs.Answer.{answerText, textOf};
-ghost use Rattle.lines.specs.Plain.{orderNo, outcomeOf, lineAnswer};
+ghost use Rattle.lines.specs.Plain.{settingsOf, orderNo, outcomeOf, lineAnswer};
 ghost use Rattle.lines.specs.Play.{seatOf, worldOf, Fits, sentAt, tookAt, serverHalf, phoneHalf, roundPlayed, roundsPlayed, width, inColumns, begunAt, toldBy, playedWith, Lent};
-use settings::draw_length;
-use settings::shared_of;
 use dealer::deal;
 use field::all_below_q;
-use settings::MOST_BYTES;
-use settings::ROUNDS;
-use settings::WORK_LENGTH;
 use settings::KEYS;
+use settings::MOST_BYTES;
+use settings::NOT_BELOW_Q;
+use settings::ROUNDS;
+use settings::SERIAL;
+use settings::Settings;
+use settings::Shape;
 use settings::WIDTH;
+use settings::WORK_LENGTH;
+use settings::draw_length;
 use settings::settings_no;
+use settings::shared_of;
+use side::Run;
 use side::begin;
 use side::send;
 use side::take;
@@ -61,21 +66,35 @@ struct Table {
 
 // ---- The questions
 
+// The settings of a line.
+fn settings_of(order: Order) -> Settings
+    ensures { λ r. ⌜ r ≡ settingsOf order ⌝ }
+{
+    Settings {
+        shape: Shape {
+            set: order.set,
+            kind: order.kind,
+            n: order.count,
+        },
+        bound: order.bound,
+    }
+}
+
 // The first no that the deal and the begins would give, or 0.
 fn order_no(serial: u32, order: Order) -> u32
     ensures { λ r. ⌜ r ≡ orderNo serial order ⌝ }
 {
-    let no = settings_no(0, order.set, order.kind, order.count, order.bound);
+    let no = settings_no(0, settings_of(order));
     if no != 0 {
         return no;
     }
     let numbers = order.numbers;
     let count = order.count as usize;
     if !all_below_q(&numbers[..count]) {
-        return 6;
+        return NOT_BELOW_Q;
     }
     if serial < 1 {
-        return 7;
+        return SERIAL;
     }
     0
 }
@@ -202,19 +221,14 @@ fn begin_at(
 ) -> Player
     ensures { λ r. ⌜ (seatOf r (now (work .exit)) ≡ begunAt serial order number (now (inputs .entry)) (now (book .entry)) (now (work .entry))) × (r .length ≤ mostBytes keyCount) ⌝ }
 {
-    let done = begin(
-        fresh(),
+    let settings = settings_of(order);
+    let run = Run {
         number,
-        order.set,
-        order.kind,
-        order.count,
-        order.bound,
-        [1; KEYS],
+        settings,
+        keys: [1; KEYS],
         serial,
-        inputs,
-        book,
-        work,
-    );
+    };
+    let done = begin(fresh(), run, inputs, book, work);
     let side = done.side;
     let message = [0u8; MOST_BYTES];
     Player {
@@ -281,10 +295,9 @@ fn deal_and_play(
     let numbers = order.numbers;
     let count = order.count as usize;
     spread(inputs, &numbers[..count]);
+    let shape = settings_of(order).shape;
     deal(
-        order.set,
-        order.kind,
-        order.count,
+        shape,
         [1; KEYS],
         [1; KEYS],
         draw,
@@ -299,11 +312,10 @@ fn play(serial: u32, order: Order) -> Outcome
     requires { ⌜ orderNo serial order ≡ 0 ⌝ }
     ensures { λ r. ⌜ r ≡ outcomeOf serial order ⌝ }
 {
-    let set = order.set as usize;
-    let count = order.count as usize;
-    let drawn = draw_length(set, order.kind, count);
-    let size = shared_of(set, order.kind, count) * WIDTH;
-    let each = count * WIDTH;
+    let shape = settings_of(order).shape;
+    let drawn = draw_length(shape);
+    let size = shared_of(shape) * WIDTH;
+    let each = order.count as usize * WIDTH;
     let draw = [0u32; DRAW_LENGTH];
     let mut inputs = [0u32; INPUTS_LENGTH];
     let zeros = [0u32; INPUTS_LENGTH];

@@ -58,6 +58,10 @@ messageBits fields = headerBits + fieldBits * fields
 abbrev pub bytesFor : ℕ → ℕ
 bytesFor bits = (bits + 7) / 8
 
+-- the most bytes of a message
+abbrev pub mostBytes : ℕ → ℕ
+mostBytes k = bytesFor (messageBits (mostFields k))
+
 -- the length of a round's message, in bytes
 unfoldable pub messageLength : ℕ → Params → ℕ → ℕ
 messageLength k p round = bytesFor (messageBits (fieldCount k p round))

@@ -8,9 +8,9 @@ mod lines;
 mod play;
 
 use lines::put_malformed;
+use play::transcript;
 use settings::MOST_BYTES;
 use settings::ROUNDS;
-use play::transcript;
 use text::MOST;
 use text::Reading;
 use text::cut;

@@ -1,20 +1,24 @@
 // One run, played through the calls of the library.
 ghost use Prim.Native.Nat.{_+_, _*_, _≤_};
 ghost use lib.ListN.{length};
-ghost use Rattle.settings.specs.Sizes.{keyCount, widthOf};
+ghost use Rattle.settings.specs.Sizes.{keyCount};
 use crate::lines::put_answer_line;
 use crate::lines::put_malformed;
 use crate::lines::put_message_line;
 use crate::lines::put_openings_line;
 use crate::lines::put_refused;
 use crate::lines::put_refused_deal;
-use settings::shared_of;
 use dealer::deal;
+use settings::KEYS;
 use settings::MOST_BYTES;
 use settings::ROUNDS;
-use settings::WORK_LENGTH;
-use settings::KEYS;
+use settings::Settings;
+use settings::Shape;
 use settings::WIDTH;
+use settings::WORK_LENGTH;
+use settings::book_size;
+use settings::input_size;
+use side::Run;
 use side::begin;
 use side::send;
 use side::take;
@@ -36,36 +40,41 @@ const BOOK_LENGTH: usize = 1320 * WIDTH;
 
 const ANSWER_LENGTH: usize = 8;
 
-// What the input asks for, before its inputs and draw.
+// What the input asks for, before its inputs and draw: the run at either side.
 struct Order {
-    set: u32,
-    kind: u32,
-    n: u32,
-    bound: u32,
-    serial: u32,
-    keys0: [u32; KEYS],
-    keys1: [u32; KEYS],
+    server: Run,
+    phone: Run,
 }
 
-// How far a run has come: both sides, where the next byte of the text goes, and whether a call has refused.
+// What is written: where the next byte of the text goes, and whether a call has refused.
+struct Written {
+    at: usize,
+    refused: bool,
+}
+
+// A side after its begin.
+struct Begun {
+    side: Side,
+    written: Written,
+}
+
+// How far a run has come.
 struct Table {
     server: Side,
     phone: Side,
-    at: usize,
-    refused: bool,
+    written: Written,
 }
 
-// A message's way: the sender after its send, the receiver after its take.
+// A message's way: the side that sends it, the side that takes it.
 struct Pass {
     sender: Side,
     receiver: Side,
-    at: usize,
-    refused: bool,
+    written: Written,
 }
 
 // ---- The parts of the input
 
-// The keys from a place on.
+// The keys from a place on. (`transcript` has asked for so many numbers, here and in the next three.)
 fn keys_in(numbers: &[u32], at: usize) -> [u32; KEYS]
     requires { ⌜ at + keyCount ≤ length (now numbers) ⌝ }
 {
@@ -78,188 +87,131 @@ fn keys_in(numbers: &[u32], at: usize) -> [u32; KEYS]
     keys
 }
 
-fn order_in(numbers: &[u32]) -> Order
-    requires { ⌜ 5 + 2 * keyCount ≤ length (now numbers) ⌝ }
+// The settings, in front.
+fn settings_in(numbers: &[u32]) -> Settings
+    requires { ⌜ 5 ≤ length (now numbers) ⌝ }
 {
-    let keys0 = keys_in(numbers, KEYS0);
-    let keys1 = keys_in(numbers, KEYS1);
-    Order {
+    let shape = Shape {
         set: numbers[0],
         kind: numbers[1],
         n: numbers[2],
+    };
+    Settings {
+        shape,
         bound: numbers[3],
+    }
+}
+
+// The run at side `number`, whose keys stand at a place.
+fn run_in(numbers: &[u32], number: u32, at: usize) -> Run
+    requires { ⌜ (5 ≤ length (now numbers)) × (at + keyCount ≤ length (now numbers)) ⌝ }
+{
+    let settings = settings_in(numbers);
+    let keys = keys_in(numbers, at);
+    Run {
+        number,
+        settings,
+        keys,
         serial: numbers[4],
-        keys0,
-        keys1,
     }
 }
 
-// How many numbers a side's input has. No call takes more than eight coefficients: then the input counts as empty.
-fn input_length(n: u32) -> usize
-    ensures { λ r. ⌜ r ≤ 8 * widthOf keyCount ⌝ }
+fn order_in(numbers: &[u32]) -> Order
+    requires { ⌜ 5 + 2 * keyCount ≤ length (now numbers) ⌝ }
 {
-    if n > 8 {
-        return 0;
-    }
-    n as usize * WIDTH
-}
-
-// How many numbers each book has; none where the dealer refuses the settings.
-fn book_length(o: Order) -> usize
-    ensures { λ r. ⌜ r ≤ 1320 * widthOf keyCount ⌝ }
-{
-    if o.set >= 2 {
-        return 0;
-    }
-    if o.n > 8 {
-        return 0;
-    }
-    shared_of(o.set as usize, o.kind, o.n as usize) * WIDTH
+    let server = run_in(numbers, 0, KEYS0);
+    let phone = run_in(numbers, 1, KEYS1);
+    Order { server, phone }
 }
 
 // ---- Begin
 
-// The phone begins, the server having begun.
-fn begin_phone(
-    o: Order,
-    server: Side,
+// A side begins; after a refusal it stays fresh.
+fn begin_side(
+    written: Written,
+    run: Run,
     inputs: &[u32],
     book: &[u32],
     work: &mut [u32],
     out: &mut [u8],
-) -> Table {
-    let keys = o.keys1;
-    let done = begin(
-        fresh(),
-        1,
-        o.set,
-        o.kind,
-        o.n,
-        o.bound,
-        keys,
-        o.serial,
-        inputs,
-        book,
-        work,
-    );
-    let phone = done.side;
-    if done.refused != 0 {
-        return Table {
-            server,
-            phone,
-            at: put_refused(out, 0, b"begin", 1, done.refused),
-            refused: true,
+) -> Begun {
+    if written.refused {
+        return Begun {
+            side: fresh(),
+            written,
         };
     }
-    Table {
-        server,
-        phone,
-        at: 0,
-        refused: false,
-    }
-}
-
-// Both sides begin, the server first.
-fn begin_both(
-    o: Order,
-    server_inputs: &[u32],
-    phone_inputs: &[u32],
-    server_book: &[u32],
-    phone_book: &[u32],
-    server_work: &mut [u32],
-    phone_work: &mut [u32],
-    out: &mut [u8],
-) -> Table {
-    let keys = o.keys0;
-    let done = begin(
-        fresh(),
-        0,
-        o.set,
-        o.kind,
-        o.n,
-        o.bound,
-        keys,
-        o.serial,
-        server_inputs,
-        server_book,
-        server_work,
-    );
-    let server = done.side;
+    let done = begin(fresh(), run, inputs, book, work);
+    let side = done.side;
     if done.refused != 0 {
-        return Table {
-            server,
-            phone: fresh(),
-            at: put_refused(out, 0, b"begin", 0, done.refused),
-            refused: true,
+        let at = put_refused(out, written.at, b"begin", run.number, done.refused);
+        return Begun {
+            side,
+            written: Written { at, refused: true },
         };
     }
-    begin_phone(o, server, phone_inputs, phone_book, phone_work, out)
+    Begun { side, written }
 }
 
 // ---- The rounds
 
-// Side `to` takes the message that the sender sent.
-fn deliver(
-    sender: Side,
-    receiver: Side,
-    work: &mut [u32],
-    message: &[u8],
-    to: u32,
-    out: &mut [u8],
-    at: usize,
-) -> Pass {
-    let taken = take(receiver, work, message);
-    let receiver_after = taken.side;
+// The receiver takes the message that the sender has sent.
+fn deliver(pass: Pass, work: &mut [u32], message: &[u8], out: &mut [u8]) -> Pass {
+    let sender = pass.sender;
+    let before = pass.receiver;
+    let written = pass.written;
+    let taken = take(before, work, message);
+    let receiver = taken.side;
     if taken.refused != 0 {
+        let at = put_refused(out, written.at, b"take", before.number, taken.refused);
         return Pass {
             sender,
-            receiver: receiver_after,
-            at: put_refused(out, at, b"take", to, taken.refused),
-            refused: true,
+            receiver,
+            written: Written { at, refused: true },
         };
     }
     Pass {
         sender,
-        receiver: receiver_after,
-        at,
-        refused: false,
+        receiver,
+        written,
     }
 }
 
-// Side `from` sends, side `to` takes.
+// One side sends, the other takes.
 fn pass_message(
-    sender: Side,
+    pass: Pass,
     sender_work: &[u32],
-    receiver: Side,
     receiver_work: &mut [u32],
-    from: u32,
-    to: u32,
     round: u32,
     out: &mut [u8],
-    at: usize,
 ) -> Pass {
+    let before = pass.sender;
+    let receiver = pass.receiver;
     let mut message = [0u8; MOST_BYTES];
-    let sent = send(sender, sender_work, &mut message);
-    let after = sent.side;
+    let sent = send(before, sender_work, &mut message);
+    let sender = sent.side;
     if sent.refused != 0 {
+        let at = put_refused(out, pass.written.at, b"send", before.number, sent.refused);
         return Pass {
-            sender: after,
+            sender,
             receiver,
-            at: put_refused(out, at, b"send", from, sent.refused),
-            refused: true,
+            written: Written { at, refused: true },
         };
     }
     let length = cut(sent.length, MOST_BYTES);
-    let next = put_message_line(out, at, from, round, &message[..length]);
-    deliver(
-        after,
-        receiver,
-        receiver_work,
-        &message[..length],
-        to,
+    let at = put_message_line(
         out,
-        next,
-    )
+        pass.written.at,
+        before.number,
+        round,
+        &message[..length],
+    );
+    let passing = Pass {
+        sender,
+        receiver,
+        written: Written { at, refused: false },
+    };
+    deliver(passing, receiver_work, &message[..length], out)
 }
 
 // The server's half of a round.
@@ -270,26 +222,27 @@ fn server_half(
     round: u32,
     out: &mut [u8],
 ) -> Table {
-    let server = table.server;
-    let phone = table.phone;
+    let sender = table.server;
+    let receiver = table.phone;
+    let before = table.written;
     let pass = pass_message(
-        server,
+        Pass {
+            sender,
+            receiver,
+            written: before,
+        },
         server_work,
-        phone,
         phone_work,
-        0,
-        1,
         round,
         out,
-        table.at,
     );
-    let sender = pass.sender;
-    let receiver = pass.receiver;
+    let server = pass.sender;
+    let phone = pass.receiver;
+    let written = pass.written;
     Table {
-        server: sender,
-        phone: receiver,
-        at: pass.at,
-        refused: pass.refused,
+        server,
+        phone,
+        written,
     }
 }
 
@@ -301,29 +254,30 @@ fn phone_half(
     round: u32,
     out: &mut [u8],
 ) -> Table {
-    if table.refused {
+    if table.written.refused {
         return table;
     }
-    let server = table.server;
-    let phone = table.phone;
+    let sender = table.phone;
+    let receiver = table.server;
+    let before = table.written;
     let pass = pass_message(
-        phone,
+        Pass {
+            sender,
+            receiver,
+            written: before,
+        },
         phone_work,
-        server,
         server_work,
-        1,
-        0,
         round,
         out,
-        table.at,
     );
-    let sender = pass.sender;
-    let receiver = pass.receiver;
+    let server = pass.receiver;
+    let phone = pass.sender;
+    let written = pass.written;
     Table {
-        server: receiver,
-        phone: sender,
-        at: pass.at,
-        refused: pass.refused,
+        server,
+        phone,
+        written,
     }
 }
 
@@ -349,7 +303,7 @@ fn play_rounds(
     let mut now = table;
     let mut round = 1;
     while round <= ROUNDS {
-        if now.refused {
+        if now.written.refused {
             return now;
         }
         now = play_round(now, server_work, phone_work, round, out);
@@ -360,24 +314,18 @@ fn play_rounds(
 
 // ---- Answers and counts
 
-// A line of text put, and whether a call refused.
-struct Line {
-    at: usize,
-    refused: bool,
-}
-
 // A side's answer.
-fn answer_line(side: Side, number: u32, out: &mut [u8], at: usize) -> Line {
+fn answer_line(side: Side, number: u32, out: &mut [u8], at: usize) -> Written {
     let mut places = [0u32; ANSWER_LENGTH];
     let told = answer(side, &mut places);
     if told.refused != 0 {
-        return Line {
+        return Written {
             at: put_refused(out, at, b"answer", number, told.refused),
             refused: true,
         };
     }
     let length = cut(told.length, ANSWER_LENGTH);
-    Line {
+    Written {
         at: put_answer_line(out, at, number, &places[..length]),
         refused: false,
     }
@@ -385,12 +333,13 @@ fn answer_line(side: Side, number: u32, out: &mut [u8], at: usize) -> Line {
 
 // Both answers, the server's first; none after a refusal. Gives back where the text ends.
 fn answer_lines(table: Table, out: &mut [u8]) -> usize {
-    if table.refused {
-        return table.at;
+    let written = table.written;
+    if written.refused {
+        return written.at;
     }
     let server = table.server;
     let phone = table.phone;
-    let line = answer_line(server, 0, out, table.at);
+    let line = answer_line(server, 0, out, written.at);
     if line.refused {
         return line.at;
     }
@@ -406,7 +355,21 @@ fn openings_lines(server: Side, phone: Side, out: &mut [u8], at: usize) -> usize
 
 // ---- The whole
 
-// A run with dealt books: begins, rounds, answers, counts.
+// What follows the begins: rounds, answers, counts.
+fn play_begun(
+    table: Table,
+    server_work: &mut [u32],
+    phone_work: &mut [u32],
+    out: &mut [u8],
+) -> usize {
+    let played = play_rounds(table, server_work, phone_work, out);
+    let at = answer_lines(played, out);
+    let server = played.server;
+    let phone = played.phone;
+    openings_lines(server, phone, out, at)
+}
+
+// A run with dealt books: begins, the server's first, rounds, answers, counts.
 fn play(
     o: Order,
     server_inputs: &[u32],
@@ -417,53 +380,41 @@ fn play(
 ) -> usize {
     let mut server_work = [0u32; WORK_LENGTH];
     let mut phone_work = [0u32; WORK_LENGTH];
-    let begun = begin_both(
-        o,
+    let nothing = Written {
+        at: 0,
+        refused: false,
+    };
+    let server_run = o.server;
+    let server_begun = begin_side(
+        nothing,
+        server_run,
         server_inputs,
-        phone_inputs,
         server_book,
-        phone_book,
         &mut server_work,
+        out,
+    );
+    let server = server_begun.side;
+    let before = server_begun.written;
+    let phone_run = o.phone;
+    let phone_begun = begin_side(
+        before,
+        phone_run,
+        phone_inputs,
+        phone_book,
         &mut phone_work,
         out,
     );
-    let table = play_rounds(begun, &mut server_work, &mut phone_work, out);
-    let at = answer_lines(table, out);
-    let server = table.server;
-    let phone = table.phone;
-    openings_lines(server, phone, out, at)
+    let phone = phone_begun.side;
+    let written = phone_begun.written;
+    let table = Table {
+        server,
+        phone,
+        written,
+    };
+    play_begun(table, &mut server_work, &mut phone_work, out)
 }
 
-// The dealer deals into the lent books, and the sides play.
-fn deal_and_play(
-    o: Order,
-    server_inputs: &[u32],
-    phone_inputs: &[u32],
-    draw: &[u32],
-    server_book: &mut [u32],
-    phone_book: &mut [u32],
-    out: &mut [u8],
-) -> usize {
-    let keys0 = o.keys0;
-    let keys1 = o.keys1;
-    let refused = deal(
-        o.set,
-        o.kind,
-        o.n,
-        keys0,
-        keys1,
-        draw,
-        server_book,
-        phone_book,
-    );
-    if refused != 0 {
-        let at = put_refused_deal(out, 0, refused);
-        return openings_lines(fresh(), fresh(), out, at);
-    }
-    play(o, server_inputs, phone_inputs, server_book, phone_book, out)
-}
-
-// The run that the order asks for, with books of its length.
+// The run that the order asks for: the dealer deals into books of its size, and the sides play.
 fn run(
     o: Order,
     server_inputs: &[u32],
@@ -473,14 +424,28 @@ fn run(
 ) -> usize {
     let mut server_book = [0u32; BOOK_LENGTH];
     let mut phone_book = [0u32; BOOK_LENGTH];
-    let size = book_length(o);
-    deal_and_play(
-        o,
-        server_inputs,
-        phone_inputs,
+    let shape = o.server.settings.shape;
+    let size = cut(book_size(shape), BOOK_LENGTH);
+    let keys0 = o.server.keys;
+    let keys1 = o.phone.keys;
+    let refused = deal(
+        shape,
+        keys0,
+        keys1,
         draw,
         &mut server_book[..size],
         &mut phone_book[..size],
+    );
+    if refused != 0 {
+        let at = put_refused_deal(out, 0, refused);
+        return openings_lines(fresh(), fresh(), out, at);
+    }
+    play(
+        o,
+        server_inputs,
+        phone_inputs,
+        &server_book[..size],
+        &phone_book[..size],
         out,
     )
 }
@@ -492,9 +457,9 @@ pub fn transcript(numbers: &[u32], out: &mut [u8]) -> usize {
         return put_malformed(out);
     }
     let o = order_in(numbers);
-    let size = input_length(o.n);
-    let server_end = cut(HEAD + size, numbers.len());
-    let phone_end = cut(HEAD + size + size, numbers.len());
+    let size = input_size(o.server.settings.shape);
+    let server_end = HEAD + cut(size, numbers.len() - HEAD);
+    let phone_end = server_end + cut(size, numbers.len() - server_end);
     run(
         o,
         &numbers[HEAD..server_end],

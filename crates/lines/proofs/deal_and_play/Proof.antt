@@ -1,14 +1,17 @@
 -- `lines::deal_and_play` meets its contract.
 use borrow.Author.Needs.{needs}
 use mathlib.Core.Path.{_≡_, ap, _∙_}
-use Prim.Native.Nat.{ℕ, _*_, _<_}
+use Prim.Native.Nat.{ℕ, _*_, _<_, _≤_}
 use native.Mathlib.Omega.{arith}
 use lib.ListN.{length}
 use Rattle.lines.proofs.Laws.{length-front}
 use Rattle.lines.proofs.Ends.{order-ready, deal-play}
 use Rattle.lines.proofs.deal_and_play.Statement.{statement}
 use Rattle.lines.proofs.deal_and_play.Tie as tie
-use Rattle.lines.specs.Play.{width}
+use Rattle.lines.specs.Play.{width, ones}
+use Rattle.settings.specs.declared.Settings.{Settings}
+use Rattle.settings.specs.Sizes.{keyCount}
+use Rattle.book.specs.Deal.{dealCall}
 
 array-share-prefix-numbers : tie.Need-array-share-prefix-numbers
 array-share-prefix-numbers c =
@@ -30,11 +33,11 @@ spread-requires c κs =
 
 returns : tie.Need-returns
 returns c =
-    let a = c .before .before .before .before .before .before .before .before .before .before .before .before .before .before .before .before .before .before .before .before .before .before .before .args in
-    let room = array-share-prefix-numbers (c .before .before .before .before .before .before .before .before .before .before .before .before .before .before .before) in
-    let fits : a .serial < 4294967296 = omega (arith, c .before .before .before .before .before .before .before .before .before .before .before .before .before .before .before .before .before .before .before .before .before .before .before .fits) in
+    let a = c .before .before .before .before .before .before .before .before .before .before .before .before .before .before .before .before .before .before .before .before .before .before .before .before .before .args in
+    let room = array-share-prefix-numbers (c .before .before .before .before .before .before .before .before .before .before .before .before .before .before .before .before .before) in
+    let fits : a .serial < 4294967296 = omega (arith, c .before .before .before .before .before .before .before .before .before .before .before .before .before .before .before .before .before .before .before .before .before .before .before .before .before .fits) in
     c .play-with .ensures
-    ∙ deal-play (a .serial) (a .order) (c .before .before .before .before .before .before .before .before .before .before .before .before .before .before .before .before .before .before .before .before .before .before .before .pre .0) fits room (a .draw .now) (a .inputs .now) (a .zeros .now) (a .server .now) (a .phone .now) (c .before .before .before .before .before .before .before .before .before .before .before .before .before .before .before .before .before .before .before .before .before .before .before .pre .1) (c .before .before .before .before .before .before .before .before .deal .result) _ _ _ (c .before .before .before .before .before .before .before .before .before .before .before .before .before .spread .ensures) (c .before .before .before .before .before .before .before .before .deal .ensures)
+    ∙ deal-play (a .serial) (a .order) (c .before .before .before .before .before .before .before .before .before .before .before .before .before .before .before .before .before .before .before .before .before .before .before .before .before .pre .0) fits room (a .draw .now) (a .inputs .now) (a .zeros .now) (a .server .now) (a .phone .now) (c .before .before .before .before .before .before .before .before .before .before .before .before .before .before .before .before .before .before .before .before .before .before .before .before .before .pre .1) (c .before .before .before .before .before .before .before .before .deal .result) _ _ _ (c .before .before .before .before .before .before .before .before .before .before .before .before .before .before .before .spread .ensures) (c .before .before .before .before .before .before .before .before .deal .ensures ∙ ap (λ (z : Settings). dealCall keyCount (z .shape) ones ones (a .draw .now) (a .server .now) (a .phone .now)) (c .before .before .before .before .before .before .before .before .before .before .before .before .settings-of .ensures))
 
 pub deal-and-play-spec : {M : Type 1} → statement M
 deal-and-play-spec =
@@ -44,6 +47,7 @@ deal-and-play-spec =
     array-share-prefix-numbers
     slice-aggregate-spread
     spread-requires
+    (λ c κs. search needs)
     (λ c κs. search needs)
     (λ c κs. search needs)
     (λ c. search needs)
