@@ -16,7 +16,7 @@ use Rattle.lists.proofs.Lists.{length-listFrom, getD-listTo}
 use Rattle.field.specs.Forms.{Adds}
 use Rattle.field.proofs.Solve.{at, _⊕_, _⊖_, _⊗_, red, solve}
 use Rattle.settings.specs.Settings.{Params}
-use Rattle.settings.specs.Sizes.{shared, drawLength, groups}
+use Rattle.settings.specs.Sizes.{shared}
 use Rattle.rounding.specs.Digits.{digit}
 use Rattle.book.specs.Book.{Entry, groupGap, entryOf, maskAt, groupAt, isDrawn, drawn, phoneNumber, value, valueOf}
 use Rattle.book.specs.Book.Entry.{mask, place, left, right, product, groupMask, groupPlace}

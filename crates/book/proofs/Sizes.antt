@@ -11,10 +11,9 @@ use borrow.Author.Tests.{eq-eqb, ne-eqb}
 use Rattle.lists.specs.Answers.{bit}
 use Rattle.lists.specs.Lists.{listFrom, listTo, joinFrom, joinTo}
 use Rattle.field.specs.Field.{q}
-use Rattle.field.specs.Sums.{sumTo}
 use Rattle.settings.specs.Sets.{Scale, base}
 use Rattle.settings.specs.Settings.{Params}
-use Rattle.settings.specs.Sizes.{drawnNumbers, shared, stride, drawLength}
+use Rattle.settings.specs.Sizes.{drawnNumbers}
 use Rattle.rounding.specs.Rounds.{gap}
 use Rattle.book.specs.Book.{Entry, plan, vectors, triples, group, coefficient, isDrawn, drawnIn}
 use Rattle.book.specs.Book.Entry.{place, left, right, product, groupPlace}

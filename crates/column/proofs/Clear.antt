@@ -12,7 +12,7 @@ use Rattle.lists.proofs.Indicators.{bit-le, lt-zero, off, on, bit-view}
 use Rattle.field.specs.Field.{sub}
 use Rattle.field.specs.Sums.{sumTo}
 use Rattle.field.proofs.Solve.{at, _⊕_, _⊖_, _⊗_, red, solve}
-use Rattle.settings.specs.Settings.{paramsWith, termsWith}
+use Rattle.settings.specs.Settings.{termsWith}
 use Rattle.settings.specs.Sets.{Scale, base}
 use Rattle.rounding.specs.Digits.{digit}
 use Rattle.rounding.specs.Rounds.{top, over, unit, carryInto, zeroDigit, topSum, threshold}

@@ -8,6 +8,7 @@ use lib.ListN.{getD}
 use Rattle.lists.specs.Answers.{bit}
 use Rattle.field.specs.Field.{add, sub}
 use Rattle.field.specs.Sums.{sumTo}
+use Rattle.settings.specs.Sets.{Scale}
 use Rattle.settings.specs.Settings.{Terms}
 use Rattle.rounding.specs.Digits.{digit}
 use Rattle.rounding.specs.Rounds.{carryInto, zeroDigit, topSum, top, over, missing, threshold, belowUpTo, insideResult}
@@ -16,25 +17,31 @@ use Rattle.slice.specs.Weights.{weigh, ruleOf}
 use Rattle.steps.specs.Steps.{lookedAt, limitOf, shiftOf}
 
 module _ (T : Terms) where
+  abbrev scale : Scale
+  scale = T .params .scale
+
+  abbrev kind : ℕ
+  kind = T .params .kind
+
   -- the running register k after so many rounds, 1 to 5.
   -- HIGH: the carry, at last F; the zeros so far, at last with G. BOUND: are the lowest digits of r below those of the threshold?
   unfoldable pub clearRunning : ℕ → ℕ → ℕ → ℕ → ℕ
   clearRunning y r rounds k =
-      cond (eqb (T .params .kind) 0)
+      cond (eqb kind 0)
       (cond (eqb k 0)
-      (cond (leb rounds 4) (carryInto (T .params .scale) y r rounds) (top (T .params .scale .parts) (topSum (T .params .scale) y r)))
-      (cond (leb rounds 4) (sumTo rounds (zeroDigit (T .params .scale) y r)) (sumTo 4 (zeroDigit (T .params .scale) y r) + over (T .params .scale .parts) (topSum (T .params .scale) y r))))
-      (belowUpTo (T .params .scale) r (threshold (T .params .scale .modulus) (T .bound) k y) rounds)
+      (cond (leb rounds 4) (carryInto scale y r rounds) (top (scale .parts) (topSum scale y r)))
+      (cond (leb rounds 4) (sumTo rounds (zeroDigit scale y r)) (sumTo 4 (zeroDigit scale y r) + over (scale .parts) (topSum scale y r))))
+      (belowUpTo scale r (threshold (scale .modulus) (T .bound) k y) rounds)
 
   -- u (part 0) and v (part 1) of gate k of digit i, 1 to 4
   unfoldable pub clearFactor : ℕ → ℕ → ℕ → ℕ → ℕ → ℕ
   clearFactor y r i k part =
-      let j = digit (T .params .scale) r i in
-      let d = digit (T .params .scale) (lookedAt (T .params .scale .modulus) (T .params .kind) (T .bound) k y) i in
-      cond (eqb (T .params .kind) 0)
+      let j = digit scale r i in
+      let d = digit scale (lookedAt (scale .modulus) kind (T .bound) k y) i in
+      cond (eqb kind 0)
       (cond (eqb part 0)
       (clearRunning y r i 0)
-      (sub (T .params .scale .modulus) (weigh (ruleOf (T .params .kind) i k) (limitOf (T .params .scale) i) (d + 1) j) (weigh (ruleOf (T .params .kind) i k) (limitOf (T .params .scale) i) d j)))
+      (sub (scale .modulus) (weigh (ruleOf kind i k) (limitOf scale i) (d + 1) j) (weigh (ruleOf kind i k) (limitOf scale i) d j)))
       (cond (eqb part 0)
       (bit (eqb j d))
       (clearRunning y r i k))
@@ -42,7 +49,7 @@ module _ (T : Terms) where
   -- the n of zero check g, from all the y and r
   unfoldable pub clearChecked : (ℕ → ℕ) → (ℕ → ℕ) → ℕ → ℕ
   clearChecked ys rs g =
-      cond (eqb (T .params .kind) 0) (missing (T .params .scale) (ys g) (rs g)) ((T .params .n) - sumTo (T .params .n) (λ (c : ℕ). insideResult (T .params .scale) (T .bound) (ys c) (rs c)))
+      cond (eqb kind 0) (missing scale (ys g) (rs g)) (T .params .n - sumTo (T .params .n) (λ (c : ℕ). insideResult scale (T .bound) (ys c) (rs c)))
 
 module _ (T : Terms) (width : ℕ) (draw secret : List ℕ) where
   -- r and y of coefficient c

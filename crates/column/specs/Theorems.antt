@@ -51,7 +51,7 @@ pub record T1Work : Type 0 where
       (openingOn (publicOf T (maskedIn plain)) round 1 (column plain 0) o)
   -- taking the same opened numbers keeps them joined
   pub taken : (T : Terms) (keys0 keys1 w₁ w₂ plain : List ℕ)
-      → 0 < T .params .scale .modulus → (T .params .n) ≤ 8 → 1 ≤ T .params .n → length keys0 ≡ length keys1
+      → 0 < T .params .scale .modulus → T .params .n ≤ 8 → 1 ≤ T .params .n → length keys0 ≡ length keys1
       → JoinedWork (T .params .scale .modulus) keys0 keys1 w₁ w₂ plain
       → (round : ℕ) (opened : ℕ → ℕ)
       → JoinedWork (T .params .scale .modulus) keys0 keys1
@@ -60,12 +60,12 @@ pub record T1Work : Type 0 where
       (takenWork T round opened (1 ∷ []) plain)
   -- and a side then holds its own numbers for the openings
   pub own : (T : Terms) (round : ℕ) (opened : ℕ → ℕ) (κs work : List ℕ)
-      → (T .params .n) ≤ 8 → 1 ≤ T .params .n → length work ≡ length κs * places
+      → T .params .n ≤ 8 → 1 ≤ T .params .n → length work ≡ length κs * places
       → (c o : ℕ) → c < length κs → o < openings (T .params) round
       → ownIn (takenWork T round opened κs work) c o ≡ openingOn (publicOf T (maskedIn work)) round (getD κs c 0) (column work c) o
   -- its numbers stay below the modulus, and its length stays
   pub bounded : (T : Terms) (round : ℕ) (opened : ℕ → ℕ) (κs work : List ℕ)
-      → 0 < T .params .scale .modulus → (T .params .n) ≤ 8 → 1 ≤ T .params .n → length work ≡ length κs * places
+      → 0 < T .params .scale .modulus → T .params .n ≤ 8 → 1 ≤ T .params .n → length work ≡ length κs * places
       → ((i : ℕ) → getD work i 0 < T .params .scale .modulus) → ((o : ℕ) → opened o < T .params .scale .modulus)
       → (length (takenWork T round opened κs work) ≡ length work)
       × ((i : ℕ) → getD (takenWork T round opened κs work) i 0 < T .params .scale .modulus)

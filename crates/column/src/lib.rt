@@ -5,21 +5,22 @@ ghost use lib.ListN.{length, getD};
 ghost use Rattle.lists.specs.Lists.{fill};
 ghost use Rattle.field.specs.Field.{q};
 ghost use Rattle.settings.specs.Settings.{paramsOf, termsOf};
+ghost use Rattle.settings.specs.Order.{rounds};
 ghost use Rattle.settings.specs.Sizes.{openings, mostOpenings, places};
 ghost use Rattle.slice.specs.Layout.{ownAt, runningAt, column, maskedIn};
 ghost use Rattle.steps.specs.Steps.{publicOf, running};
 ghost use Rattle.steps.specs.Work.{openingOn, runningOn, takenColumn, takenColumns, takenWork};
 ghost use Rattle.steps.specs.Calls.{publicIn, Held, HeldAll};
 ghost use Rattle.settings.specs.Questions.{Ready};
+use settings::PLACES;
+use settings::Settings;
 use settings::openings_in;
 use slice::FIRST;
 use slice::MASKED;
 use slice::OWN;
-use settings::PLACES;
 use slice::SECOND;
 use steps::Column;
 use steps::Known;
-use settings::Settings;
 use steps::opening_value;
 use steps::running_value;
 
@@ -38,7 +39,7 @@ fn openings_of(settings: Settings, round: u32) -> usize
 // This side's numbers in one column for the round's openings, in front of `out`. Crate side has asked.
 pub fn prepare(out: &mut [u32], work: &[u32], col: Column, known: Known)
     requires { ⌜ Ready (known .settings) ⌝ }
-    requires { ⌜ (1 ≤ known .round) × (known .round ≤ 7) × ((col .index + 1) * places ≤ length (now work)) × (openings (paramsOf (known .settings .shape)) (known .round) ≤ length (now out)) ⌝ }
+    requires { ⌜ (1 ≤ known .round) × (known .round ≤ rounds) × ((col .index + 1) * places ≤ length (now work)) × (openings (paramsOf (known .settings .shape)) (known .round) ≤ length (now out)) ⌝ }
     ensures { λ _. ⌜ now (out .exit) ≡ fill (now (out .entry)) 0 (openings (paramsOf (known .settings .shape)) (known .round)) (openingOn (publicIn known) (known .round) (col .weight) (column (now (work .entry)) (col .index))) ⌝ }
 {
     let count = openings_of(known.settings, known.round);
@@ -167,7 +168,7 @@ pub fn take_work(
     weights: &[u32],
 )
     requires { ⌜ Ready settings ⌝ }
-    requires { ⌜ (1 ≤ round) × (round ≤ 7) × (length (now work) ≡ length (now weights) * places) × (1 ≤ length (now weights)) × (32 * length (now weights) ≤ length (now own)) ⌝ }
+    requires { ⌜ (1 ≤ round) × (round ≤ rounds) × (length (now work) ≡ length (now weights) * places) × (1 ≤ length (now weights)) × (32 * length (now weights) ≤ length (now own)) ⌝ }
     requires { ⌜ (openings (paramsOf (settings .shape)) round ≤ length (now opened)) × ((o : ℕ) → getD (now opened) o 0 < q) ⌝ }
     requires { ⌜ HeldAll (publicOf (termsOf settings) (maskedIn (now work))) round (now weights) (now work) (now own) ⌝ }
     ensures { λ _. ⌜ now (work .exit) ≡ takenWork (termsOf settings) round (λ (o : ℕ). getD (now (opened .entry)) o 0) (now (weights .entry)) (now (work .entry)) ⌝ }

@@ -14,29 +14,29 @@ ghost use Rattle.rounding.specs.Digits.{splitOf};
 ghost use Rattle.book.specs.Book.{groupK, maskAt, vectorAt, tripleAt, groupAt, drawn};
 ghost use Rattle.book.specs.Deal.{dealNo, dealCall};
 ghost use Rattle.dealer.specs.Work.{Lent, Next, Draws, Vector, Wrote, paramsFor, cursorFor, sharedFor};
-use settings::draw_length;
 use book::group_at;
 use book::group_gap;
 use book::group_k;
 use book::mask_at;
-use settings::shared_of;
 use book::triple_at;
 use book::vector_at;
 use field::all_below_q;
 use field::mul_mod;
 use field::sub_mod;
+use rounding::Split;
+use rounding::split_number;
 use settings::KEY;
 use settings::KEYS;
 use settings::LENGTH;
 use settings::NOT_BELOW_Q;
 use settings::Shape;
-use settings::shape_no;
-use rounding::Split;
 use settings::WIDTH;
 use settings::base_of;
+use settings::draw_length;
 use settings::for_columns;
 use settings::keys_ok;
-use rounding::split_number;
+use settings::shape_no;
+use settings::shared_of;
 
 // What the working functions are told: the settings, and what each column's numbers add up to, as a factor.
 struct Order {

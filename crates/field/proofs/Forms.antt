@@ -8,9 +8,9 @@ use lib.Dec.{ltb}
 use Rattle.field.specs.Congruence.{_⊩_≈_}
 use Rattle.field.specs.Sums.{sumTo}
 use Rattle.field.specs.Forms.{Registers, Form, num, reg, sum, _⊞_, _⊟_, _⊠_, value, Adds, Join, put}
-use Rattle.field.proofs.Congruence.{≈-refl, ≈-eq, ≈-sym, ≈-trans, ≈-add, ≈-mul, ≈-mod, ≈-unmod, ≈-lt, ≈-mult, ≈-cancel, ≈-set}
-use Rattle.field.proofs.Solve.{E, at, _⊕_, _⊖_, _⊗_, red, neg, less, den, up, down, solve, solve-by}
-use Rattle.field.proofs.Sums.{sum-cong, sum-add, sum-scale}
+use Rattle.field.proofs.Congruence.{≈-refl, ≈-eq, ≈-sym, ≈-trans, ≈-add, ≈-mul, ≈-mod, ≈-unmod, ≈-set}
+use Rattle.field.proofs.Solve.{at, _⊕_, _⊖_, _⊗_, red, solve-by}
+use Rattle.field.proofs.Sums.{sum-cong}
 
 sum-join : (q m : ℕ) (r₁ r₂ v w : ℕ → ℕ) (n : ℕ) → ((j : ℕ) → Adds q m (r₁ j) (r₂ j) (v j)) → q ⊩ sumTo n (λ j. w j * r₁ j) + sumTo n (λ j. w j * r₂ j) ≈ m * sumTo n (λ j. w j * v j)
 unfolding sumTo

@@ -5,7 +5,7 @@ use Prim.Native.Nat.{ℕ, zero, suc, _+_, _*_, _-_, _%_, _≤_, _<_}
 use native.Mathlib.Nat.{mod-lt, mod-self}
 use native.Mathlib.Omega.{arith}
 use Rattle.field.specs.Congruence.{_⊩_≈_}
-use Rattle.field.proofs.Congruence.{≈-refl, ≈-eq, ≈-sym, ≈-trans, ≈-add, ≈-mul, ≈-mod, ≈-unmod, ≈-lt, ≈-mult, ≈-cancel, ≈-set}
+use Rattle.field.proofs.Congruence.{≈-refl, ≈-eq, ≈-sym, ≈-trans, ≈-add, ≈-mul, ≈-mod, ≈-unmod, ≈-mult, ≈-cancel, ≈-set}
 
 -- subtraction modulo q, before the last reduction
 abbrev pub minus : ℕ → ℕ → ℕ → ℕ

@@ -45,10 +45,10 @@ const BOOK_LENGTH: usize = 1320 * WIDTH;
 const DRAW_LENGTH: usize = BOOK_LENGTH + 144;
 
 // What it gives: the number of the first no, or 0; and how many numbers, and the numbers, with zeros behind.
-pub struct Outcome {
-    pub refused: u32,
-    pub length: usize,
-    pub numbers: [u32; 8],
+struct Outcome {
+    refused: u32,
+    length: usize,
+    numbers: [u32; 8],
 }
 
 // A side with the latest message that it sent.
@@ -296,14 +296,7 @@ fn deal_and_play(
     let count = order.count as usize;
     spread(inputs, &numbers[..count]);
     let shape = settings_of(order).shape;
-    deal(
-        shape,
-        [1; KEYS],
-        [1; KEYS],
-        draw,
-        server,
-        phone,
-    );
+    deal(shape, [1; KEYS], [1; KEYS], draw, server, phone);
     play_with(serial, order, inputs, zeros, server, phone)
 }
 
@@ -333,7 +326,7 @@ fn play(serial: u32, order: Order) -> Outcome
 }
 
 // What a line gives.
-pub fn play_order(serial: u32, order: Order) -> Outcome
+fn play_order(serial: u32, order: Order) -> Outcome
     ensures { λ r. ⌜ r ≡ outcomeOf serial order ⌝ }
 {
     let refused = order_no(serial, order);

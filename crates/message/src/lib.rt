@@ -9,8 +9,8 @@ ghost use Rattle.message.specs.Bits.{padding, numberOf};
 ghost use Rattle.message.specs.Message.{headerNumber, headerWith, messageOf, fieldIn, fieldsOk, askForm, formNo};
 ghost use Rattle.message.specs.Fields.{bitsAt, putBits, putFields, byteOf, HeaderFits};
 use field::Q;
-use settings::FIELDS;
 use settings::FIELD_BITS;
+use settings::FIELDS;
 use settings::HEADER;
 use settings::MESSAGE_LENGTH;
 use settings::NOT_DUE;
@@ -303,8 +303,5 @@ pub fn message_form(
     if serial < 1 {
         return NOT_DUE;
     }
-    form_no(
-        Header::new(1 - receiver, settings, round, serial),
-        message,
-    )
+    form_no(Header::new(1 - receiver, settings, round, serial), message)
 }

@@ -8,7 +8,7 @@ use lib.Dec.{ltb, eqb}
 use lib.IntN.{natAbs}
 use borrow.Author.Tests.{le-leb, lt-leb}
 use Rattle.lists.specs.Answers.{bit}
-use Rattle.lists.proofs.Indicators.{lt-one, lt-zero, Tri, tri-lt, tri-eq, tri-gt, tri-view, lt-same, bit-le}
+use Rattle.lists.proofs.Indicators.{lt-one, lt-zero, tri-lt, tri-eq, tri-gt, tri-view, lt-same, bit-le}
 use Rattle.field.specs.Field.{sub}
 use Rattle.field.proofs.Division.{Split, Mod, mod-same, mod-less, mod-view}
 use Rattle.field.proofs.Congruence.{≈-lt}

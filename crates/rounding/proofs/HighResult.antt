@@ -6,13 +6,13 @@ use native.Mathlib.Omega.{arith}
 use lib.Dec.{ltb, eqb}
 use borrow.Author.Tests.{lt-ltb, le-ltb, eq-eqb, ne-eqb}
 use Rattle.lists.specs.Answers.{bit}
-use Rattle.lists.proofs.Indicators.{Lt, lt-is, lt-no, lt-view, lt-one, lt-zero, Eq, eq-is, eq-lt, eq-gt, eq-view, eq-one, eq-zero, bit-le, Bit, off, on, bit-view}
+use Rattle.lists.proofs.Indicators.{lt-is, lt-no, lt-view, lt-one, lt-zero, eq-is, eq-lt, eq-gt, eq-view, eq-one, eq-zero, bit-le, off, on, bit-view}
 use Rattle.field.specs.Field.{sub}
 use Rattle.field.specs.Sums.{sumTo}
-use Rattle.field.proofs.Division.{Split, split, split-div, Mod, mod-same, mod-less, mod-view, unmask, mod-sub}
+use Rattle.field.proofs.Division.{Split, split, split-div, mod-same, mod-less, mod-view, unmask, mod-sub}
 use Rattle.settings.specs.Sets.{Scale}
 use Rattle.rounding.specs.Plain.{shifted, highOfShifted, highPart}
-use Rattle.rounding.specs.Rounds.{unit, zeroDigit, topSum, top, over, missing, gap, checkOpens, checkResult, wrapOf, highResult}
+use Rattle.rounding.specs.Rounds.{zeroDigit, topSum, top, over, missing, wrapOf, highResult}
 use Rattle.settings.specs.Theorems.{Lawful}
 use Rattle.rounding.proofs.Radix.{unit-alpha, top-is, Zeros, all-zero, some-not, zeros-view}
 use Rattle.rounding.proofs.ZeroCheck.{check-is}

@@ -7,11 +7,11 @@ use native.Mathlib.Omega.{arith}
 use lib.Arith.{mod-mul}
 use lib.Dec.{leb, eqb}
 use Rattle.lists.specs.Answers.{bit}
-use Rattle.lists.proofs.Indicators.{Le, le-is, le-no, le-view, Eq, eq-is, eq-lt, eq-gt, eq-view, bit-le}
+use Rattle.lists.proofs.Indicators.{le-is, le-no, le-view, Eq, eq-is, eq-lt, eq-gt, eq-view}
 use Rattle.field.specs.Congruence.{_⊩_≈_}
 use Rattle.field.specs.Sums.{sumTo}
-use Rattle.field.proofs.Division.{Split, split, split-div, split-mod}
-use Rattle.field.proofs.Congruence.{≈-refl, ≈-eq, ≈-trans, ≈-add, ≈-unmod}
+use Rattle.field.proofs.Division.{Split, split, split-div}
+use Rattle.field.proofs.Congruence.{≈-refl, ≈-add, ≈-unmod}
 use Rattle.settings.specs.Sets.{Scale, base}
 use Rattle.rounding.specs.Digits.{digitsOf, digit}
 use Rattle.rounding.specs.Rounds.{unit, carryInto, zeroDigit, topSum}

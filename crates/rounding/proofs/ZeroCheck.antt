@@ -6,8 +6,8 @@ use native.Mathlib.Nat.{mul-le-mul-left, mul-zero, add-zero, mod-eq-of-lt, lt-of
 use native.Mathlib.Omega.{arith}
 use lib.Dec.{eqb}
 use Rattle.lists.specs.Answers.{bit}
-use Rattle.lists.proofs.Indicators.{Eq, eq-is, eq-lt, eq-gt, eq-view, eq-one, eq-zero}
-use Rattle.field.proofs.Division.{Split, split, Mod, mod-same, mod-less, mod-view}
+use Rattle.lists.proofs.Indicators.{eq-is, eq-lt, eq-gt, eq-view, eq-one, eq-zero}
+use Rattle.field.proofs.Division.{split, mod-same, mod-less, mod-view}
 use Rattle.rounding.specs.Rounds.{gap, checkOpens, checkResult}
 
 module _ (m k : ℕ) (hm : 0 < m) (hr : m % (k + 1) ≤ gap m k) where

@@ -10,7 +10,7 @@ use Rattle.settings.specs.Sets.{Scale, base}
 use Rattle.settings.specs.Theorems.{Lawful}
 use Rattle.rounding.specs.Plain.{shifted, highPart, lowPart, decompose, inside}
 use Rattle.rounding.specs.Digits.{digit}
-use Rattle.rounding.specs.Rounds.{unit, carryInto, zeroDigit, topSum, gap, checkOpens, checkResult, highResult, threshold, belowUpTo, insideResult}
+use Rattle.rounding.specs.Rounds.{carryInto, zeroDigit, topSum, gap, checkOpens, checkResult, highResult, belowUpTo, insideResult}
 
 -- the remainder of a signed number by m
 abbrev pub residue : ℕ → ℤ → ℕ

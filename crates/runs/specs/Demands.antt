@@ -23,7 +23,7 @@ use Rattle.runs.specs.Records.Who.{mine, theirs}
 use Rattle.runs.specs.Records.Call.{begin, send, takeLatest, answer, count}
 use Rattle.runs.specs.Records.Event.{began, sent, took, answered, counted}
 
--- ---- What is fixed. k: keys a side, 1 in this request
+-- ---- What is fixed. k: keys a side
 
 -- "Whatever settings, serial, keys from 1 to q − 1 .. are fixed"
 pub record Fixed (k : ℕ) (s : Settings) (serial : ℕ) (keys0 keys1 : List ℕ) : Type 0 where

@@ -28,51 +28,57 @@ abbrev pub tripleOpening : ℕ → ℕ → ℕ → ℕ
 tripleOpening c t part = 4 * c + 2 * (t % 2) + part
 
 module _ (T : Terms) (width : ℕ) (x x′ : List ℕ) where
+  abbrev params : Params
+  params = T .params
+
+  abbrev modulus : ℕ
+  modulus = T .params .scale .modulus
+
   -- r of coefficient c moves by the change of the coefficient, which is that of round 1's opening
   abbrev pub movedMask : List ℕ → ℕ → Entry → ℕ
   movedMask draw k (mask c) =
-      add (T .params .scale .modulus) (drawn (T .params) width draw k) (sub (T .params .scale .modulus) (getD x′ c 0) (getD x c 0))
+      add modulus (drawn params width draw k) (sub modulus (getD x′ c 0) (getD x c 0))
   movedMask draw k (place c i j) = 0
-  movedMask draw k (left c t) = drawn (T .params) width draw k
-  movedMask draw k (right c t) = drawn (T .params) width draw k
+  movedMask draw k (left c t) = drawn params width draw k
+  movedMask draw k (right c t) = drawn params width draw k
   movedMask draw k (product c t) = 0
-  movedMask draw k (groupMask g) = drawn (T .params) width draw k
+  movedMask draw k (groupMask g) = drawn params width draw k
   movedMask draw k (groupPlace g j) = 0
 
   -- the draw with the masks r moved, all else as it was
   unfoldable pub masksMoved : List ℕ → List ℕ
   masksMoved draw =
-      drawFrom (T .params) width (λ (k : ℕ). movedMask draw k (entryOf (T .params) k)) (phoneNumber (T .params) width draw)
+      drawFrom params width (λ (k : ℕ). movedMask draw k (entryOf params k)) (phoneNumber params width draw)
 
   -- the change of an opened number, where only the masks r have moved
   abbrev pub change : List ℕ → List ℕ → ℕ → ℕ → ℕ
-  change draw half rounds o = sub (T .params .scale .modulus) (openedOf T width half x′ rounds o) (openedOf T width draw x rounds o)
+  change draw half rounds o = sub modulus (openedOf T width half x′ rounds o) (openedOf T width draw x rounds o)
 
   -- a and b move by the change of u − a and v − b; ρ by the change of ρ + g × n, the other way
   abbrev pub movedDrawn : List ℕ → List ℕ → ℕ → Entry → ℕ
-  movedDrawn draw half k (mask c) = drawn (T .params) width half k
+  movedDrawn draw half k (mask c) = drawn params width half k
   movedDrawn draw half k (place c i j) = 0
   movedDrawn draw half k (left c t) =
-      add (T .params .scale .modulus) (drawn (T .params) width draw k) (change draw half (1 + t / 2) (tripleOpening c t 0))
+      add modulus (drawn params width draw k) (change draw half (1 + t / 2) (tripleOpening c t 0))
   movedDrawn draw half k (right c t) =
-      add (T .params .scale .modulus) (drawn (T .params) width draw k) (change draw half (1 + t / 2) (tripleOpening c t 1))
+      add modulus (drawn params width draw k) (change draw half (1 + t / 2) (tripleOpening c t 1))
   movedDrawn draw half k (product c t) = 0
-  movedDrawn draw half k (groupMask g) = sub (T .params .scale .modulus) (drawn (T .params) width draw k) (change draw half 5 g)
+  movedDrawn draw half k (groupMask g) = sub modulus (drawn params width draw k) (change draw half 5 g)
   movedDrawn draw half k (groupPlace g j) = 0
 
   -- the draw with all drawn numbers moved, the phone's numbers as they were: the pairing for the phone's record
   unfoldable pub drawnMoved : List ℕ → List ℕ
   drawnMoved draw =
       let half = masksMoved draw in
-      drawFrom (T .params) width (λ (k : ℕ). movedDrawn draw half k (entryOf (T .params) k)) (phoneNumber (T .params) width draw)
+      drawFrom params width (λ (k : ℕ). movedDrawn draw half k (entryOf params k)) (phoneNumber params width draw)
 
   -- for the server's record the phone's numbers move by factor × the change of the value, so that the server's stay
   unfoldable pub phoneMoved : List ℕ → List ℕ → List ℕ
   phoneMoved factors draw =
       let all = drawnMoved draw in
-      drawFrom (T .params) width (drawn (T .params) width all) (λ (k c : ℕ).
-      add (T .params .scale .modulus) (phoneNumber (T .params) width draw k c)
-      (getD factors c 0 * sub (T .params .scale .modulus) (value (T .params) width all k) (value (T .params) width draw k)))
+      drawFrom params width (drawn params width all) (λ (k c : ℕ).
+      add modulus (phoneNumber params width draw k c)
+      (getD factors c 0 * sub modulus (value params width all k) (value params width draw k)))
 
   -- the pairing, for the record of side `number`
   unfoldable pub paired : ℕ → List ℕ → List ℕ → List ℕ

@@ -6,7 +6,7 @@ use native.Mathlib.Nat.{suc-add}
 use native.Mathlib.Omega.{arith}
 use lib.ListN.{length, getD, set, replicate, length-append, length-replicate, List·getD-append}
 use lib.Seq.{getD-append-add}
-use Rattle.lists.specs.Lists.{fill, listTo}
+use Rattle.lists.specs.Lists.{fill}
 use Rattle.lists.proofs.Fill.{whole-is}
 use Rattle.lists.proofs.Lists.{listTo-getD}
 

@@ -9,10 +9,9 @@ use lib.Dec.{eqb, leb}
 use borrow.Author.Tests.{eq-eqb, ne-eqb}
 use Rattle.field.specs.Sums.{sumTo}
 use Rattle.settings.specs.declared.Shape.{Shape}
-use Rattle.settings.specs.Sets.{Scale, scaleOf, base}
+use Rattle.settings.specs.Sets.{scaleOf, base}
 use Rattle.settings.specs.Settings.{Params, paramsOf}
-use Rattle.settings.specs.Questions.{ShapeReady}
-use Rattle.settings.specs.Sizes.{openings, openingsUpTo, stride, shared, groups, drawLength}
+use Rattle.settings.specs.Sizes.{openings, openingsUpTo, stride, shared, drawLength}
 use Rattle.settings.specs.Theorems.{SizeLaws}
 use Rattle.settings.proofs.Sets.{lawful}
 

@@ -72,8 +72,8 @@ pub const PLACES: usize = 1536;
 
 pub const WORK_LENGTH: usize = WIDTH * PLACES;
 
-// Bits of a message's header and of a field.
-pub const HEADER_BITS: usize = 64;
+// Bits of a message's header (as crate message lays it out) and of a field.
+const HEADER_BITS: usize = 64;
 
 pub const FIELD_BITS: usize = 23;
 

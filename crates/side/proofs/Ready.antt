@@ -42,4 +42,3 @@ begin-ready k s r inputs book work e =
       book-long = eqb-true _ _ (two .1);
       work-long = eqb-true _ _ (long .1);
     }
-

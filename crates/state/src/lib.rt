@@ -7,21 +7,21 @@ ghost use Rattle.settings.specs.Order.{rounds, steps};
 ghost use Rattle.settings.specs.Settings.{paramsOf};
 ghost use Rattle.settings.specs.Sizes.{openingsUpTo};
 ghost use Rattle.state.specs.State.{isSending, isTaking, isFinished, whole, sendDue, takeDue, underWay, finished, Whole, freshSide, moved, inPhase, stepOf, phaseAfter, atStep, placesOf, answerNo, answerCall, roundsTaken, countCall};
+use settings::KEYS;
+use settings::NO_ROOM;
+use settings::NOT_DUE;
 use settings::ROUNDS;
 use settings::STEPS;
-use settings::KEYS;
-use settings::NOT_DUE;
-use settings::NO_ROOM;
 use settings::Settings;
 use settings::Shape;
 use settings::answer_places;
+use settings::keys_ok;
 use settings::openings_in;
 use settings::round_after;
 use settings::sends_after;
+use settings::settings_no;
 use settings::steps_in;
 use settings::taken_by;
-use settings::keys_ok;
-use settings::settings_no;
 
 // Where a side stands in its round.
 pub enum Phase {
@@ -166,7 +166,7 @@ fn run_finished(side: Side) -> bool
 }
 
 // The side at another round, in another phase, with another answer.
-pub fn move_to(side: Side, round: u32, phase: Phase, answer: [u32; 8]) -> Side
+fn move_to(side: Side, round: u32, phase: Phase, answer: [u32; 8]) -> Side
     ensures { λ r. ⌜ r ≡ moved side round phase answer ⌝ }
 {
     let keys = side.keys;

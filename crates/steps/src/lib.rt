@@ -29,12 +29,12 @@ use field::add_mod;
 use field::mul_mod;
 use field::sub_mod;
 use rounding::Split;
+use rounding::split_number;
 use settings::Settings;
 use settings::Shape;
 use settings::alpha_of;
 use settings::base_of;
 use settings::parts_of;
-use rounding::split_number;
 use slice::FIRST;
 use slice::INPUT;
 use slice::Rule;
@@ -261,11 +261,7 @@ fn triple_of(settings: Settings, gate: Gate) -> usize
     ensures { λ r. ⌜ (r ≡ tripleOf (publicAt settings (gate .y)) (gate .c) (gate .i) (gate .k)) × (r ≤ 1320) ⌝ }
 {
     let shape = settings.shape;
-    triple_at(
-        shape,
-        gate.c,
-        2 * (gate.i - 1) + gate.k,
-    )
+    triple_at(shape, gate.c, 2 * (gate.i - 1) + gate.k)
 }
 
 // Rounds 2 to 5: u − a (part 0), v − b (part 1).

@@ -10,9 +10,9 @@ ghost use Rattle.stock.specs.Scan.{Least, LeastOf, serialAt};
 use settings::LENGTH;
 use settings::NO_BOOK;
 use settings::Shape;
+use settings::WIDTH;
 use settings::shape_no;
 use settings::shared_of;
-use settings::WIDTH;
 
 // A book's place in its stock, and its serial; serial 0 for none.
 struct Found {
@@ -140,21 +140,11 @@ pub fn choose_no(shape: Shape, first: &[u32], second: &[u32], last: u32) -> u32
 }
 
 // The book with the least serial above the last, from its serial on; under any no the empty part.
-pub fn choose<'a>(
-    shape: Shape,
-    first: &'a [u32],
-    second: &'a [u32],
-    last: u32,
-) -> &'a [u32]
+pub fn choose<'a>(shape: Shape, first: &'a [u32], second: &'a [u32], last: u32) -> &'a [u32]
     ensures { λ r. ⌜ now r ≡ chosen keyCount shape (now (first .entry)) (now (second .entry)) last ⌝ }
 {
     if stocks_no(shape, first, second) != 0 {
         return &second[..0];
     }
-    best_of(
-        first,
-        second,
-        stocked_size(shape),
-        last,
-    )
+    best_of(first, second, stocked_size(shape), last)
 }

@@ -2,7 +2,7 @@
 use native.Mathlib.Numerals.{add-one}
 use Rattle.column.proofs.Written.{held-kept}
 use Rattle.steps.specs.Calls.{publicIn}
-use Rattle.steps.specs.Work.{takenColumn, takenColumns}
+use Rattle.steps.specs.Work.{takenColumns}
 use Prim.Native.Nat.{ℕ, _≤_, _-_}
 use mathlib.Core.Path.{_≡_, refl}
 use native.Mathlib.Omega.{arith}

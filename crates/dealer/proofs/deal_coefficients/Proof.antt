@@ -1,7 +1,6 @@
 -- `dealer::deal_coefficients` meets its contract. Assumes nothing.
 use native.Mathlib.Nat.{zero-add}
 use Rattle.book.specs.Book.{maskAt}
-use Rattle.settings.specs.Sets.{scaleOf}
 use Rattle.dealer.proofs.Steps.{mask-none, mask-step}
 use Rattle.dealer.specs.Work.{paramsFor, Lent, Wrote}
 use Rattle.dealer.proofs.Work.{wrote-none, wrote-join, wrote-as, still-lent, cursor-as, first-cursor}

@@ -1,6 +1,5 @@
 -- `dealer::deal_triples` meets its contract. Assumes nothing.
 use Rattle.book.specs.Book.{tripleAt}
-use Rattle.settings.specs.Sets.{scaleOf}
 use Rattle.dealer.proofs.Steps.{triple-step}
 use Rattle.dealer.specs.Work.{paramsFor, Lent, Wrote}
 use Rattle.dealer.proofs.Work.{wrote-none, wrote-join, wrote-as, still-lent, cursor-as}

@@ -1,7 +1,7 @@
 -- `dealer::deal_vectors` meets its contract. Assumes nothing.
 use Rattle.field.specs.Sums.{sumTo}
 use Rattle.book.specs.Book.{vectorAt}
-use Rattle.settings.specs.Sets.{scaleOf, base}
+use Rattle.settings.specs.Sets.{base}
 use Rattle.dealer.proofs.Steps.{vector-step, sum-step, digit-vector}
 use Rattle.dealer.specs.Work.{paramsFor, Lent, Wrote}
 use Rattle.dealer.proofs.Work.{wrote-none, wrote-join, wrote-as, still-lent, cursor-as}

@@ -1,7 +1,7 @@
 -- `steps::checked_value` meets its contract.
 use native.Mathlib.Omega.{arith}
 use borrow.Author.Tests.{eq-eqb, ne-eqb}
-use Rattle.steps.specs.Steps.{insides, checked}
+use Rattle.steps.specs.Steps.{checked}
 use borrow.Author.Needs.{needs}
 use Rattle.steps.proofs.checked_value.Statement.{statement}
 use Rattle.steps.proofs.checked_value.Tie as tie

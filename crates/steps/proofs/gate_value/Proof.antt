@@ -1,5 +1,5 @@
 -- `steps::gate_value` meets its contract.
-use Rattle.steps.specs.Steps.{addend, gateResult}
+use Rattle.steps.specs.Steps.{gateResult}
 use borrow.Author.Needs.{needs}
 use Rattle.steps.proofs.gate_value.Statement.{statement}
 use Rattle.steps.proofs.gate_value.Tie as tie

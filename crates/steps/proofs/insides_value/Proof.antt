@@ -2,7 +2,7 @@
 use native.Mathlib.Numerals.{add-one}
 use Rattle.steps.specs.Calls.{publicIn}
 use Rattle.slice.specs.Layout.{column}
-use Rattle.field.specs.Field.{q, add, mul}
+use Rattle.field.specs.Field.{q}
 use Rattle.field.specs.Forms.{value}
 use Rattle.steps.specs.Steps.{insides}
 use Prim.Native.Nat.{_≤_, _-_}

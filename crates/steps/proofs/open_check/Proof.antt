@@ -1,6 +1,6 @@
 -- `steps::open_check` meets its contract.
 use mathlib.Core.Path.{ap}
-use Rattle.steps.specs.Steps.{checked, openCheck}
+use Rattle.steps.specs.Steps.{openCheck}
 use borrow.Author.Needs.{needs}
 use Rattle.steps.proofs.open_check.Statement.{statement}
 use Rattle.steps.proofs.open_check.Tie as tie
