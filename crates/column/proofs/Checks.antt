@@ -14,7 +14,7 @@ use Rattle.field.specs.Field.{sub}
 use Rattle.field.specs.Sums.{sumTo}
 use Rattle.field.specs.Forms.{Registers, value}
 use Rattle.field.proofs.Division.{mod-sub}
-use Rattle.settings.specs.Settings.{Params, paramsWith, termsWith, termsFor}
+use Rattle.settings.specs.Settings.{Params, paramsWith}
 use Rattle.settings.specs.Sets.{Scale}
 use Rattle.rounding.specs.Rounds.{missing, gap, checkOpens, checkResult, insideResult}
 use Rattle.settings.specs.Theorems.{Lawful}
@@ -24,7 +24,7 @@ use Rattle.settings.specs.Sizes.{groups}
 use Rattle.slice.specs.Layout.{runningAt}
 use Rattle.steps.specs.Steps.{Public, publicOf, insideForm, insides, checked, openCheck, checkEntry}
 use Rattle.column.specs.Clear.{clearRunning, clearChecked}
-use Rattle.column.proofs.Clear.{five-below, high-second}
+use Rattle.column.proofs.Clear.{termsWith, termsFor, five-below, high-second}
 use Rattle.column.proofs.Gates.{Held}
 
 -- ---- a zero check of any group

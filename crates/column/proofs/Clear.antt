@@ -12,7 +12,7 @@ use Rattle.lists.proofs.Indicators.{bit-le, lt-zero, off, on, bit-view}
 use Rattle.field.specs.Field.{sub}
 use Rattle.field.specs.Sums.{sumTo}
 use Rattle.field.proofs.Solve.{at, _⊕_, _⊖_, _⊗_, red, solve}
-use Rattle.settings.specs.Settings.{termsWith}
+use Rattle.settings.specs.Settings.{Params, Terms, paramsWith}
 use Rattle.settings.specs.Sets.{Scale, base}
 use Rattle.rounding.specs.Digits.{digit}
 use Rattle.rounding.specs.Rounds.{top, over, unit, carryInto, zeroDigit, topSum, threshold}
@@ -23,6 +23,13 @@ use Rattle.slice.specs.Weights.{weigh, ruleOf}
 use Rattle.slice.specs.declared.Rule.the-variants.{Carry, Zero, Top, Over, Below}
 use Rattle.steps.specs.Steps.{lookedAt, limitOf}
 use Rattle.column.specs.Clear.{clearRunning, clearFactor}
+
+-- terms by their parts
+abbrev pub termsWith : Scale → ℕ → ℕ → ℕ → Terms
+termsWith scale kind n bound = record { params = paramsWith scale kind n; bound = bound }
+
+abbrev pub termsFor : Params → ℕ → Terms
+termsFor p bound = record { params = p; bound = bound }
 
 -- ---- sizes
 

@@ -13,7 +13,7 @@ use Rattle.field.specs.Forms.{Registers, reg, sum, _⊞_, _⊟_, value}
 use Rattle.field.proofs.Congruence.{≈-eq, ≈-trans, ≈-mod}
 use Rattle.field.proofs.Solve.{at, _⊕_, _⊖_, _⊗_, red, solve-by}
 use Rattle.field.proofs.Sums.{select}
-use Rattle.settings.specs.Settings.{Params, termsFor}
+use Rattle.settings.specs.Settings.{Params}
 use Rattle.settings.specs.Sets.{base}
 use Rattle.rounding.specs.Digits.{digit}
 use Rattle.settings.specs.Theorems.{Lawful}
@@ -27,7 +27,7 @@ use Rattle.slice.specs.Layout.{inputAt, runningAt}
 use Rattle.slice.specs.Weights.{weigh, ruleOf}
 use Rattle.steps.specs.Steps.{Public, publicOf, lookedAt, limitOf, vectorSum, addend, factorU, factorV, shiftOf, openInput, openFactor, gateResult}
 use Rattle.column.specs.Clear.{clearRunning, clearFactor}
-use Rattle.column.proofs.Clear.{looked-below, weight-below, plainWeight, clearAddend, gate-clear}
+use Rattle.column.proofs.Clear.{termsFor, looked-below, weight-below, plainWeight, clearAddend, gate-clear}
 
 -- ---- what a plain column holds of the book; d k is the number drawn for place k
 

@@ -19,6 +19,9 @@ pub record Terms : Type 0 where
 abbrev pub paramsOf : Shape → Params
 paramsOf a = record { scale = scaleOf (a .set); kind = a .kind; n = a .n }
 
+abbrev pub paramsIn : Settings → Params
+paramsIn s = paramsOf (s .shape)
+
 -- "Settings are set, kind, N and B"
 abbrev pub termsOf : Settings → Terms
 termsOf s = record { params = paramsOf (s .shape); bound = s .bound }
@@ -27,15 +30,6 @@ termsOf s = record { params = paramsOf (s .shape); bound = s .bound }
 abbrev pub settingsWith : ℕ → ℕ → ℕ → ℕ → Settings
 settingsWith set kind n bound = record { shape = record { set = set; kind = kind; n = n }; bound = bound }
 
--- the same by their parts
+-- what places and steps depend on, by its parts
 abbrev pub paramsWith : Scale → ℕ → ℕ → Params
 paramsWith scale kind n = record { scale = scale; kind = kind; n = n }
-
-abbrev pub termsWith : Scale → ℕ → ℕ → ℕ → Terms
-termsWith scale kind n bound = record { params = paramsWith scale kind n; bound = bound }
-
-abbrev pub termsFor : Params → ℕ → Terms
-termsFor p bound = record { params = p; bound = bound }
-
-abbrev pub paramsIn : Settings → Params
-paramsIn s = paramsOf (s .shape)

@@ -20,23 +20,24 @@ pub record Lawful (p : Scale) : Type 0 where
   -- the zero check with K = 5
   pub checks : p .modulus % 6 ≤ p .modulus / 6
 
-abbrev shapeOf : ℕ → ℕ → ℕ → Params
-shapeOf set kind n = paramsWith (scaleOf set) kind n
+-- a set by its number
+abbrev ofSet : ℕ → ℕ → ℕ → Params
+ofSet set kind n = paramsWith (scaleOf set) kind n
 
 pub record SizeLaws : Type 0 where
   -- one argument serves both sets
   pub sets : (set : ℕ) → set < 2 → Lawful (scaleOf set)
   -- "HIGH holds 165N shared numbers in set 0, 162N in set 1; BOUND holds 158N + 3 or 155N + 3"
-  pub high-0 : (n : ℕ) → shared (shapeOf 0 0 n) ≡ 165 * n
-  pub high-1 : (n : ℕ) → shared (shapeOf 1 0 n) ≡ 162 * n
-  pub bound-0 : (n : ℕ) → shared (shapeOf 0 1 n) ≡ 158 * n + 3
-  pub bound-1 : (n : ℕ) → shared (shapeOf 1 1 n) ≡ 155 * n + 3
+  pub high-0 : (n : ℕ) → shared (ofSet 0 0 n) ≡ 165 * n
+  pub high-1 : (n : ℕ) → shared (ofSet 1 0 n) ≡ 162 * n
+  pub bound-0 : (n : ℕ) → shared (ofSet 0 1 n) ≡ 158 * n + 3
+  pub bound-1 : (n : ℕ) → shared (ofSet 1 1 n) ≡ 155 * n + 3
   -- "every r, a, b, ρ and the phone's three numbers"
-  pub high-draw : (set n : ℕ) → drawLength (shapeOf set 0 n) (widthOf 1) ≡ 3 * shared (shapeOf set 0 n) + 18 * n
-  pub bound-draw : (set n : ℕ) → drawLength (shapeOf set 1 n) (widthOf 1) ≡ 3 * shared (shapeOf set 1 n) + (17 * n + 1)
+  pub high-draw : (set n : ℕ) → drawLength (ofSet set 0 n) (widthOf 1) ≡ 3 * shared (ofSet set 0 n) + 18 * n
+  pub bound-draw : (set n : ℕ) → drawLength (ofSet set 1 n) (widthOf 1) ≡ 3 * shared (ofSet set 1 n) + (17 * n + 1)
   -- "Openings in all: 19N or 17N + 2"
-  pub high-openings : (set n : ℕ) → openingsUpTo (shapeOf set 0 n) rounds ≡ 19 * n
-  pub bound-openings : (set n : ℕ) → openingsUpTo (shapeOf set 1 n) rounds ≡ 17 * n + 2
+  pub high-openings : (set n : ℕ) → openingsUpTo (ofSet set 0 n) rounds ≡ 19 * n
+  pub bound-openings : (set n : ℕ) → openingsUpTo (ofSet set 1 n) rounds ≡ 17 * n + 2
   -- "working slice 4,608 numbers"
   pub work : workLength 1 ≡ 4608
   -- a book fits a column

@@ -290,7 +290,7 @@ pub fn field_count(shape: Shape, round: u32) -> usize
     FIELDS_PER_OPENING * openings_in(shape, round) as usize
 }
 
-// The length in bytes of a message with so many fields.
+// The length in bytes of a message with so many fields; crate message has them counted by `field_count`.
 pub fn length_of(fields: usize) -> usize
     requires { ⌜ fields ≤ mostFields keyCount ⌝ }
     ensures { λ r. ⌜ r ≡ bytesFor (messageBits fields) ⌝ }
