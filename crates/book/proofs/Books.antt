@@ -18,7 +18,7 @@ use Rattle.field.proofs.Solve.{at, _⊕_, _⊖_, _⊗_, red, solve}
 use Rattle.settings.specs.Settings.{Params}
 use Rattle.settings.specs.Sizes.{shared}
 use Rattle.rounding.specs.Digits.{digit}
-use Rattle.book.specs.Book.{Entry, groupGap, entryOf, maskAt, groupAt, isDrawn, drawn, phoneNumber, value, valueOf}
+use Rattle.book.specs.Book.{Entry, groupGap, entryOf, maskAt, groupAt, isDrawn, drawn, phoneNumber, bookValue, entryValue}
 use Rattle.book.specs.Book.Entry.{mask, place, left, right, product, groupMask, groupPlace}
 use Rattle.book.specs.Deal.{inOrder, serverNumber, phoneBook, serverBook}
 use Rattle.book.specs.Theorems.{Holds, Books, Values}
@@ -51,11 +51,11 @@ module _ (p : Params) (width : ℕ) (factors draw : List ℕ) where
   unfolding phoneNumber
   phone-lt pos h k c = below-at (p .scale .modulus) draw _ pos h
 
-  adds : 0 < p .scale .modulus → (k c : ℕ) → Adds (p .scale .modulus) (getD factors c 0) (serverNumber p width factors draw k c) (phoneNumber p width draw k c) (value p width draw k)
+  adds : 0 < p .scale .modulus → (k c : ℕ) → Adds (p .scale .modulus) (getD factors c 0) (serverNumber p width factors draw k c) (phoneNumber p width draw k c) (bookValue p width draw k)
   unfolding serverNumber
   adds pos k c =
       let f = getD factors c 0 in
-      let v = value p width draw k in
+      let v = bookValue p width draw k in
       let h = phoneNumber p width draw k c in
       record { total = solve (p .scale .modulus) pos (red (at f ⊗ at v ⊖ at h) ⊕ at h) (at f ⊗ at v) (omega arith) }
 
@@ -76,15 +76,15 @@ module _ (p : Params) (width : ℕ) (factors draw : List ℕ) where
 
 module _ (p : Params) (width : ℕ) (draw : List ℕ) where
   -- what stands at a place decides the value there
-  pub value-holds : (k : ℕ) (e : Entry) → Holds p k e → value p width draw k ≡ valueOf p width draw k e
-  unfolding value
-  value-holds k e h = ap (λ (e : Entry). valueOf p width draw k e) (h .1)
+  pub value-holds : (k : ℕ) (e : Entry) → Holds p k e → bookValue p width draw k ≡ entryValue p width draw k e
+  unfolding bookValue
+  value-holds k e h = ap (λ (e : Entry). entryValue p width draw k e) (h .1)
 
-  pub value-drawn : (k : ℕ) → isDrawn (entryOf p k) ≡ true → value p width draw k ≡ drawn p width draw k
-  unfolding value
+  pub value-drawn : (k : ℕ) → isDrawn (entryOf p k) ≡ true → bookValue p width draw k ≡ drawn p width draw k
+  unfolding bookValue
   value-drawn k h = by (entryOf p k) h
     where
-      by : (e : Entry) → isDrawn e ≡ true → valueOf p width draw k e ≡ drawn p width draw k
+      by : (e : Entry) → isDrawn e ≡ true → entryValue p width draw k e ≡ drawn p width draw k
       by (mask c) h = refl
       by (left c t) h = refl
       by (right c t) h = refl
@@ -94,14 +94,14 @@ module _ (p : Params) (width : ℕ) (draw : List ℕ) where
       by (groupPlace g j) h = absurd (true≢false (sym h))
 
   -- a place that holds a drawn entry
-  pub drawn-holds : (k : ℕ) (e : Entry) → Holds p k e → isDrawn e ≡ true → value p width draw k ≡ drawn p width draw k
+  pub drawn-holds : (k : ℕ) (e : Entry) → Holds p k e → isDrawn e ≡ true → bookValue p width draw k ≡ drawn p width draw k
   drawn-holds k e h i = value-drawn k (ap isDrawn (h .1) ∙ i)
 
-  value-below : 1 < p .scale .modulus → allBelow (p .scale .modulus) draw ≡ true → (k : ℕ) → value p width draw k < p .scale .modulus
-  unfolding value drawn
+  value-below : 1 < p .scale .modulus → allBelow (p .scale .modulus) draw ≡ true → (k : ℕ) → bookValue p width draw k < p .scale .modulus
+  unfolding bookValue drawn
   value-below pos h k = by (entryOf p k)
     where
-      by : (e : Entry) → valueOf p width draw k e < p .scale .modulus
+      by : (e : Entry) → entryValue p width draw k e < p .scale .modulus
       by (mask c) = below-at (p .scale .modulus) draw _ (omega arith) h
       by (left c t) = below-at (p .scale .modulus) draw _ (omega arith) h
       by (right c t) = below-at (p .scale .modulus) draw _ (omega arith) h

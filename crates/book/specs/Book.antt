@@ -105,14 +105,14 @@ module _ (p : Params) (width : ℕ) (draw : List ℕ) where
 
   -- the joined value of place k, where e stands: drawn, or worked out
   -- "The vector of a number d is all 0 but a 1 at position d"; "c = a × b"; "ρ divided by g rounded down"
-  abbrev pub valueOf : ℕ → Entry → ℕ
-  valueOf k (mask c) = drawn k
-  valueOf k (place c i j) = bit (eqb j (digit (p .scale) (drawn (maskAt p c)) i))
-  valueOf k (left c t) = drawn k
-  valueOf k (right c t) = drawn k
-  valueOf k (product c t) = drawn (tripleAt p c t) * drawn (tripleAt p c t + 1) % p .scale .modulus
-  valueOf k (groupMask g) = drawn k
-  valueOf k (groupPlace g j) = bit (eqb j (drawn (groupAt p g) / groupGap p))
+  abbrev pub entryValue : ℕ → Entry → ℕ
+  entryValue k (mask c) = drawn k
+  entryValue k (place c i j) = bit (eqb j (digit (p .scale) (drawn (maskAt p c)) i))
+  entryValue k (left c t) = drawn k
+  entryValue k (right c t) = drawn k
+  entryValue k (product c t) = drawn (tripleAt p c t) * drawn (tripleAt p c t + 1) % p .scale .modulus
+  entryValue k (groupMask g) = drawn k
+  entryValue k (groupPlace g j) = bit (eqb j (drawn (groupAt p g) / groupGap p))
 
-  unfoldable pub value : ℕ → ℕ
-  value k = valueOf k (entryOf p k)
+  unfoldable pub bookValue : ℕ → ℕ
+  bookValue k = entryValue k (entryOf p k)

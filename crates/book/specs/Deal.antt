@@ -11,7 +11,7 @@ use Rattle.settings.specs.declared.Shape.{Shape}
 use Rattle.settings.specs.Settings.{Params, paramsOf}
 use Rattle.settings.specs.Questions.{keysOk, askShape}
 use Rattle.settings.specs.Sizes.{widthOf, shared, drawLength}
-use Rattle.book.specs.Book.{phoneNumber, value}
+use Rattle.book.specs.Book.{phoneNumber, bookValue}
 
 -- "share, share of key0 × number, share of key1 × number": what each column of a shared number adds up to, as a factor
 abbrev pub multipliers : List ℕ → List ℕ → List ℕ
@@ -26,7 +26,7 @@ phoneBook p width draw = inOrder (shared p) width (phoneNumber p width draw)
 
 -- "the server's are the difference": in column c of place k
 unfoldable pub serverNumber : Params → ℕ → List ℕ → List ℕ → ℕ → ℕ → ℕ
-serverNumber p width factors draw k c = sub (p .scale .modulus) (getD factors c 0 * value p width draw k) (phoneNumber p width draw k c)
+serverNumber p width factors draw k c = sub (p .scale .modulus) (getD factors c 0 * bookValue p width draw k) (phoneNumber p width draw k c)
 
 unfoldable pub serverBook : Params → ℕ → List ℕ → List ℕ → List ℕ
 serverBook p width factors draw = inOrder (shared p) width (serverNumber p width factors draw)

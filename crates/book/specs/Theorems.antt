@@ -15,7 +15,7 @@ use Rattle.settings.specs.Settings.{Params, paramsOf}
 use Rattle.settings.specs.Questions.{keysOk, ShapeReady}
 use Rattle.settings.specs.Sizes.{widthOf, shared, groups, drawnNumbers, drawLength}
 use Rattle.rounding.specs.Digits.{digit}
-use Rattle.book.specs.Book.{Entry, groupK, groupGap, plan, entryOf, maskAt, vectorAt, tripleAt, groupAt, isDrawn, drawnIn, drawAt, drawn, phoneNumber, value}
+use Rattle.book.specs.Book.{Entry, groupK, groupGap, plan, entryOf, maskAt, vectorAt, tripleAt, groupAt, isDrawn, drawnIn, drawAt, drawn, phoneNumber, bookValue}
 use Rattle.book.specs.Book.Entry.{mask, place, left, right, product, groupMask, groupPlace}
 use Rattle.book.specs.Deal.{serverNumber, phoneBook, serverBook, dealNo}
 
@@ -75,11 +75,11 @@ module _ (p : Params) (width : ℕ) (factors draw : List ℕ) where
     pub server-below : 0 < p .scale .modulus → allBelow (p .scale .modulus) (serverBook p width factors draw) ≡ true
     pub phone-below : 0 < p .scale .modulus → allBelow (p .scale .modulus) draw ≡ true → allBelow (p .scale .modulus) (phoneBook p width draw) ≡ true
     -- "the two sides' numbers add up"
-    pub adds : 0 < p .scale .modulus → (k c : ℕ) → Adds (p .scale .modulus) (getD factors c 0) (serverNumber p width factors draw k c) (phoneNumber p width draw k c) (value p width draw k)
+    pub adds : 0 < p .scale .modulus → (k c : ℕ) → Adds (p .scale .modulus) (getD factors c 0) (serverNumber p width factors draw k c) (phoneNumber p width draw k c) (bookValue p width draw k)
 
 module _ (p : Params) (width : ℕ) (draw : List ℕ) where
   abbrev v : ℕ → ℕ
-  v k = value p width draw k
+  v k = bookValue p width draw k
 
   -- the joined values: r, the vectors of its digits, the triples, ρ and the vector of ρ / g
   pub record Values : Type 0 where

@@ -16,7 +16,7 @@ use Rattle.field.specs.Forms.{Registers, value}
 use Rattle.field.proofs.Division.{mod-sub}
 use Rattle.settings.specs.Settings.{Params, paramsWith}
 use Rattle.settings.specs.Sets.{Scale}
-use Rattle.rounding.specs.Rounds.{missing, gap, checkOpens, checkResult, insideResult}
+use Rattle.rounding.specs.Rounds.{nonzeroCount, gap, checkOpens, checkResult, insideResult}
 use Rattle.settings.specs.Theorems.{Lawful}
 use Rattle.rounding.proofs.ZeroCheck.{index-below}
 use Rattle.book.specs.Book.{groupK, groupGap, groupAt}
@@ -68,7 +68,7 @@ module _ (p : Scale) (ok : Lawful p) (n bound : ℕ) (masked ys rs : ℕ → ℕ
   -- HIGH: five less the zeros and G
   checked-high : (c : ℕ) → ys c < p .modulus → rs c < p .modulus → v (runningAt 1 c) ≡ clearRunning (termsWith p 0 n bound) (ys c) (rs c) 5 1
       → value (p .modulus) 1 v (checked (publicOf (termsWith p 0 n bound) masked) c) ≡ clearChecked (termsWith p 0 n bound) ys rs c
-  unfolding checked clearChecked missing
+  unfolding checked clearChecked nonzeroCount
   checked-high c hy hr e =
       ap (sub (p .modulus) (1 * 5 % p .modulus)) e
       ∙ less-is (p .modulus) 5 (clearRunning (termsWith p 0 n bound) (ys c) (rs c) 5 1) (five-below p ok) (high-second p ok n bound (ys c) (rs c) hy hr 5)

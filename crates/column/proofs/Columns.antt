@@ -10,7 +10,7 @@ use borrow.Author.Tests.{lt-ltb, le-ltb}
 use lib.ListN.{length, getD}
 use Rattle.lists.specs.Lists.{fill}
 use Rattle.lists.proofs.Fill.{fill-at, fill-before, fill-behind, length-fill}
-use Rattle.field.specs.Forms.{Registers, put}
+use Rattle.field.specs.Forms.{Registers, updated}
 use Rattle.settings.specs.Settings.{Terms}
 use Rattle.settings.specs.Sizes.{openings, places}
 use Rattle.settings.proofs.Sizes.{openings-most}
@@ -21,7 +21,7 @@ use Rattle.steps.specs.Work.{openingOn, runningOn, takenColumn}
 -- what a round makes of a column's registers
 abbrev pub stepped : Public → ℕ → (ℕ → ℕ) → ℕ → Registers → Registers
 stepped w round opened κ r =
-    put (put r (runningAt 0 0) (w .params .n) (runningOn w round opened κ r 0)) (runningAt 1 0) (w .params .n) (runningOn w round opened κ r 1)
+    updated (updated r (runningAt 0 0) (w .params .n) (runningOn w round opened κ r 0)) (runningAt 1 0) (w .params .n) (runningOn w round opened κ r 1)
 
 -- what both sides know while they take a round, from the masked numbers that the slice holds
 abbrev pub taking : Terms → ℕ → (ℕ → ℕ) → (ℕ → ℕ) → Public
@@ -35,7 +35,7 @@ maskedAfter n round opened masked c = cond (eqb round 1) (cond (ltb c n) (opened
 
 -- in the registers of the same column
 pub column-fill : (s : List ℕ) (c a n : ℕ) (f : ℕ → ℕ) → c * places + a + n ≤ length s → a + n ≤ ownAt 0 → (i : ℕ)
-    → column (fill s (c * places + a) n f) c i ≡ put (column s c) a n f i
+    → column (fill s (c * places + a) n f) c i ≡ updated (column s c) a n f i
 unfolding column
 column-fill s c a n f r l i = go (decLt i a) (decLt i (a + n))
   where
@@ -108,7 +108,7 @@ module _ (w : Public) (round : ℕ) (opened : ℕ → ℕ) (most : w .params .n 
       let e : column t c ≡ column s c = fun-ext (column-same t s c (λ k l. fill-before s (c * places + 1344) count own (c * places + k) (omega arith))) in
       column-fill u c 1336 (w .params .n) second (omega arith) (omega arith) i
       ∙ ap (λ (x : ℕ). cond (ltb i 1336) x (cond (ltb i (1336 + w .params .n)) (second (i - 1336)) x))
-      (column-fill t c 1328 (w .params .n) first (omega arith) (omega arith) i ∙ ap (λ (r : Registers). put r 1328 (w .params .n) first i) e)
+      (column-fill t c 1328 (w .params .n) first (omega arith) (omega arith) i ∙ ap (λ (r : Registers). updated r 1328 (w .params .n) first i) e)
 
   -- and its openings
   pub own-taken : c * places + places ≤ length s → (o : ℕ) → o < count → ownIn taken c o ≡ own o

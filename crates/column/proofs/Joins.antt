@@ -1,4 +1,4 @@
--- T1: joined columns stay joined, through every opening and every round; in one column, and in whole working slices.
+-- ColumnsJoin: joined columns stay joined, through every opening and every round; in one column, and in whole working slices.
 use mathlib.Core.Path.{_≡_, refl, sym, fun-ext, _∙_}
 use mathlib.Core.Bool.{Bool, true, false, cond}
 use mathlib.Core.List.{List, [], _∷_, _++_}
@@ -17,11 +17,11 @@ use Rattle.book.specs.Deal.{multipliers}
 use Rattle.slice.specs.Layout.{column, maskedIn, weights}
 use Rattle.steps.specs.Steps.{Public, publicOf, opening, running}
 use Rattle.steps.specs.Work.{openingOn, takenColumn, takenColumns, takenWork}
-use Rattle.column.specs.Theorems.{T1, JoinedWork, T1Work}
+use Rattle.column.specs.Theorems.{ColumnsJoin, JoinedWork, SlicesJoin}
 use Rattle.column.proofs.Columns.{stepped, taking, maskedAfter}
 use Rattle.column.proofs.Slices.{length-work, column-work, own-work, masked-work}
 
-pub column-joins : T1
+pub column-joins : ColumnsJoin
 column-joins =
     record {
       opening = λ w pos j round o. join-value pos j (opening w round o);
@@ -171,7 +171,7 @@ work-below T round opened κs s pos h k = go _ (eqb round 1) (columns-below (tak
     go t true l = fill-below t 1376 (T .params .n) opened (T .params .scale .modulus) l k
     go t false l = l
 
-pub work-joins : T1Work
+pub work-joins : SlicesJoin
 work-joins =
     record {
       opening = opening-joins;

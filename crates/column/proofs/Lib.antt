@@ -1,4 +1,4 @@
--- Laws of the rounds: the code's writes, the slice at the start, joined columns (T1), the plain run (T2).
+-- Laws of the rounds: the code's writes, the slice at the start, joined columns (ColumnsJoin), the plain run (PlainRun).
 pub mod Written
 pub mod Begun
 pub mod Columns

@@ -1,4 +1,4 @@
--- T2: the opened numbers of every round of the plain run, and the answer.
+-- PlainRun: the opened numbers of every round of the plain run, and the answer.
 use mathlib.Core.Path.{_≡_, refl, sym, ap, ap₂, _∙_}
 use mathlib.Core.Bool.{Bool, true, false, cond}
 use mathlib.Core.List.{List, [], _∷_, map}
@@ -30,7 +30,7 @@ use Rattle.slice.specs.Layout.{runningAt}
 use Rattle.steps.specs.Steps.{Public, publicOf, shiftOf, opening, checked, openCheck, checkEntry, groupOf, afterCheck, running}
 use Rattle.column.specs.Run.{openedFrom, plainOpened}
 use Rattle.column.specs.Clear.{clearRunning, clearChecked, clearOpened, maskOf}
-use Rattle.column.specs.Theorems.{Sound, T2}
+use Rattle.column.specs.Theorems.{Sound, PlainRun}
 use Rattle.column.proofs.Checks.{check-opens, check-entry, checked-is, every-is}
 use Rattle.column.proofs.Start.{some, opens-is, step-running}
 use Rattle.column.proofs.Rounds as Run
@@ -146,7 +146,7 @@ module _ {T : Terms} {k : ℕ} {draw secret : List ℕ} (s : Sound T k draw secr
       ∙ ap (λ (z : ℕ). bit (eqb ((T .params .n) - z) 0)) (sum-cong (T .params .n) _ (λ (c : ℕ). bit (inside (T .params .scale .modulus) (T .bound) (getD secret c 0))) (λ c h. inside-plain e c))
       ∙ (rw l at (every-is (inside (T .params .scale .modulus) (T .bound)) secret))
 
-  -- ---- T2
+  -- ---- PlainRun
 
   -- opening o of round t + 1
   abbrev run-opens : ℕ → ℕ → ℕ
@@ -197,7 +197,7 @@ module _ {T : Terms} {k : ℕ} {draw secret : List ℕ} (s : Sound T k draw secr
           listTo-cong (T .params .n) _ (λ (c : ℕ). highPart (T .params .scale) (getD secret c 0)) (λ c h. high-settled e c h) ∙ (rw l at (map-is (highPart (T .params .scale)) secret))
       go false e = unfold listFrom in ap (λ (x : ℕ). x ∷ []) (bound-settled e)
 
-pub plain-run : T2
+pub plain-run : PlainRun
 plain-run =
     record {
       running = λ T k draw secret s. running-clear s;

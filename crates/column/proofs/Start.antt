@@ -8,7 +8,7 @@ use lib.Dec.{leb}
 use lib.ListN.{length, getD}
 use Rattle.lists.proofs.Questions.{both-yes}
 use Rattle.lists.proofs.Lists.{getD-listTo}
-use Rattle.field.specs.Forms.{Registers, put}
+use Rattle.field.specs.Forms.{Registers, updated}
 use Rattle.settings.specs.Settings.{Params, Terms}
 use Rattle.settings.specs.Sizes.{openings, shared, widthOf, places}
 use Rattle.book.specs.Book.{drawn}
@@ -24,11 +24,11 @@ use Rattle.column.proofs.Slices.{length-work, column-work, masked-work}
 use Rattle.column.proofs.Gates.{Held, held}
 
 -- registers outside a run stay
-put-before : (r : Registers) (a n : ℕ) (f : ℕ → ℕ) (i : ℕ) → i < a → put r a n f i ≡ r i
-put-before r a n f i h = rw (lt-ltb i a h)
+updated-before : (r : Registers) (a n : ℕ) (f : ℕ → ℕ) (i : ℕ) → i < a → updated r a n f i ≡ r i
+updated-before r a n f i h = rw (lt-ltb i a h)
 
-put-at : (r : Registers) (a n : ℕ) (f : ℕ → ℕ) (k : ℕ) → k < n → put r a n f (a + k) ≡ f k
-put-at r a n f k h =
+updated-at : (r : Registers) (a n : ℕ) (f : ℕ → ℕ) (k : ℕ) → k < n → updated r a n f (a + k) ≡ f k
+updated-at r a n f k h =
     let m : a + k - a ≡ k = omega arith in
     rw (le-ltb (a + k) a (omega arith), lt-ltb (a + k) (a + n) (omega arith), m)
 
@@ -101,9 +101,9 @@ module _ {T : Terms} {k : ℕ} {draw secret : List ℕ} (s : Sound T k draw secr
   pub step-running : (t j c : ℕ) → j < 2 → c < T .params .n → regs (suc t) (runningAt j c) ≡ next t j c
   step-running t j c l h = step-is t (runningAt j c) ∙ go j l
     where
-      go : (j : ℕ) → j < 2 → put (put (regs t) 1328 (T .params .n) (next t 0)) 1336 (T .params .n) (next t 1) (runningAt j c) ≡ next t j c
-      go zero l = put-before (put (regs t) 1328 (T .params .n) (next t 0)) 1336 (T .params .n) (next t 1) (1328 + c) (omega (arith, few)) ∙ put-at (regs t) 1328 (T .params .n) (next t 0) c h
-      go (suc zero) l = put-at (put (regs t) 1328 (T .params .n) (next t 0)) 1336 (T .params .n) (next t 1) c h
+      go : (j : ℕ) → j < 2 → updated (updated (regs t) 1328 (T .params .n) (next t 0)) 1336 (T .params .n) (next t 1) (runningAt j c) ≡ next t j c
+      go zero l = updated-before (updated (regs t) 1328 (T .params .n) (next t 0)) 1336 (T .params .n) (next t 1) (1328 + c) (omega (arith, few)) ∙ updated-at (regs t) 1328 (T .params .n) (next t 0) c h
+      go (suc zero) l = updated-at (updated (regs t) 1328 (T .params .n) (next t 0)) 1336 (T .params .n) (next t 1) c h
       go (suc (suc j)) l = absurd (omega arith)
 
   -- book and inputs stay
@@ -111,8 +111,8 @@ module _ {T : Terms} {k : ℕ} {draw secret : List ℕ} (s : Sound T k draw secr
   regs-stay zero i h = refl
   regs-stay (suc t) i h =
       step-is t i
-      ∙ put-before (put (regs t) 1328 (T .params .n) (next t 0)) 1336 (T .params .n) (next t 1) i (omega arith)
-      ∙ put-before (regs t) 1328 (T .params .n) (next t 0) i h
+      ∙ updated-before (updated (regs t) 1328 (T .params .n) (next t 0)) 1336 (T .params .n) (next t 1) i (omega arith)
+      ∙ updated-before (regs t) 1328 (T .params .n) (next t 0) i h
       ∙ regs-stay t i h
 
   pub book-held : (t : ℕ) → Held (T .params) (regs t) (drawn (T .params) (widthOf k) draw)

@@ -11,7 +11,7 @@ use Rattle.field.specs.Sums.{sumTo}
 use Rattle.settings.specs.Sets.{Scale}
 use Rattle.settings.specs.Settings.{Terms}
 use Rattle.rounding.specs.Digits.{digit}
-use Rattle.rounding.specs.Rounds.{carryInto, zeroDigit, topSum, top, over, missing, threshold, belowUpTo, insideResult}
+use Rattle.rounding.specs.Rounds.{carryInto, zeroDigit, topSum, top, over, nonzeroCount, threshold, belowUpTo, insideResult}
 use Rattle.book.specs.Book.{groupGap, maskAt, tripleAt, groupAt, drawn}
 use Rattle.slice.specs.Weights.{weigh, ruleOf}
 use Rattle.steps.specs.Steps.{lookedAt, limitOf, shiftOf}
@@ -49,7 +49,7 @@ module _ (T : Terms) where
   -- the n of zero check g, from all the y and r
   unfoldable pub clearChecked : (ℕ → ℕ) → (ℕ → ℕ) → ℕ → ℕ
   clearChecked ys rs g =
-      cond (eqb kind 0) (missing scale (ys g) (rs g)) (T .params .n - sumTo (T .params .n) (λ (c : ℕ). insideResult scale (T .bound) (ys c) (rs c)))
+      cond (eqb kind 0) (nonzeroCount scale (ys g) (rs g)) (T .params .n - sumTo (T .params .n) (λ (c : ℕ). insideResult scale (T .bound) (ys c) (rs c)))
 
 module _ (T : Terms) (width : ℕ) (draw secret : List ℕ) where
   -- r and y of coefficient c

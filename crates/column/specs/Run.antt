@@ -5,7 +5,7 @@ use lib.ListN.{getD}
 use Rattle.lists.specs.Lists.{listTo}
 use Rattle.settings.specs.Settings.{Terms}
 use Rattle.settings.specs.Sizes.{openings, shared}
-use Rattle.book.specs.Book.{value}
+use Rattle.book.specs.Book.{bookValue}
 use Rattle.slice.specs.Layout.{column, maskedIn, begunWork}
 use Rattle.steps.specs.Steps.{publicOf}
 use Rattle.steps.specs.Work.{openingOn, takenWork}
@@ -14,7 +14,7 @@ use Rattle.steps.specs.Work.{openingOn, takenWork}
 module _ (T : Terms) (width : ℕ) (draw secret : List ℕ) where
   -- the book's values, in book order
   unfoldable pub plainBook : List ℕ
-  plainBook = listTo (shared (T .params)) (value (T .params) width draw)
+  plainBook = listTo (shared (T .params)) (bookValue (T .params) width draw)
 
   -- the plain column at the start
   unfoldable pub plainStart : List ℕ

@@ -1,4 +1,4 @@
--- What is proved of the rounds, as types: joined columns stay joined (T1), and the plain run opens the plain meaning (T2).
+-- What is proved of the rounds, as types: joined columns stay joined (ColumnsJoin), and the plain run opens the plain meaning (PlainRun).
 use Prim.Native.Nat.{ℕ, suc, _+_, _*_, _%_, _/_, _<_, _≤_}
 use mathlib.Core.Path.{_≡_}
 use mathlib.Core.Bool.{true, cond}
@@ -20,9 +20,9 @@ use Rattle.steps.specs.Work.{openingOn, runningOn, takenWork}
 use Rattle.column.specs.Run.{plainAfter, plainOpened}
 use Rattle.column.specs.Clear.{clearRunning, clearOpened, maskOf, maskedOf}
 
--- ---- T1. r₁, r₂ the two sides' registers in one column, v the plain ones, m what the column adds up to, as a factor
+-- ---- ColumnsJoin. r₁, r₂ the two sides' registers in one column, v the plain ones, m what the column adds up to, as a factor
 
-pub record T1 : Type 0 where
+pub record ColumnsJoin : Type 0 where
   pub opening : (w : Public) → 0 < w .params .scale .modulus → {m κ₁ κ₂ : ℕ} {r₁ r₂ v : Registers} → Join (w .params .scale .modulus) m κ₁ κ₂ r₁ r₂ v
       → (round o : ℕ)
       → Adds (w .params .scale .modulus) m (openingOn w round κ₁ r₁ o) (openingOn w round κ₂ r₂ o) (openingOn w round 1 v o)
@@ -39,7 +39,7 @@ pub record JoinedWork (m : ℕ) (keys0 keys1 w₁ w₂ plain : List ℕ) : Type 
   pub exact₂ : length w₂ ≡ length (multipliers keys0 keys1) * places
   pub exact : length plain ≡ places
 
-pub record T1Work : Type 0 where
+pub record SlicesJoin : Type 0 where
   -- the two sides' numbers for an opening add up, in every column
   pub opening : (T : Terms) (keys0 keys1 w₁ w₂ plain : List ℕ)
       → 0 < T .params .scale .modulus → length keys0 ≡ length keys1
@@ -70,9 +70,9 @@ pub record T1Work : Type 0 where
       → (length (takenWork T round opened κs work) ≡ length work)
       × ((i : ℕ) → getD (takenWork T round opened κs work) i 0 < T .params .scale .modulus)
 
--- ---- T2: the plain run, whatever the draw
+-- ---- PlainRun: the plain run, whatever the draw
 
--- what T2 asks of a scale, settings, secret and draw; k keys a side
+-- what PlainRun asks of a scale, settings, secret and draw; k keys a side
 pub record Sound (T : Terms) (k : ℕ) (draw secret : List ℕ) : Type 0 where
   pub lawful : Lawful (T .params .scale)
   pub kinds : T .params .kind < 2
@@ -86,7 +86,7 @@ pub record Sound (T : Terms) (k : ℕ) (draw secret : List ℕ) : Type 0 where
   pub draw-size : length draw ≡ drawLength (T .params) (widthOf k)
   pub draw-below : (j : ℕ) → getD draw j 0 < T .params .scale .modulus
 
-pub record T2 : Type 0 where
+pub record PlainRun : Type 0 where
   -- the running registers after rounds 1 to 5
   pub running : (T : Terms) (k : ℕ) (draw secret : List ℕ)
       → Sound T k draw secret

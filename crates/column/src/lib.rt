@@ -5,7 +5,7 @@ ghost use lib.ListN.{length, getD};
 ghost use Rattle.lists.specs.Lists.{fill};
 ghost use Rattle.field.specs.Field.{q};
 ghost use Rattle.settings.specs.Settings.{paramsOf, termsOf};
-ghost use Rattle.settings.specs.Order.{rounds};
+ghost use Rattle.settings.specs.Schedule.{rounds};
 ghost use Rattle.settings.specs.Sizes.{openings, mostOpenings, places};
 ghost use Rattle.slice.specs.Layout.{ownAt, runningAt, column, maskedIn};
 ghost use Rattle.steps.specs.Steps.{publicOf, running};

@@ -7,8 +7,8 @@ use Rattle.settings.specs.Sizes.{keyCount}
 use Rattle.settings.specs.declared.Shape.{Shape}
 use Rattle.book.specs.Deal.{multipliers, dealNo, dealCall, serverBook, phoneBook}
 use Rattle.book.proofs.Door.{door}
-use Rattle.dealer.specs.Work.{sharedFor, serverFor, phoneFor, Lent, Wrote}
-use Rattle.dealer.specs.declared.Order.{Order}
+use Rattle.dealer.specs.Work.{sharedFor, serverFor, phoneFor, DealSlices, Wrote}
+use Rattle.dealer.specs.declared.DealContext.{DealContext}
 use Rattle.dealer.proofs.Work.{dealt-whole}
 
 module _ (k : ℕ) (a : Shape) (keys0 keys1 draw server phone : List ℕ) where
@@ -20,10 +20,10 @@ module _ (k : ℕ) (a : Shape) (keys0 keys1 draw server phone : List ℕ) where
 
 module _ (a : Shape) (factors keys0 keys1 draw server phone : List ℕ) (passes : 0 ≡ dealNo keyCount a keys0 keys1 draw server phone) where
   -- what the work is told
-  abbrev orderOf : Order
+  abbrev orderOf : DealContext
   orderOf = record { shape = a; factors = factors }
 
-  pub ready : Lent orderOf draw server phone
+  pub ready : DealSlices orderOf draw server phone
   ready =
       let h = door keyCount a keys0 keys1 draw server phone (sym passes) in
       record { ready = h .ready; draw-size = h .draw-size; server-size = h .server-size; phone-size = h .phone-size }

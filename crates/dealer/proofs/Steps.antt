@@ -21,12 +21,12 @@ use Rattle.book.specs.Book.{Entry, groupK, maskAt, vectorAt, tripleAt, groupAt,
 use Rattle.settings.specs.Sizes.{stride, groups}
 use Rattle.book.specs.Theorems.{Holds}
 use Rattle.dealer.specs.Work.{width, paramsFor, sharedFor, cursorFor, Next, Draws, Vector}
-use Rattle.dealer.specs.declared.Order.{Order}
+use Rattle.dealer.specs.declared.DealContext.{DealContext}
 use Rattle.book.proofs.Places.{places, sum-within}
 use Rattle.book.proofs.Books.{value-holds}
 use Rattle.settings.proofs.Sizes.{shared-high, shared-bound}
 
-module _ (o : Order) where
+module _ (o : DealContext) where
   draws-at : (k m : ℕ) (e : Entry) → Holds (paramsFor o) m e → isDrawn e ≡ true → k ≡ m → Draws o k
   draws-at k m e h i f = rw f (record { inside = h .0; draws = ap isDrawn (h .1) ∙ i })
 
@@ -140,7 +140,7 @@ module _ (o : Order) where
         })
 
 -- a group's number is small
-pub groups-few : (o : Order) (g : ℕ) → g < groups (paramsFor o) → o .shape .n ≤ 8 → g < 8
+pub groups-few : (o : DealContext) (g : ℕ) → g < groups (paramsFor o) → o .shape .n ≤ 8 → g < 8
 groups-few o g h l = by (eqb (o .shape .kind) 0) h
   where
     by : (b : Bool) → g < cond b (o .shape .n) 1 → g < 8

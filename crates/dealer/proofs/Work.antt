@@ -12,8 +12,8 @@ use Rattle.lists.proofs.Fill.{fill-none, fill-more, fill-join, fill-same, lengt
 use Rattle.field.specs.Field.{q, sub, mul}
 use Rattle.book.specs.Book.{drawn, phoneNumber}
 use Rattle.book.specs.Deal.{serverNumber}
-use Rattle.dealer.specs.Work.{width, dealtInto, paramsFor, cursorFor, serverFor, phoneFor, Lent, Next, Draws, Vector, Wrote}
-use Rattle.dealer.specs.declared.Order.{Order}
+use Rattle.dealer.specs.Work.{width, dealtInto, paramsFor, cursorFor, serverFor, phoneFor, DealSlices, Next, Draws, Vector, Wrote}
+use Rattle.dealer.specs.declared.DealContext.{DealContext}
 use Rattle.book.proofs.Draws.{drawAt-none, drawAt-more, drawAt-inside}
 use Rattle.book.proofs.Books.{value-drawn}
 
@@ -42,7 +42,7 @@ dealt-whole s f n h =
 
 -- ---- runs
 
-module _ {o : Order} {draw : List ℕ} where
+module _ {o : DealContext} {draw : List ℕ} where
   pub wrote-none : {server phone : List ℕ} {k at : ℕ} → at ≡ cursorFor o k → Wrote o draw server phone k 0 server phone at
   wrote-none {server} {phone} {k} e =
       record { server-is = dealt-none server (serverFor o draw) k; phone-is = dealt-none phone (phoneFor o draw) k; next = e ∙ ap (cursorFor o) (sym (add-zero k)) }
@@ -62,7 +62,7 @@ module _ {o : Order} {draw : List ℕ} where
   wrote-as u e f = rw (← e, ← f) u
 
   -- what was lent is lent still
-  pub still-lent : {s₀ p₀ s₁ p₁ : List ℕ} {k a at : ℕ} → Lent o draw s₀ p₀ → Wrote o draw s₀ p₀ k a s₁ p₁ at → Lent o draw s₁ p₁
+  pub still-lent : {s₀ p₀ s₁ p₁ : List ℕ} {k a at : ℕ} → DealSlices o draw s₀ p₀ → Wrote o draw s₀ p₀ k a s₁ p₁ at → DealSlices o draw s₁ p₁
   still-lent {s₀} {p₀} {k = k} {a = a} l u =
       record {
         ready = l .ready;
@@ -73,7 +73,7 @@ module _ {o : Order} {draw : List ℕ} where
 
 -- ---- one place
 
-module _ (o : Order) (draw : List ℕ) (k at v : ℕ) (h : Next o draw k at v) (c : ℕ) (l : c < width) where
+module _ (o : DealContext) (draw : List ℕ) (k at v : ℕ) (h : Next o draw k at v) (c : ℕ) (l : c < width) where
   -- column c of place k, as the book has it
   abbrev x : ℕ
   x = width * k + c
@@ -93,12 +93,12 @@ module _ (o : Order) (draw : List ℕ) (k at v : ℕ) (h : Next o draw k at v) (
       rw (i, j, h .begins, h .is) (omega arith)
 
 -- the draw and both books have room for it
-pub room : {o : Order} {draw server phone : List ℕ} {k at v : ℕ} → Lent o draw server phone → Next o draw k at v
+pub room : {o : DealContext} {draw server phone : List ℕ} {k at v : ℕ} → DealSlices o draw server phone → Next o draw k at v
     → (at + width ≤ length draw) × (width * k + width ≤ length server) × (width * k + width ≤ length phone)
 room {o} {k = k} l h = omega (arith, drawAt-inside (paramsFor o) width k (h .inside))
 
 -- a place's columns are a run of one place
-pub wrote-place : {o : Order} {draw server phone server′ phone′ : List ℕ} {k at v : ℕ} → Next o draw k at v
+pub wrote-place : {o : DealContext} {draw server phone server′ phone′ : List ℕ} {k at v : ℕ} → Next o draw k at v
     → server′ ≡ fill server (width * k) width (λ (x : ℕ). serverFor o draw (width * k + x)) → phone′ ≡ fill phone (width * k) width (λ (x : ℕ). phoneFor o draw (width * k + x))
     → Wrote o draw server phone k 1 server′ phone′ (at + width)
 unfolding dealtInto
@@ -112,7 +112,7 @@ stored s₀ s i n x f e h = rw (fill-more, e, h)
 
 -- ---- a drawn number
 
-module _ {o : Order} {draw : List ℕ} {k at : ℕ} (h : Draws o k) (e : at ≡ cursorFor o k) where
+module _ {o : DealContext} {draw : List ℕ} {k at : ℕ} (h : Draws o k) (e : at ≡ cursorFor o k) where
   pub next-drawn : Next o draw k (at + 1) (getD draw at 0)
   unfolding bit drawn
   next-drawn =
@@ -123,12 +123,12 @@ module _ {o : Order} {draw : List ℕ} {k at : ℕ} (h : Draws o k) (e : at ≡ 
       }
 
   -- it and the place's own numbers lie within the draw
-  pub drawn-room : {server phone : List ℕ} → Lent o draw server phone → at + 1 + width ≤ length draw
+  pub drawn-room : {server phone : List ℕ} → DealSlices o draw server phone → at + 1 + width ≤ length draw
   drawn-room l = let r = room l next-drawn in omega arith
 
 -- ---- a vector
 
-module _ {o : Order} {draw : List ℕ} {k size d : ℕ} (h : Vector o draw k size d) (j at v : ℕ) (l : j < size) where
+module _ {o : DealContext} {draw : List ℕ} {k size d : ℕ} (h : Vector o draw k size d) (j at v : ℕ) (l : j < size) where
   pub next-vector : at ≡ cursorFor o (k + j) → v ≡ bit (eqb j d) → Next o draw (k + j) at v
   unfolding bit
   next-vector e f =
@@ -139,8 +139,8 @@ module _ {o : Order} {draw : List ℕ} {k size d : ℕ} (h : Vector o draw k siz
       }
 
 -- the cursor of a place that is named otherwise
-pub cursor-as : (o : Order) {at k m : ℕ} → at ≡ cursorFor o k → k ≡ m → at ≡ cursorFor o m
+pub cursor-as : (o : DealContext) {at k m : ℕ} → at ≡ cursorFor o k → k ≡ m → at ≡ cursorFor o m
 cursor-as o e f = e ∙ ap (cursorFor o) f
 
-pub first-cursor : (o : Order) → 0 ≡ cursorFor o 0
+pub first-cursor : (o : DealContext) → 0 ≡ cursorFor o 0
 first-cursor o = sym (drawAt-none (paramsFor o) width)

@@ -10,9 +10,9 @@ use Rattle.lists.specs.Lists.{fill}
 use Rattle.settings.specs.Settings.{Params, paramsOf}
 use Rattle.settings.specs.Questions.{ShapeReady}
 use Rattle.settings.specs.Sizes.{keyCount, widthOf, shared, drawLength}
-use Rattle.book.specs.Book.{Entry, entryOf, isDrawn, drawAt, value, phoneNumber}
+use Rattle.book.specs.Book.{Entry, entryOf, isDrawn, drawAt, bookValue, phoneNumber}
 use Rattle.book.specs.Deal.{serverNumber}
-use Rattle.dealer.specs.declared.Order.{Order}
+use Rattle.dealer.specs.declared.DealContext.{DealContext}
 
 -- how many numbers a place has
 abbrev pub width : ℕ
@@ -22,7 +22,7 @@ width = widthOf keyCount
 unfoldable pub dealtInto : List ℕ → (ℕ → ℕ) → ℕ → ℕ → List ℕ
 dealtInto s f k count = fill s (width * k) (width * count) (λ (x : ℕ). f (width * k + x))
 
-module _ (o : Order) where
+module _ (o : DealContext) where
   abbrev pub paramsFor : Params
   paramsFor = paramsOf (o .shape)
 
@@ -36,7 +36,7 @@ module _ (o : Order) where
   cursorFor k = drawAt paramsFor width k
 
   abbrev pub valueFor : List ℕ → ℕ → ℕ
-  valueFor draw k = value paramsFor width draw k
+  valueFor draw k = bookValue paramsFor width draw k
 
   -- number x of a side's book
   unfoldable pub serverFor : List ℕ → ℕ → ℕ
@@ -46,7 +46,7 @@ module _ (o : Order) where
   phoneFor draw x = phoneNumber paramsFor width draw (x / width) (x % width)
 
   -- what the questions have told
-  pub record Lent (draw server phone : List ℕ) : Type 0 where
+  pub record DealSlices (draw server phone : List ℕ) : Type 0 where
     pub ready : ShapeReady (o .shape)
     pub draw-size : length draw ≡ drawLength paramsFor width
     pub server-size : length server ≡ sharedFor * width

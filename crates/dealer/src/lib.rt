@@ -13,7 +13,7 @@ ghost use Rattle.settings.specs.Questions.{keysOk};
 ghost use Rattle.rounding.specs.Digits.{splitOf};
 ghost use Rattle.book.specs.Book.{groupK, maskAt, vectorAt, tripleAt, groupAt, drawn};
 ghost use Rattle.book.specs.Deal.{dealNo, dealCall};
-ghost use Rattle.dealer.specs.Work.{Lent, Next, Draws, Vector, Wrote, paramsFor, cursorFor, sharedFor};
+ghost use Rattle.dealer.specs.Work.{DealSlices, Next, Draws, Vector, Wrote, paramsFor, cursorFor, sharedFor};
 use book::group_at;
 use book::group_gap;
 use book::group_k;
@@ -39,7 +39,7 @@ use settings::shape_no;
 use settings::shared_of;
 
 // What the working functions are told: the settings, and what each column's numbers add up to, as a factor.
-struct Order {
+struct DealContext {
     shape: Shape,
     factors: [u32; WIDTH],
 }
@@ -58,7 +58,7 @@ fn vector_entry(j: usize, d: u32) -> u32
 
 // The columns of place k, with the joined value `value`; its own numbers begin at `at`.
 fn deal_place(
-    o: Order,
+    o: DealContext,
     draw: &[u32],
     server: &mut [u32],
     phone: &mut [u32],
@@ -66,7 +66,7 @@ fn deal_place(
     at: usize,
     value: u32,
 ) -> usize
-    requires { ⌜ Lent o (now draw) (now server) (now phone) ⌝ }
+    requires { ⌜ DealSlices o (now draw) (now server) (now phone) ⌝ }
     requires { ⌜ Next o (now draw) k at value ⌝ }
     ensures { λ r. ⌜ Wrote o (now (draw .entry)) (now (server .entry)) (now (phone .entry)) k 1 (now (server .exit)) (now (phone .exit)) r ⌝ }
 {
@@ -82,14 +82,14 @@ fn deal_place(
 
 // Place k, which holds a drawn number: it stands just before the place's own numbers.
 fn deal_drawn(
-    o: Order,
+    o: DealContext,
     draw: &[u32],
     server: &mut [u32],
     phone: &mut [u32],
     k: usize,
     at: usize,
 ) -> usize
-    requires { ⌜ Lent o (now draw) (now server) (now phone) ⌝ }
+    requires { ⌜ DealSlices o (now draw) (now server) (now phone) ⌝ }
     requires { ⌜ Draws o k × (at ≡ cursorFor o k) ⌝ }
     ensures { λ r. ⌜ Wrote o (now (draw .entry)) (now (server .entry)) (now (phone .entry)) k 1 (now (server .exit)) (now (phone .exit)) r ⌝ }
 {
@@ -99,7 +99,7 @@ fn deal_drawn(
 
 // The vector of d, from place k on.
 fn deal_vector(
-    o: Order,
+    o: DealContext,
     draw: &[u32],
     server: &mut [u32],
     phone: &mut [u32],
@@ -108,7 +108,7 @@ fn deal_vector(
     size: usize,
     d: u32,
 ) -> usize
-    requires { ⌜ Lent o (now draw) (now server) (now phone) ⌝ }
+    requires { ⌜ DealSlices o (now draw) (now server) (now phone) ⌝ }
     requires { ⌜ Vector o (now draw) k size d × (at ≡ cursorFor o k) ⌝ }
     ensures { λ r. ⌜ Wrote o (now (draw .entry)) (now (server .entry)) (now (phone .entry)) k size (now (server .exit)) (now (phone .exit)) r ⌝ }
 {
@@ -124,7 +124,7 @@ fn deal_vector(
 
 // The vectors of r's five digits, r being the mask of coefficient c.
 fn deal_vectors(
-    o: Order,
+    o: DealContext,
     draw: &[u32],
     server: &mut [u32],
     phone: &mut [u32],
@@ -132,7 +132,7 @@ fn deal_vectors(
     at: usize,
     r: Split,
 ) -> usize
-    requires { ⌜ Lent o (now draw) (now server) (now phone) ⌝ }
+    requires { ⌜ DealSlices o (now draw) (now server) (now phone) ⌝ }
     requires { ⌜ (c < o .shape .n) × (at ≡ cursorFor o (vectorAt (paramsFor o) c 0)) × (r ≡ splitOf (paramsFor o .scale) (drawn (paramsFor o) (widthOf keyCount) (now draw) (maskAt (paramsFor o) c))) ⌝ }
     ensures { λ r. ⌜ Wrote o (now (draw .entry)) (now (server .entry)) (now (phone .entry)) (vectorAt (paramsFor o) c 0) (sumTo 5 (base (paramsFor o .scale))) (now (server .exit)) (now (phone .exit)) r ⌝ }
 {
@@ -149,14 +149,14 @@ fn deal_vectors(
 
 // Mask r of coefficient c, and the vectors of its digits.
 fn deal_mask(
-    o: Order,
+    o: DealContext,
     draw: &[u32],
     server: &mut [u32],
     phone: &mut [u32],
     c: usize,
     at: usize,
 ) -> usize
-    requires { ⌜ Lent o (now draw) (now server) (now phone) ⌝ }
+    requires { ⌜ DealSlices o (now draw) (now server) (now phone) ⌝ }
     requires { ⌜ (c < o .shape .n) × (at ≡ cursorFor o (maskAt (paramsFor o) c)) ⌝ }
     ensures { λ r. ⌜ Wrote o (now (draw .entry)) (now (server .entry)) (now (phone .entry)) (maskAt (paramsFor o) c) (1 + sumTo 5 (base (paramsFor o .scale))) (now (server .exit)) (now (phone .exit)) r ⌝ }
 {
@@ -169,7 +169,7 @@ fn deal_mask(
 
 // Triple t of coefficient c: a, b and a × b.
 fn deal_triple(
-    o: Order,
+    o: DealContext,
     draw: &[u32],
     server: &mut [u32],
     phone: &mut [u32],
@@ -177,7 +177,7 @@ fn deal_triple(
     t: usize,
     at: usize,
 ) -> usize
-    requires { ⌜ Lent o (now draw) (now server) (now phone) ⌝ }
+    requires { ⌜ DealSlices o (now draw) (now server) (now phone) ⌝ }
     requires { ⌜ (c < o .shape .n) × (t < 8) × (at ≡ cursorFor o (tripleAt (paramsFor o) c t)) ⌝ }
     ensures { λ r. ⌜ Wrote o (now (draw .entry)) (now (server .entry)) (now (phone .entry)) (tripleAt (paramsFor o) c t) 3 (now (server .exit)) (now (phone .exit)) r ⌝ }
 {
@@ -191,14 +191,14 @@ fn deal_triple(
 
 // The eight triples of coefficient c.
 fn deal_triples(
-    o: Order,
+    o: DealContext,
     draw: &[u32],
     server: &mut [u32],
     phone: &mut [u32],
     c: usize,
     at: usize,
 ) -> usize
-    requires { ⌜ Lent o (now draw) (now server) (now phone) ⌝ }
+    requires { ⌜ DealSlices o (now draw) (now server) (now phone) ⌝ }
     requires { ⌜ (c < o .shape .n) × (at ≡ cursorFor o (tripleAt (paramsFor o) c 0)) ⌝ }
     ensures { λ r. ⌜ Wrote o (now (draw .entry)) (now (server .entry)) (now (phone .entry)) (tripleAt (paramsFor o) c 0) 24 (now (server .exit)) (now (phone .exit)) r ⌝ }
 {
@@ -213,14 +213,14 @@ fn deal_triples(
 
 // Group g: ρ, and the vector of ρ divided by the gap.
 fn deal_group(
-    o: Order,
+    o: DealContext,
     draw: &[u32],
     server: &mut [u32],
     phone: &mut [u32],
     g: usize,
     at: usize,
 ) -> usize
-    requires { ⌜ Lent o (now draw) (now server) (now phone) ⌝ }
+    requires { ⌜ DealSlices o (now draw) (now server) (now phone) ⌝ }
     requires { ⌜ (g < groups (paramsFor o)) × (at ≡ cursorFor o (groupAt (paramsFor o) g)) ⌝ }
     ensures { λ r. ⌜ Wrote o (now (draw .entry)) (now (server .entry)) (now (phone .entry)) (groupAt (paramsFor o) g) (groupK (paramsFor o) + 3) (now (server .exit)) (now (phone .exit)) r ⌝ }
 {
@@ -234,14 +234,14 @@ fn deal_group(
 
 // All places of coefficient c.
 fn deal_coefficient(
-    o: Order,
+    o: DealContext,
     draw: &[u32],
     server: &mut [u32],
     phone: &mut [u32],
     c: usize,
     at: usize,
 ) -> usize
-    requires { ⌜ Lent o (now draw) (now server) (now phone) ⌝ }
+    requires { ⌜ DealSlices o (now draw) (now server) (now phone) ⌝ }
     requires { ⌜ (c < o .shape .n) × (at ≡ cursorFor o (maskAt (paramsFor o) c)) ⌝ }
     ensures { λ r. ⌜ Wrote o (now (draw .entry)) (now (server .entry)) (now (phone .entry)) (maskAt (paramsFor o) c) (stride (paramsFor o)) (now (server .exit)) (now (phone .exit)) r ⌝ }
 {
@@ -255,8 +255,8 @@ fn deal_coefficient(
 }
 
 // All coefficients.
-fn deal_coefficients(o: Order, draw: &[u32], server: &mut [u32], phone: &mut [u32]) -> usize
-    requires { ⌜ Lent o (now draw) (now server) (now phone) ⌝ }
+fn deal_coefficients(o: DealContext, draw: &[u32], server: &mut [u32], phone: &mut [u32]) -> usize
+    requires { ⌜ DealSlices o (now draw) (now server) (now phone) ⌝ }
     ensures { λ r. ⌜ Wrote o (now (draw .entry)) (now (server .entry)) (now (phone .entry)) 0 (maskAt (paramsFor o) (o .shape .n)) (now (server .exit)) (now (phone .exit)) r ⌝ }
 {
     let mut next = 0;
@@ -269,8 +269,8 @@ fn deal_coefficients(o: Order, draw: &[u32], server: &mut [u32], phone: &mut [u3
 }
 
 // Both books.
-fn deal_books(o: Order, draw: &[u32], server: &mut [u32], phone: &mut [u32]) -> usize
-    requires { ⌜ Lent o (now draw) (now server) (now phone) ⌝ }
+fn deal_books(o: DealContext, draw: &[u32], server: &mut [u32], phone: &mut [u32]) -> usize
+    requires { ⌜ DealSlices o (now draw) (now server) (now phone) ⌝ }
     ensures { λ r. ⌜ Wrote o (now (draw .entry)) (now (server .entry)) (now (phone .entry)) 0 (sharedFor o) (now (server .exit)) (now (phone .exit)) r ⌝ }
 {
     let shape = o.shape;
@@ -351,6 +351,6 @@ pub fn deal(
         return no;
     }
     let factors = for_columns(1, keys0, keys1);
-    deal_books(Order { shape, factors }, draw, server, phone);
+    deal_books(DealContext { shape, factors }, draw, server, phone);
     0
 }

@@ -7,7 +7,7 @@ use native.Mathlib.Omega.{arith}
 use lib.Dec.{ltb}
 use Rattle.field.specs.Congruence.{_⊩_≈_}
 use Rattle.field.specs.Sums.{sumTo}
-use Rattle.field.specs.Forms.{Registers, Form, num, reg, sum, _⊞_, _⊟_, _⊠_, value, Adds, Join, put}
+use Rattle.field.specs.Forms.{Registers, Form, num, reg, sum, _⊞_, _⊟_, _⊠_, value, Adds, Join, updated}
 use Rattle.field.proofs.Congruence.{≈-refl, ≈-eq, ≈-sym, ≈-trans, ≈-add, ≈-mul, ≈-mod, ≈-unmod, ≈-set}
 use Rattle.field.proofs.Solve.{at, _⊕_, _⊖_, _⊗_, red, solve-by}
 use Rattle.field.proofs.Sums.{sum-cong}
@@ -87,6 +87,6 @@ cond-join false h k = k
 
 -- T1 for an update
 pub join-put : {q m κ₁ κ₂ : ℕ} {r₁ r₂ v : Registers} (a n : ℕ) (f₁ f₂ f : ℕ → ℕ) → Join q m κ₁ κ₂ r₁ r₂ v → ((i : ℕ) → Adds q m (f₁ i) (f₂ i) (f i)) →
-    Join q m κ₁ κ₂ (put r₁ a n f₁) (put r₂ a n f₂) (put v a n f)
+    Join q m κ₁ κ₂ (updated r₁ a n f₁) (updated r₂ a n f₂) (updated v a n f)
 join-put a n f₁ f₂ f j h =
     record { weight = j .weight; numbers = λ i. cond-join (ltb i a) (j .numbers i) (cond-join (ltb i (a + n)) (h (i - a)) (j .numbers i)) }

@@ -42,5 +42,5 @@ pub record Join (q m κ₁ κ₂ : ℕ) (r₁ r₂ plain : Registers) : Type 0 w
   pub numbers : (i : ℕ) → Adds q m (r₁ i) (r₂ i) (plain i)
 
 -- a column with f 0 .. f (n - 1) at the places a .. a + n - 1
-abbrev pub put : Registers → ℕ → ℕ → (ℕ → ℕ) → Registers
-put r a n f i = cond (ltb i a) (r i) (cond (ltb i (a + n)) (f (i - a)) (r i))
+abbrev pub updated : Registers → ℕ → ℕ → (ℕ → ℕ) → Registers
+updated r a n f i = cond (ltb i a) (r i) (cond (ltb i (a + n)) (f (i - a)) (r i))

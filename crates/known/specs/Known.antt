@@ -10,7 +10,7 @@ use Rattle.field.specs.Sums.{sumTo}
 use Rattle.settings.specs.Sets.{scaleOf}
 use Rattle.rounding.specs.Plain.{highOfShifted, highPart, lowPart, inside, verdict}
 use Rattle.rounding.specs.Digits.{digitsOf, digit}
-use Rattle.rounding.specs.Rounds.{unit, carryInto, zeroDigit, topSum, top, missing, gap, checkOpens, checkResult, wrapOf, highResult}
+use Rattle.rounding.specs.Rounds.{unit, carryInto, zeroDigit, topSum, top, nonzeroCount, gap, checkOpens, checkResult, wrapOf, highResult}
 
 -- a row: what is asked, and what is known of it
 pub data Row : Type 0 where
@@ -62,5 +62,5 @@ knownResults =
     ∷ []
 
 pub known-results : map worked knownResults ≡ knownResults
-unfolding worked knownResults bit every sumTo highOfShifted lowPart inside verdict digitsOf unit carryInto zeroDigit top missing
+unfolding worked knownResults bit every sumTo highOfShifted lowPart inside verdict digitsOf unit carryInto zeroDigit top nonzeroCount
 known-results = refl

@@ -4,14 +4,14 @@ use mathlib.Core.Path.{_≡_}
 use mathlib.Core.List.{List}
 use lib.ListN.{length}
 use Rattle.stream.specs.Input.{linesOf, outputOf}
-use Rattle.stream.specs.Theorems.{joined, writtenFor}
+use Rattle.stream.specs.Theorems.{concatenated, writtenFor}
 use Rattle.line_program.specs.Waiting.{lineBytes, keptLength}
 
--- T7 for the program's own answers, over a slice of the length that it uses
+-- WritesTheOutput for the program's own answers, over a slice of the length that it uses
 abbrev pub AnswersEachLine : Type 0
 AnswersEachLine =
     (kept : List ℕ)
     → length kept ≡ keptLength
     → (parts : List (List ℕ))
-    → length (linesOf (joined parts)) < 18446744073709551616
-    → writtenFor lineBytes kept parts ≡ outputOf lineBytes (joined parts)
+    → length (linesOf (concatenated parts)) < 18446744073709551616
+    → writtenFor lineBytes kept parts ≡ outputOf lineBytes (concatenated parts)

@@ -20,8 +20,8 @@ use Rattle.settings.specs.Settings.{paramsIn}
 use Rattle.book.specs.Deal.{dealNo}
 use Rattle.state.specs.State.{freshSide, whole, sendDue, takeDue, underWay}
 use Rattle.side.specs.Side.{handedNo, beginNo}
-use Rattle.syntax.specs.declared.Order.{Order}
-use Rattle.lines.specs.Plain.{secretOf, orderNo, settingsOf}
+use Rattle.syntax.specs.declared.Request.{Request}
+use Rattle.lines.specs.Plain.{secretOf, requestNo, settingsOf}
 use Rattle.lines.specs.Play.{width, ones, inColumns, Lent, runFor}
 use Rattle.lines.proofs.Laws.{length-front}
 use Rattle.lines.proofs.Handed.{ones-ok, columns-long, columns-below, zeros-below}
@@ -75,7 +75,7 @@ in-turn true false d r s t e f = refl
 in-turn true true false r s t e f = refl
 in-turn true true true r s t e f = e refl ∙ no-more s t (f refl)
 
-module _ (serial : ℕ) (o : Order) (eight : length (o .numbers) ≡ 8) (draw inputs zeros a b work : List ℕ) (l : Lent o draw inputs zeros a b) (work-long : length work ≡ workLength keyCount) where
+module _ (serial : ℕ) (o : Request) (eight : length (o .numbers) ≡ 8) (draw inputs zeros a b work : List ℕ) (l : Lent o draw inputs zeros a b) (work-long : length work ≡ workLength keyCount) where
   deal-asks : dealNo keyCount (settingsOf o .shape) ones ones draw a b ≡ ask (isBit (o .set) && isBit (o .kind)) 1 (ask (countOk (o .count)) 2 0)
   unfolding dealNo askShape ask
   deal-asks = rw (ones-ok, eq-eqb _ _ (l .draw-long), eq-eqb _ _ (l .server-long), eq-eqb _ _ (l .phone-long), l .draw-below)
@@ -103,11 +103,11 @@ module _ (serial : ℕ) (o : Order) (eight : length (o .numbers) ≡ 8) (draw in
 
   -- the first no of a line is the first no of the deal, the server's begin and the phone's begin
   pub asked-in-order : (server phone : List ℕ) → IsBook server → IsBook phone
-      → orderNo serial o
+      → requestNo serial o
       ≡ firstNo (dealNo keyCount (settingsOf o .shape) ones ones draw a b)
       (firstNo (beginNo keyCount freshSide (runFor serial o 0) (inColumns (secretOf o)) server work)
       (beginNo keyCount freshSide (runFor serial o 1) zeros phone work))
-  unfolding orderNo askSettings askShape ask
+  unfolding requestNo askSettings askShape ask
   asked-in-order server phone f g =
       rw (deal-asks, begin-asks 0 (omega arith) (inColumns (secretOf o)) server, begin-asks 1 (omega arith) zeros phone)
       (in-turn (isBit (o .set) && isBit (o .kind)) (countOk (o .count)) (boundOk (o .kind) (o .bound)) (ask (allBelow q (secretOf o)) 6 (ask (ltb 0 serial) 7 0)) (handed (inColumns (secretOf o)) server) (handed zeros phone)

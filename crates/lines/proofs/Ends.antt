@@ -15,19 +15,19 @@ use Rattle.field.specs.Field.{q}
 use Rattle.settings.specs.Sizes.{keyCount, shared, drawLength, workLength}
 use Rattle.settings.specs.Questions.{askShape, isBit, countOk, boundOk, askSettings, Ready}
 use Rattle.settings.proofs.Ready.{settings-ready, settings-rest}
-use Rattle.settings.specs.Order.{rounds}
+use Rattle.settings.specs.Schedule.{rounds}
 use Rattle.book.specs.Deal.{multipliers, serverBook, phoneBook, Dealt, dealNo, dealCall}
 use Rattle.state.specs.declared.Side.{Side}
 use Rattle.state.specs.State.{freshSide, whole, sendDue, takeDue, underWay, finished, placesOf, heldAnswer, answerNo, answerCall}
 use Rattle.state.proofs.States.{finished-whole, places-most}
 use Rattle.settings.specs.declared.Settings.{Settings}
 use Rattle.settings.specs.Settings.{paramsIn}
-use Rattle.runs.specs.Records.{answerOf, missing, Hand, Seat, World, outcome, step, worldAfter}
-use Rattle.runs.specs.Demands.{Fixed, Idle, ownHand, otherHand, Ended}
+use Rattle.runs.specs.Records.{answerOf, missingShares, PartyInput, PartyState, JointState, outcome, step, jointAfter}
+use Rattle.runs.specs.Demands.{Fixed, Idle, observerInput, peerInput, Ended}
 use Rattle.runs.proofs.Theorem.{every-run-ends}
-use Rattle.syntax.specs.declared.Order.{Order}
+use Rattle.syntax.specs.declared.Request.{Request}
 use Rattle.lines.specs.declared.Outcome.{Outcome}
-use Rattle.lines.specs.Plain.{settingsOf, secretOf, orderNo, outcomeOf}
+use Rattle.lines.specs.Plain.{settingsOf, secretOf, requestNo, outcomeOf}
 use Rattle.lines.specs.Play.{mostDraw, mostBook, mostInputs, width, roundsPlayed, ones, inColumns, begunAt, zeroWork, toldBy, playedWith, Lent}
 use Rattle.lines.proofs.Laws.{length-front}
 use Rattle.lines.proofs.Rounds.{playCalls, roundCalls, rounds-are, carried}
@@ -52,12 +52,12 @@ module _ (s : Settings) (secret : List ℕ) (x : Side) (done : finished x ≡ tr
 
 -- ---- The play
 
--- what an order that no question refuses has passed
-pub order-ready : (serial : ℕ) (o : Order) → orderNo serial o ≡ 0 → Ready (settingsOf o)
-unfolding orderNo
+-- what a request that no question refuses has passed
+pub order-ready : (serial : ℕ) (o : Request) → requestNo serial o ≡ 0 → Ready (settingsOf o)
+unfolding requestNo
 order-ready serial o e = settings-ready 0 (settingsOf o) _ e .1
 
-module _ (serial : ℕ) (o : Order) (ok : orderNo serial o ≡ 0) (fits : serial < 4294967296) (room : o .count ≤ length (o .numbers)) where
+module _ (serial : ℕ) (o : Request) (ok : requestNo serial o ≡ 0) (fits : serial < 4294967296) (room : o .count ≤ length (o .numbers)) where
   abbrev s : Settings
   s = settingsOf o
 
@@ -68,7 +68,7 @@ module _ (serial : ℕ) (o : Order) (ok : orderNo serial o ≡ 0) (fits : serial
   rest = ask (allBelow q secret) 6 (ask (ltb 0 serial) 7 0)
 
   opened : askSettings 0 (settingsOf o) rest ≡ 0
-  unfolding orderNo
+  unfolding requestNo
   opened = ok
 
   ready : Ready (settingsOf o)
@@ -95,8 +95,8 @@ module _ (serial : ℕ) (o : Order) (ok : orderNo serial o ≡ 0) (fits : serial
         phone-keys = ones-ok;
       }
 
-  -- a seat before its begin
-  abbrev idle : Seat
+  -- a party state before its begin
+  abbrev idle : PartyState
   idle = record { side = freshSide; work = zeroWork; latest = [] }
 
   idle-is : Idle keyCount serial idle
@@ -107,34 +107,34 @@ module _ (serial : ℕ) (o : Order) (ok : orderNo serial o ≡ 0) (fits : serial
     abbrev inputs : List ℕ
     inputs = inColumns secret
 
-    abbrev server : Hand
-    server = ownHand keyCount s 0 ones ones inputs draw
+    abbrev server : PartyInput
+    server = observerInput keyCount s 0 ones ones inputs draw
 
-    abbrev phone : Hand
-    phone = otherHand keyCount s 0 ones ones inputs secret draw
+    abbrev phone : PartyInput
+    phone = peerInput keyCount s 0 ones ones inputs secret draw
 
-    abbrev start : World
-    start = record { own = idle; other = idle }
+    abbrev start : JointState
+    start = record { observer = idle; peer = idle }
 
-    ended : Ended s secret (worldAfter keyCount s serial server phone start playCalls .own)
+    ended : Ended s secret (jointAfter keyCount s serial server phone start playCalls .observer)
     ended =
         every-run-ends keyCount s serial ones ones fixed secret inputs draw
         (record { size-is = secret-long; below = six .0 })
         (record { size-is = columns-long secret ∙ ap (λ (n : ℕ). n * width) secret-long; below = columns-below secret (six .0) })
         (record { size-is = draw-long; below = draw-below })
         start
-        (record { own = idle-is; other = idle-is })
+        (record { observer = idle-is; peer = idle-is })
         playCalls
         (carried s (ready .most))
         .0
 
     -- both begins
-    abbrev begun : List ℕ → World
+    abbrev begun : List ℕ → JointState
     begun zeros =
-        record { own = begunAt serial o 0 inputs (server .book) zeroWork; other = begunAt serial o 1 zeros (phone .book) zeroWork }
+        record { observer = begunAt serial o 0 inputs (server .book) zeroWork; peer = begunAt serial o 1 zeros (phone .book) zeroWork }
 
-    begins-are : worldAfter keyCount s serial server phone start playCalls ≡ worldAfter keyCount s serial server phone (begun (phone .inputs)) (roundCalls rounds)
-    unfolding worldAfter step outcome begunAt
+    begins-are : jointAfter keyCount s serial server phone start playCalls ≡ jointAfter keyCount s serial server phone (begun (phone .inputs)) (roundCalls rounds)
+    unfolding jointAfter step outcome begunAt
     begins-are = refl
 
     pub played : playedWith serial o inputs (replicate (o .count * width) 0)
@@ -143,10 +143,10 @@ module _ (serial : ℕ) (o : Order) (ok : orderNo serial o ≡ 0) (fits : serial
         ≡ outcomeOf serial o
     unfolding playedWith outcomeOf
     played =
-        let zeros : missing width (multipliers ones ones) secret inputs ≡ replicate (o .count * width) 0 = missing-none secret ∙ ap (λ (n : ℕ). replicate (n * width) 0) secret-long in
-        let world : worldAfter keyCount s serial server phone start playCalls ≡ roundsPlayed rounds (begun (replicate (o .count * width) 0)) = begins-are ∙ rounds-are s serial server phone rounds (begun (phone .inputs)) ∙ ap (λ (z : List ℕ). roundsPlayed rounds (begun z)) zeros in
-        ap (λ (w : World). toldBy (w .own .side)) (sym world)
-        ∙ told-is s secret (worldAfter keyCount s serial server phone start playCalls .own .side) (ended .done) (ended .answer)
+        let zeros : missingShares width (multipliers ones ones) secret inputs ≡ replicate (o .count * width) 0 = missing-none secret ∙ ap (λ (n : ℕ). replicate (n * width) 0) secret-long in
+        let joint : jointAfter keyCount s serial server phone start playCalls ≡ roundsPlayed rounds (begun (replicate (o .count * width) 0)) = begins-are ∙ rounds-are s serial server phone rounds (begun (phone .inputs)) ∙ ap (λ (z : List ℕ). roundsPlayed rounds (begun z)) zeros in
+        ap (λ (w : JointState). toldBy (w .observer .side)) (sym joint)
+        ∙ told-is s secret (jointAfter keyCount s serial server phone start playCalls .observer .side) (ended .done) (ended .answer)
         ∙ rw ok
 
     module _ (a b : List ℕ) (a-long : length a ≡ shared (paramsIn (settingsOf o)) * width) (b-long : length b ≡ shared (paramsIn (settingsOf o)) * width) where
@@ -163,7 +163,7 @@ module _ (serial : ℕ) (o : Order) (ok : orderNo serial o ≡ 0) (fits : serial
       dealt = rw deal-asked
 
 -- what is played with the books of the deal is the plain meaning
-pub deal-play : (serial : ℕ) (o : Order) → orderNo serial o ≡ 0 → serial < 4294967296 → o .count ≤ length (o .numbers)
+pub deal-play : (serial : ℕ) (o : Request) → requestNo serial o ≡ 0 → serial < 4294967296 → o .count ≤ length (o .numbers)
     → (draw inputs zeros a b : List ℕ) → Lent o draw inputs zeros a b
     → (r : ℕ) (spread server phone : List ℕ) → spread ≡ inColumns (secretOf o)
     → _≡_ {A = Dealt} (record { refused = r; server = server; phone = phone }) (dealCall keyCount (settingsOf o .shape) ones ones draw a b)
@@ -175,8 +175,8 @@ deal-play serial o ok fits room draw inputs zeros a b l r spread server phone e 
     ∙ ap (λ (x : Dealt). playedWith serial o (inColumns (secretOf o)) (replicate (o .count * width) 0) (x .server) (x .phone)) books
     ∙ played serial o ok fits room draw (l .draw-long) (l .draw-below)
 
--- the fronts of zero arrays are the slices that an order asks for
-pub lent-is : (o : Order) (drawn size : ℕ) → drawn ≡ drawLength (paramsIn (settingsOf o)) width → drawn ≤ mostDraw
+-- the fronts of zero arrays are the slices that a request asks for
+pub lent-is : (o : Request) (drawn size : ℕ) → drawn ≡ drawLength (paramsIn (settingsOf o)) width → drawn ≤ mostDraw
     → size ≡ shared (paramsIn (settingsOf o)) → size ≤ 1320 → o .count ≤ 8
     → Lent o (take drawn (replicate mostDraw 0)) (take (o .count * width) (replicate mostInputs 0)) (take (o .count * width) (replicate mostInputs 0)) (take (size * width) (replicate mostBook 0)) (take (size * width) (replicate mostBook 0))
 lent-is o drawn size e l f m h =

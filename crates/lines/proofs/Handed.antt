@@ -16,7 +16,7 @@ use Rattle.settings.specs.Sizes.{keyCount, widthOf}
 use Rattle.settings.specs.Questions.{isBit, countOk, boundOk, keysOk, askSettings, askShape, settingsOk}
 use Rattle.settings.specs.declared.Settings.{Settings}
 use Rattle.book.specs.Deal.{multipliers}
-use Rattle.runs.specs.Records.{missing}
+use Rattle.runs.specs.Records.{missingShares}
 use Rattle.lines.specs.Play.{width, ones, inColumns}
 
 -- settings that passed questions 1 to 3
@@ -86,8 +86,8 @@ columns-at xs x l =
     rw e (getD-listTo (length xs * width) (λ (y : ℕ). getD xs (y / width) 0) x 0 l)
 
 -- what is missing to the coefficients is 0 throughout: the phone's inputs
-pub missing-none : (xs : List ℕ) → missing width (multipliers ones ones) xs (inColumns xs) ≡ replicate (length xs * width) 0
-unfolding missing
+pub missing-none : (xs : List ℕ) → missingShares width (multipliers ones ones) xs (inColumns xs) ≡ replicate (length xs * width) 0
+unfolding missingShares
 missing-none xs =
     listTo-cong (length xs * width) _ (λ (x : ℕ). 0)
     (λ x l. none-left (getD (multipliers ones ones) (x % width) 0) (getD xs (x / width) 0) (getD (inColumns xs) (x / width * width + x % width) 0) (one-of keyCount (x % width) (omega arith)) (columns-at xs x l))

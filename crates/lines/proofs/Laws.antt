@@ -15,7 +15,7 @@ use Rattle.side.specs.Side.{sendNo, sentSide, afterSend, sendCall}
 use Rattle.side.proofs.Sending.{send-ready}
 use Rattle.lists.specs.Lists.{inFront}
 use Rattle.settings.specs.Settings.{paramsIn}
-use Rattle.runs.specs.Records.{Seat, World}
+use Rattle.runs.specs.Records.{PartyState, JointState}
 use Rattle.lines.specs.Play.{sentAt, tookAt, serverHalf, phoneHalf, roundPlayed, roundsPlayed}
 
 -- a send writes no more than it is lent
@@ -38,21 +38,21 @@ length-front (suc n) [] h = absurd (omega arith)
 length-front (suc n) (x ∷ l) h = ap suc (length-front n l (omega arith))
 
 -- one half of a round, from its two calls
-pub server-half-is : (x x′ y y′ : Seat) → x′ ≡ sentAt x → y′ ≡ tookAt y (x′ .latest)
-    → _≡_ {A = World} (record { own = x′; other = y′ }) (serverHalf (record { own = x; other = y }))
+pub server-half-is : (x x′ y y′ : PartyState) → x′ ≡ sentAt x → y′ ≡ tookAt y (x′ .latest)
+    → _≡_ {A = JointState} (record { observer = x′; peer = y′ }) (serverHalf (record { observer = x; peer = y }))
 unfolding serverHalf
-server-half-is x x′ y y′ e f = ap₂ {C = World} (λ (a b : Seat). record { own = a; other = b }) e (f ∙ ap (λ (a : Seat). tookAt y (a .latest)) e)
+server-half-is x x′ y y′ e f = ap₂ {C = JointState} (λ (a b : PartyState). record { observer = a; peer = b }) e (f ∙ ap (λ (a : PartyState). tookAt y (a .latest)) e)
 
-pub phone-half-is : (x x′ y y′ : Seat) → y′ ≡ sentAt y → x′ ≡ tookAt x (y′ .latest)
-    → _≡_ {A = World} (record { own = x′; other = y′ }) (phoneHalf (record { own = x; other = y }))
+pub phone-half-is : (x x′ y y′ : PartyState) → y′ ≡ sentAt y → x′ ≡ tookAt x (y′ .latest)
+    → _≡_ {A = JointState} (record { observer = x′; peer = y′ }) (phoneHalf (record { observer = x; peer = y }))
 unfolding phoneHalf
-phone-half-is x x′ y y′ e f = ap₂ {C = World} (λ (a b : Seat). record { own = a; other = b }) (f ∙ ap (λ (b : Seat). tookAt x (b .latest)) e) e
+phone-half-is x x′ y y′ e f = ap₂ {C = JointState} (λ (a b : PartyState). record { observer = a; peer = b }) (f ∙ ap (λ (b : PartyState). tookAt x (b .latest)) e) e
 
 -- one more round
-pub round-again : (w v w′ : World) (n : ℕ) → v ≡ roundsPlayed n w → w′ ≡ roundPlayed v → w′ ≡ roundsPlayed (n + 1) w
+pub round-again : (w v w′ : JointState) (n : ℕ) → v ≡ roundsPlayed n w → w′ ≡ roundPlayed v → w′ ≡ roundsPlayed (n + 1) w
 unfolding roundsPlayed
 round-again w v w′ n e f = simp unary-clauses (f ∙ ap roundPlayed e)
 
-pub no-round : (w : World) → w ≡ roundsPlayed 0 w
+pub no-round : (w : JointState) → w ≡ roundsPlayed 0 w
 unfolding roundsPlayed
 no-round w = refl

@@ -6,7 +6,7 @@ use mathlib.Core.List.{List, []}
 use borrow.Author.Tests.{le-leb, lt-leb}
 use lib.Dec.{leb}
 use lib.ListN.{length, take}
-use Rattle.syntax.specs.declared.Order.{Order}
+use Rattle.syntax.specs.declared.Request.{Request}
 use Rattle.lines.specs.declared.Outcome.{Outcome}
 use Rattle.syntax.specs.Line.{tooLarge, lineOf}
 use Rattle.syntax.specs.Answer.{answerText, textOf}
@@ -25,11 +25,11 @@ pub line-beyond : (number : ℕ) (line : List ℕ) → tooLarge ≤ number → l
 unfolding lineAnswer
 line-beyond number line h = rw (le-leb tooLarge number h)
 
-pub line-malformed : (number : ℕ) (line : List ℕ) (o : Order) → number < tooLarge → o ≡ lineOf line → not (o .good) ≡ true → lineAnswer number line ≡ textOf (answerText number 12 [])
+pub line-malformed : (number : ℕ) (line : List ℕ) (o : Request) → number < tooLarge → o ≡ lineOf line → not (o .good) ≡ true → lineAnswer number line ≡ textOf (answerText number 12 [])
 unfolding lineAnswer
 line-malformed number line o h e g = rw (lt-leb tooLarge number h, ← e, no (o .good) g)
 
-pub line-played : (number : ℕ) (line : List ℕ) (o : Order) (r : Outcome) → number < tooLarge → o ≡ lineOf line → not (o .good) ≡ false → r ≡ outcomeOf number o
+pub line-played : (number : ℕ) (line : List ℕ) (o : Request) (r : Outcome) → number < tooLarge → o ≡ lineOf line → not (o .good) ≡ false → r ≡ outcomeOf number o
     → lineAnswer number line ≡ textOf (answerText number (r .refused) (take (r .length) (r .numbers)))
 unfolding lineAnswer
 line-played number line o r h e g f = rw (lt-leb tooLarge number h, ← e, ← f, yes (o .good) g)

@@ -9,43 +9,43 @@ use lib.ListN.{length, replicate, length-replicate}
 use borrow.Author.Tests.{le-leb}
 use Rattle.lists.specs.Lists.{joinFrom}
 use Rattle.settings.specs.Sizes.{keyCount, mostBytes, messageLength}
-use Rattle.settings.specs.Order.{rounds}
+use Rattle.settings.specs.Schedule.{rounds}
 use Rattle.settings.proofs.Sizes.{openings-most}
 use Rattle.settings.specs.declared.Settings.{Settings}
 use Rattle.settings.specs.Settings.{paramsIn, Params}
-use Rattle.runs.specs.Records.{Hand, World, Move, outcome, step, worldAfter}
-use Rattle.runs.specs.Records.Who.{mine, theirs}
+use Rattle.runs.specs.Records.{PartyInput, JointState, ScheduledCall, outcome, step, jointAfter}
+use Rattle.runs.specs.Records.Party.{observer, peer}
 use Rattle.runs.specs.Records.Call.{begin, send, takeLatest}
-use Rattle.runs.specs.Demands.{move, outFor, roundInOrder, holds, carriedThrough}
+use Rattle.runs.specs.Demands.{scheduled, outFor, roundInOrder, holds, carriedThrough}
 use Rattle.lines.specs.Play.{lent, sentAt, tookAt, serverHalf, phoneHalf, roundPlayed, roundsPlayed}
 
 -- the calls of so many rounds, as the code makes them
-abbrev pub roundCalls : ℕ → List Move
+abbrev pub roundCalls : ℕ → List ScheduledCall
 roundCalls zero = []
-roundCalls (suc n) = move mine (send lent) ∷ move theirs takeLatest ∷ move theirs (send lent) ∷ move mine takeLatest ∷ roundCalls n
+roundCalls (suc n) = scheduled observer (send lent) ∷ scheduled peer takeLatest ∷ scheduled peer (send lent) ∷ scheduled observer takeLatest ∷ roundCalls n
 
 -- all calls of a play
-abbrev pub playCalls : List Move
-playCalls = move mine begin ∷ move theirs begin ∷ roundCalls rounds
+abbrev pub playCalls : List ScheduledCall
+playCalls = scheduled observer begin ∷ scheduled peer begin ∷ roundCalls rounds
 
 -- the first round, or the last, set apart
-first-last : (n : ℕ) (w : World) → roundsPlayed n (roundPlayed w) ≡ roundPlayed (roundsPlayed n w)
+first-last : (n : ℕ) (w : JointState) → roundsPlayed n (roundPlayed w) ≡ roundPlayed (roundsPlayed n w)
 unfolding roundsPlayed
 first-last zero w = refl
 first-last (suc n) w = ap roundPlayed (first-last n w)
 
-module _ (s : Settings) (serial : ℕ) (h o : Hand) where
-  one-round : (w : World) (ms : List Move)
-      → worldAfter keyCount s serial h o w (move mine (send lent) ∷ move theirs takeLatest ∷ move theirs (send lent) ∷ move mine takeLatest ∷ ms)
-      ≡ worldAfter keyCount s serial h o (roundPlayed w) ms
-  unfolding worldAfter step outcome roundPlayed serverHalf phoneHalf sentAt tookAt
+module _ (s : Settings) (serial : ℕ) (h o : PartyInput) where
+  one-round : (w : JointState) (ms : List ScheduledCall)
+      → jointAfter keyCount s serial h o w (scheduled observer (send lent) ∷ scheduled peer takeLatest ∷ scheduled peer (send lent) ∷ scheduled observer takeLatest ∷ ms)
+      ≡ jointAfter keyCount s serial h o (roundPlayed w) ms
+  unfolding jointAfter step outcome roundPlayed serverHalf phoneHalf sentAt tookAt
   one-round w ms = refl
 
-  no-call : (w : World) → worldAfter keyCount s serial h o w [] ≡ w
-  unfolding worldAfter
+  no-call : (w : JointState) → jointAfter keyCount s serial h o w [] ≡ w
+  unfolding jointAfter
   no-call w = refl
 
-  pub rounds-are : (n : ℕ) (w : World) → worldAfter keyCount s serial h o w (roundCalls n) ≡ roundsPlayed n w
+  pub rounds-are : (n : ℕ) (w : JointState) → jointAfter keyCount s serial h o w (roundCalls n) ≡ roundsPlayed n w
   unfolding roundsPlayed
   rounds-are zero w = no-call w
   rounds-are (suc n) w = one-round w (roundCalls n) ∙ rounds-are n (roundPlayed w) ∙ first-last n w

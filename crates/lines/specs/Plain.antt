@@ -11,34 +11,34 @@ use Rattle.settings.specs.Questions.{askSettings}
 use Rattle.settings.specs.declared.Settings.{Settings}
 use Rattle.settings.specs.Settings.{settingsWith}
 use Rattle.runs.specs.Records.{answerOf}
-use Rattle.syntax.specs.declared.Order.{Order}
+use Rattle.syntax.specs.declared.Request.{Request}
 use Rattle.lines.specs.declared.Outcome.{Outcome}
 use Rattle.syntax.specs.declared.Text.{Text}
 use Rattle.syntax.specs.Line.{tooLarge, lineOf}
 use Rattle.syntax.specs.Answer.{answerText, textOf}
 
 -- the settings of a line
-abbrev pub settingsOf : Order → Settings
+abbrev pub settingsOf : Request → Settings
 settingsOf o = settingsWith (o .set) (o .kind) (o .count) (o .bound)
 
 -- its coefficients
-abbrev pub secretOf : Order → List ℕ
+abbrev pub secretOf : Request → List ℕ
 secretOf o = take (o .count) (o .numbers)
 
 -- The first no of the deal, then of the server's begin, then of the phone's, or 0 (`asked-in-order` proves it). The deal asks 1 and 2;
 -- keys, lengths and the all-zero draw pass 4 to 6. The server's begin asks 3, then 6 of the coefficients, then 7, where a fresh side
 -- has serial 0. The phone's begin refuses nothing more.
-unfoldable pub orderNo : ℕ → Order → ℕ
-orderNo serial o =
+unfoldable pub requestNo : ℕ → Request → ℕ
+requestNo serial o =
     askSettings 0 (settingsOf o)
     (ask (allBelow q (secretOf o)) 6
     (ask (ltb 0 serial) 7
     0))
 
 -- a refusal and no numbers; or the high parts, or the verdict, and zeros behind
-unfoldable pub outcomeOf : ℕ → Order → Outcome
+unfoldable pub outcomeOf : ℕ → Request → Outcome
 outcomeOf serial o =
-    let refusal = orderNo serial o in
+    let refusal = requestNo serial o in
     let answer = answerOf (settingsOf o) (secretOf o) in
     cond (eqb refusal 0)
     (record { refused = 0; length = length answer; numbers = inFront answer (replicate 8 0) })

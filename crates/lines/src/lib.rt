@@ -4,10 +4,10 @@ ghost use mathlib.Core.List.{[]};
 ghost use Prim.Native.Nat.{_*_, _≤_};
 ghost use lib.ListN.{length};
 ghost use Rattle.settings.specs.Sizes.{keyCount, mostBytes};
-ghost use Rattle.settings.specs.Order.{rounds};
+ghost use Rattle.settings.specs.Schedule.{rounds};
 ghost use Rattle.syntax.specs.Answer.{answerText, textOf};
-ghost use Rattle.lines.specs.Plain.{settingsOf, orderNo, outcomeOf, lineAnswer};
-ghost use Rattle.lines.specs.Play.{seatOf, worldOf, Fits, sentAt, tookAt, serverHalf, phoneHalf, roundPlayed, roundsPlayed, width, inColumns, begunAt, toldBy, playedWith, Lent};
+ghost use Rattle.lines.specs.Plain.{settingsOf, requestNo, outcomeOf, lineAnswer};
+ghost use Rattle.lines.specs.Play.{partyOf, jointOf, Fits, sentAt, tookAt, serverHalf, phoneHalf, roundPlayed, roundsPlayed, width, inColumns, begunAt, toldBy, playedWith, Lent};
 use dealer::deal;
 use field::all_below_q;
 use settings::KEYS;
@@ -29,7 +29,7 @@ use side::take;
 use state::Side;
 use state::answer;
 use state::fresh;
-use syntax::Order;
+use syntax::Request;
 use syntax::TOO_LARGE;
 use syntax::Text;
 use syntax::answer_text;
@@ -67,29 +67,29 @@ struct Table {
 // ---- The questions
 
 // The settings of a line.
-fn settings_of(order: Order) -> Settings
-    ensures { λ r. ⌜ r ≡ settingsOf order ⌝ }
+fn settings_of(request: Request) -> Settings
+    ensures { λ r. ⌜ r ≡ settingsOf request ⌝ }
 {
     Settings {
         shape: Shape {
-            set: order.set,
-            kind: order.kind,
-            n: order.count,
+            set: request.set,
+            kind: request.kind,
+            n: request.count,
         },
-        bound: order.bound,
+        bound: request.bound,
     }
 }
 
 // The first no that the deal and the begins would give, or 0.
-fn order_no(serial: u32, order: Order) -> u32
-    ensures { λ r. ⌜ r ≡ orderNo serial order ⌝ }
+fn request_no(serial: u32, request: Request) -> u32
+    ensures { λ r. ⌜ r ≡ requestNo serial request ⌝ }
 {
-    let no = settings_no(0, settings_of(order));
+    let no = settings_no(0, settings_of(request));
     if no != 0 {
         return no;
     }
-    let numbers = order.numbers;
-    let count = order.count as usize;
+    let numbers = request.numbers;
+    let count = request.count as usize;
     if !all_below_q(&numbers[..count]) {
         return NOT_BELOW_Q;
     }
@@ -104,7 +104,7 @@ fn order_no(serial: u32, order: Order) -> u32
 // The player sends.
 fn send_at(player: Player, work: &[u32]) -> Player
     requires { ⌜ player .length ≤ mostBytes keyCount ⌝ }
-    ensures { λ r. ⌜ (seatOf r (now (work .entry)) ≡ sentAt (seatOf player (now (work .entry)))) × (r .length ≤ mostBytes keyCount) ⌝ }
+    ensures { λ r. ⌜ (partyOf r (now (work .entry)) ≡ sentAt (partyOf player (now (work .entry)))) × (r .length ≤ mostBytes keyCount) ⌝ }
 {
     let mut message = [0u8; MOST_BYTES];
     let before = player.side;
@@ -128,7 +128,7 @@ fn send_at(player: Player, work: &[u32]) -> Player
 // The player takes the latest message of another.
 fn take_at(player: Player, work: &mut [u32], from: Player) -> Player
     requires { ⌜ from .length ≤ mostBytes keyCount ⌝ }
-    ensures { λ r. ⌜ (seatOf r (now (work .exit)) ≡ tookAt (seatOf player (now (work .entry))) (seatOf from [] .latest)) × (r .length ≡ player .length) ⌝ }
+    ensures { λ r. ⌜ (partyOf r (now (work .exit)) ≡ tookAt (partyOf player (now (work .entry))) (partyOf from [] .latest)) × (r .length ≡ player .length) ⌝ }
 {
     let handed = from.message;
     let size = from.length;
@@ -146,7 +146,7 @@ fn take_at(player: Player, work: &mut [u32], from: Player) -> Player
 // The server sends, the phone takes; the slices are their working slices.
 fn server_half(table: Table, server: &[u32], phone: &mut [u32]) -> Table
     requires { ⌜ Fits table ⌝ }
-    ensures { λ r. ⌜ (worldOf r (now (server .entry)) (now (phone .exit)) ≡ serverHalf (worldOf table (now (server .entry)) (now (phone .entry)))) × Fits r ⌝ }
+    ensures { λ r. ⌜ (jointOf r (now (server .entry)) (now (phone .exit)) ≡ serverHalf (jointOf table (now (server .entry)) (now (phone .entry)))) × Fits r ⌝ }
 {
     let first = table.server;
     let second = table.phone;
@@ -161,7 +161,7 @@ fn server_half(table: Table, server: &[u32], phone: &mut [u32]) -> Table
 // The phone sends, the server takes.
 fn phone_half(table: Table, server: &mut [u32], phone: &[u32]) -> Table
     requires { ⌜ Fits table ⌝ }
-    ensures { λ r. ⌜ (worldOf r (now (server .exit)) (now (phone .entry)) ≡ phoneHalf (worldOf table (now (server .entry)) (now (phone .entry)))) × Fits r ⌝ }
+    ensures { λ r. ⌜ (jointOf r (now (server .exit)) (now (phone .entry)) ≡ phoneHalf (jointOf table (now (server .entry)) (now (phone .entry)))) × Fits r ⌝ }
 {
     let first = table.phone;
     let second = table.server;
@@ -176,7 +176,7 @@ fn phone_half(table: Table, server: &mut [u32], phone: &[u32]) -> Table
 // One round.
 fn play_round(table: Table, server: &mut [u32], phone: &mut [u32]) -> Table
     requires { ⌜ Fits table ⌝ }
-    ensures { λ r. ⌜ (worldOf r (now (server .exit)) (now (phone .exit)) ≡ roundPlayed (worldOf table (now (server .entry)) (now (phone .entry)))) × Fits r ⌝ }
+    ensures { λ r. ⌜ (jointOf r (now (server .exit)) (now (phone .exit)) ≡ roundPlayed (jointOf table (now (server .entry)) (now (phone .entry)))) × Fits r ⌝ }
 {
     let half = server_half(table, server, phone);
     phone_half(half, server, phone)
@@ -185,7 +185,7 @@ fn play_round(table: Table, server: &mut [u32], phone: &mut [u32]) -> Table
 // The seven rounds.
 fn play_rounds(table: Table, server: &mut [u32], phone: &mut [u32]) -> Table
     requires { ⌜ Fits table ⌝ }
-    ensures { λ r. ⌜ worldOf r (now (server .exit)) (now (phone .exit)) ≡ roundsPlayed rounds (worldOf table (now (server .entry)) (now (phone .entry))) ⌝ }
+    ensures { λ r. ⌜ jointOf r (now (server .exit)) (now (phone .exit)) ≡ roundsPlayed rounds (jointOf table (now (server .entry)) (now (phone .entry))) ⌝ }
 {
     let mut at = table;
     let mut round: u32 = 0;
@@ -213,15 +213,15 @@ fn spread(out: &mut [u32], numbers: &[u32])
 // A player that has begun as side `number`.
 fn begin_at(
     serial: u32,
-    order: Order,
+    request: Request,
     number: u32,
     inputs: &[u32],
     book: &[u32],
     work: &mut [u32],
 ) -> Player
-    ensures { λ r. ⌜ (seatOf r (now (work .exit)) ≡ begunAt serial order number (now (inputs .entry)) (now (book .entry)) (now (work .entry))) × (r .length ≤ mostBytes keyCount) ⌝ }
+    ensures { λ r. ⌜ (partyOf r (now (work .exit)) ≡ begunAt serial request number (now (inputs .entry)) (now (book .entry)) (now (work .entry))) × (r .length ≤ mostBytes keyCount) ⌝ }
 {
-    let settings = settings_of(order);
+    let settings = settings_of(request);
     let run = Run {
         number,
         settings,
@@ -243,10 +243,10 @@ fn told_by(side: Side) -> Outcome
     ensures { λ r. ⌜ r ≡ toldBy side ⌝ }
 {
     let mut numbers = [0u32; 8];
-    let told = answer(side, &mut numbers);
+    let result = answer(side, &mut numbers);
     Outcome {
-        refused: told.refused,
-        length: told.length,
+        refused: result.refused,
+        length: result.length,
         numbers,
     }
 }
@@ -256,18 +256,18 @@ fn told_by(side: Side) -> Outcome
 // Both begin with the lent inputs and books, play, and the server answers.
 fn play_with(
     serial: u32,
-    order: Order,
+    request: Request,
     inputs: &[u32],
     zeros: &[u32],
     server: &[u32],
     phone: &[u32],
 ) -> Outcome
-    ensures { λ r. ⌜ r ≡ playedWith serial order (now (inputs .entry)) (now (zeros .entry)) (now (server .entry)) (now (phone .entry)) ⌝ }
+    ensures { λ r. ⌜ r ≡ playedWith serial request (now (inputs .entry)) (now (zeros .entry)) (now (server .entry)) (now (phone .entry)) ⌝ }
 {
     let mut server_work = [0u32; WORK_LENGTH];
     let mut phone_work = [0u32; WORK_LENGTH];
-    let first = begin_at(serial, order, 0, inputs, server, &mut server_work);
-    let second = begin_at(serial, order, 1, zeros, phone, &mut phone_work);
+    let first = begin_at(serial, request, 0, inputs, server, &mut server_work);
+    let second = begin_at(serial, request, 1, zeros, phone, &mut phone_work);
     let table = Table {
         server: first,
         phone: second,
@@ -281,34 +281,34 @@ fn play_with(
 // The deal into the lent books, and the play. The questions have been asked, so the deal refuses nothing.
 fn deal_and_play(
     serial: u32,
-    order: Order,
+    request: Request,
     draw: &[u32],
     inputs: &mut [u32],
     zeros: &[u32],
     server: &mut [u32],
     phone: &mut [u32],
 ) -> Outcome
-    requires { ⌜ orderNo serial order ≡ 0 ⌝ }
-    requires { ⌜ Lent order (now draw) (now inputs) (now zeros) (now server) (now phone) ⌝ }
-    ensures { λ r. ⌜ r ≡ outcomeOf serial order ⌝ }
+    requires { ⌜ requestNo serial request ≡ 0 ⌝ }
+    requires { ⌜ Lent request (now draw) (now inputs) (now zeros) (now server) (now phone) ⌝ }
+    ensures { λ r. ⌜ r ≡ outcomeOf serial request ⌝ }
 {
-    let numbers = order.numbers;
-    let count = order.count as usize;
+    let numbers = request.numbers;
+    let count = request.count as usize;
     spread(inputs, &numbers[..count]);
-    let shape = settings_of(order).shape;
+    let shape = settings_of(request).shape;
     deal(shape, [1; KEYS], [1; KEYS], draw, server, phone);
-    play_with(serial, order, inputs, zeros, server, phone)
+    play_with(serial, request, inputs, zeros, server, phone)
 }
 
-// An order that no question refuses, with slices of its lengths.
-fn play(serial: u32, order: Order) -> Outcome
-    requires { ⌜ orderNo serial order ≡ 0 ⌝ }
-    ensures { λ r. ⌜ r ≡ outcomeOf serial order ⌝ }
+// A request that no question refuses, with slices of its lengths.
+fn play(serial: u32, request: Request) -> Outcome
+    requires { ⌜ requestNo serial request ≡ 0 ⌝ }
+    ensures { λ r. ⌜ r ≡ outcomeOf serial request ⌝ }
 {
-    let shape = settings_of(order).shape;
+    let shape = settings_of(request).shape;
     let drawn = draw_length(shape);
     let size = shared_of(shape) * WIDTH;
-    let each = order.count as usize * WIDTH;
+    let each = request.count as usize * WIDTH;
     let draw = [0u32; DRAW_LENGTH];
     let mut inputs = [0u32; INPUTS_LENGTH];
     let zeros = [0u32; INPUTS_LENGTH];
@@ -316,7 +316,7 @@ fn play(serial: u32, order: Order) -> Outcome
     let mut phone = [0u32; BOOK_LENGTH];
     deal_and_play(
         serial,
-        order,
+        request,
         &draw[..drawn],
         &mut inputs[..each],
         &zeros[..each],
@@ -326,10 +326,10 @@ fn play(serial: u32, order: Order) -> Outcome
 }
 
 // What a line gives.
-fn play_order(serial: u32, order: Order) -> Outcome
-    ensures { λ r. ⌜ r ≡ outcomeOf serial order ⌝ }
+fn play_order(serial: u32, request: Request) -> Outcome
+    ensures { λ r. ⌜ r ≡ outcomeOf serial request ⌝ }
 {
-    let refused = order_no(serial, order);
+    let refused = request_no(serial, request);
     if refused != 0 {
         return Outcome {
             refused,
@@ -337,7 +337,7 @@ fn play_order(serial: u32, order: Order) -> Outcome
             numbers: [0; 8],
         };
     }
-    play(serial, order)
+    play(serial, request)
 }
 
 // ---- The whole line
@@ -358,11 +358,11 @@ pub fn answer_line(number: u64, line: &[u8]) -> Text
     if number >= TOO_LARGE {
         return malformed_text(number);
     }
-    let order = read_line(line);
-    if !order.good {
+    let request = read_line(line);
+    if !request.good {
         return malformed_text(number);
     }
-    let outcome = play_order(number as u32, order);
+    let outcome = play_order(number as u32, request);
     let numbers = outcome.numbers;
     answer_text(number, outcome.refused, outcome.length, numbers)
 }

@@ -6,3 +6,4 @@ pub mod Lists
 pub mod Fill
 pub mod Part
 pub mod Choices
+pub mod Bytes

@@ -39,15 +39,15 @@ and-true true = refl
 and-true false = refl
 
 -- what a function that answers a question has told
-pub told-yes : (r b : Bool) → r ≡ b → not r ≡ false → b ≡ true
-told-yes r b p q = sym p ∙ not-false r q
+pub answered-yes : (r b : Bool) → r ≡ b → not r ≡ false → b ≡ true
+answered-yes r b p q = sym p ∙ not-false r q
 
-pub told-no : (r b : Bool) → r ≡ b → not r ≡ true → b ≡ false
-told-no r b p q = sym p ∙ not-true r q
+pub answered-no : (r b : Bool) → r ≡ b → not r ≡ true → b ≡ false
+answered-no r b p q = sym p ∙ not-true r q
 
 pub ruleset tests = (lt-ltb, le-ltb, le-leb, lt-leb, eq-eqb, ne-eqb)
 
-pub ruleset walk = (told-yes, told-no, stop, skip, no-left, no-right, yes-both, and-yes, and-left, and-right, lt-ltb, le-ltb, le-leb, lt-leb, eq-eqb, ne-eqb)
+pub ruleset walk = (answered-yes, answered-no, stop, skip, no-left, no-right, yes-both, and-yes, and-left, and-right, lt-ltb, le-ltb, le-leb, lt-leb, eq-eqb, ne-eqb)
 
 -- ---- what a chain that ends with 0 says: every question was answered yes
 

@@ -1,8 +1,8 @@
 -- Words for lists: tests of every member, lists by an index function, and lists that are written into.
 use Prim.Native.Nat.{ℕ, zero, suc, _+_}
-use mathlib.Core.Bool.{Bool, true, _&&_}
+use mathlib.Core.Bool.{Bool, true, cond, _&&_}
 use mathlib.Core.List.{List, [], _∷_, _++_}
-use lib.Dec.{ltb}
+use lib.Dec.{eqb, ltb}
 use lib.ListN.{length, set, drop}
 
 -- does f say yes to each member?
@@ -49,3 +49,8 @@ inFront xs out = xs ++ drop (length xs) out
 unfoldable pub toFirst : ℕ → List (List ℕ) → List (List ℕ)
 toFirst x [] = (x ∷ []) ∷ []
 toFirst x (l ∷ ls) = (x ∷ l) ∷ ls
+
+-- how many members stand before the first b; all, where there is none
+unfoldable pub lengthBefore : ℕ → List ℕ → ℕ
+lengthBefore b [] = 0
+lengthBefore b (x ∷ xs) = cond (eqb x b) 0 (suc (lengthBefore b xs))

@@ -12,7 +12,7 @@ use Rattle.settings.specs.Settings.{paramsOf}
 use Rattle.settings.specs.Questions.{askSettings}
 use Rattle.message.specs.declared.Header.{Header}
 use Rattle.message.specs.Bits.{padding, packed, numberOf}
-use Rattle.settings.specs.Order.{roundOk}
+use Rattle.settings.specs.Schedule.{roundOk}
 use Rattle.settings.specs.Sizes.{fieldBits, fieldCount, messageBits, messageLength}
 
 -- "sender 1 bit, set 1, kind 1, N − 1 in 3, round 3, B 23, serial 32"

@@ -12,7 +12,7 @@ use Rattle.field.specs.Sums.{sumTo}
 use Rattle.field.proofs.Division.{Split, split, split-div, mod-same, mod-less, mod-view, unmask, mod-sub}
 use Rattle.settings.specs.Sets.{Scale}
 use Rattle.rounding.specs.Plain.{shifted, highOfShifted, highPart}
-use Rattle.rounding.specs.Rounds.{zeroDigit, topSum, top, over, missing, wrapOf, highResult}
+use Rattle.rounding.specs.Rounds.{zeroDigit, topSum, top, over, nonzeroCount, wrapOf, highResult}
 use Rattle.settings.specs.Theorems.{Lawful}
 use Rattle.rounding.proofs.Radix.{unit-alpha, top-is, Zeros, all-zero, some-not, zeros-view}
 use Rattle.rounding.proofs.ZeroCheck.{check-is}
@@ -102,9 +102,9 @@ module _ (p : Scale) (ok : Lawful p) where
       ]
 
   -- C: five less the zeros and G is 0 just where the sum is a multiple of α and G is 1
-  pub missing-zero : (y r : ℕ) → bit (eqb (missing p y r) 0) ≡ wrap p ((y + r) % p .alpha) (topSum p y r)
-  unfolding missing
-  missing-zero y r =
+  pub nonzero-count-zero : (y r : ℕ) → bit (eqb (nonzeroCount p y r) 0) ≡ wrap p ((y + r) % p .alpha) (topSum p y r)
+  unfolding nonzeroCount
+  nonzero-count-zero y r =
       let g : ℕ = over (p .parts) (topSum p y r) in
       let z : ℕ = sumTo 4 (zeroDigit p y r) in
       let b : g ≤ 1 = bit-le (ltb (p .parts) (topSum p y r)) in
@@ -117,9 +117,9 @@ module _ (p : Scale) (ok : Lawful p) where
       go z l g h (some-not a e) =
           rw (eq-zero {a = 5 - (z + g)} {b = 0} (omega arith), eq-zero {a = l} {b = 0} (omega arith)) (omega arith)
 
-  pub missing-le : (y r : ℕ) → missing p y r ≤ 5
-  unfolding missing
-  missing-le y r = omega arith
+  pub nonzero-count-le : (y r : ℕ) → nonzeroCount p y r ≤ 5
+  unfolding nonzeroCount
+  nonzero-count-le y r = omega arith
 
   -- the whole run of HIGH, from the coefficient and any two masks
   pub result-is : (w r ρ : ℕ) → w < p .modulus → r < p .modulus → ρ < p .modulus → highResult p ρ (sub (p .modulus) (shifted p w) r) r ≡ highPart p w
@@ -129,7 +129,7 @@ module _ (p : Scale) (ok : Lawful p) where
       let pos : 0 < m = omega arith in
       let hy : y < m = mod-lt (shifted p w + (m - r % m)) pos in
       let c : wrapOf p ρ y r ≡ wrap p ((y + r) % p .alpha) ((y + r) / p .alpha) =
-      check-is m 5 pos (ok .checks) ρ (missing p y r) hρ (missing-le y r) ∙ missing-zero y r ∙ ap (wrap p ((y + r) % p .alpha)) (top-is p ok y r) in
+      check-is m 5 pos (ok .checks) ρ (nonzeroCount p y r) hρ (nonzero-count-le y r) ∙ nonzero-count-zero y r ∙ ap (wrap p ((y + r) % p .alpha)) (top-is p ok y r) in
       let t : top (p .parts) (topSum p y r) ≡ top (p .parts) ((y + r) / p .alpha) = ap (top (p .parts)) (top-is p ok y r) in
       let le = wrap-le p ((y + r) % p .alpha) ((y + r) / p .alpha) in
       let small = top-small y r hy hr in

@@ -1,12 +1,12 @@
 -- The laws of the plain arithmetic, all together.
-use Rattle.rounding.specs.Theorems.{T0}
+use Rattle.rounding.specs.Theorems.{PlainLaws}
 use Rattle.rounding.proofs.Decompose.{high-is, join-is}
 use Rattle.rounding.proofs.Radix.{digits-join, digit-below, carry-next, zero-is, top-is}
 use Rattle.rounding.proofs.ZeroCheck.{check-is}
 use Rattle.rounding.proofs.HighResult.{result-is}
 use Rattle.rounding.proofs.BoundResult.{compare-is, inside-is}
 
-pub rounding-laws : T0
+pub rounding-laws : PlainLaws
 rounding-laws =
     record {
       high = high-is;

@@ -37,8 +37,8 @@ module _ (p : Scale) where
   topSum y r = digit p r 4 + (digit p y 4 + carryInto y r 4)
 
   -- "Round 6 zero-checks 5 − (z0 + z1 + z2 + z3 + G)"
-  unfoldable pub missing : ℕ → ℕ → ℕ
-  missing y r = 5 - (sumTo 4 (zeroDigit y r) + over (p .parts) (topSum y r))
+  unfoldable pub nonzeroCount : ℕ → ℕ → ℕ
+  nonzeroCount y r = 5 - (sumTo 4 (zeroDigit y r) + over (p .parts) (topSum y r))
 
 -- ---- The zero check of n, 0 to K, modulo m
 
@@ -56,7 +56,7 @@ checkResult m k ρ opened = bit (eqb (opened / gap m k) (ρ / gap m k))
 
 -- C of HIGH, with K = 5
 abbrev pub wrapOf : Scale → ℕ → ℕ → ℕ → ℕ
-wrapOf p ρ y r = checkResult (p .modulus) 5 ρ (checkOpens (p .modulus) 5 ρ (missing p y r))
+wrapOf p ρ y r = checkResult (p .modulus) 5 ρ (checkOpens (p .modulus) 5 ρ (nonzeroCount p y r))
 
 -- "Round 7 opens F − C"
 abbrev pub highResult : Scale → ℕ → ℕ → ℕ → ℕ

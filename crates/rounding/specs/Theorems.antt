@@ -17,7 +17,7 @@ abbrev pub residue : ℕ → ℤ → ℕ
 residue m (pos x) = x % m
 residue m (negsuc x) = (m - suc x % m) % m
 
-pub record T0 : Type 0 where
+pub record PlainLaws : Type 0 where
   -- 01's high part is Decompose's (its low part is by definition); high × α + low is w modulo q
   pub high : (p : Scale) → Lawful p → (w : ℕ) → w < p .modulus → pos (highPart p w) ≡ decompose p w .high
   pub join : (p : Scale) → Lawful p → (w : ℕ) → w < p .modulus → residue (p .modulus) (pos (highPart p w) *ℤ pos (p .alpha) +ℤ lowPart p w) ≡ w

@@ -20,21 +20,21 @@ use Rattle.rounding.specs.Rounds.{gap}
 use Rattle.settings.proofs.Sets.{lawful}
 use Rattle.rounding.proofs.Decompose.{high-is}
 use Rattle.settings.specs.Sizes.{widthOf, openings, openingsUpTo}
-use Rattle.settings.specs.Order.{rounds, steps}
+use Rattle.settings.specs.Schedule.{rounds, steps}
 use Rattle.column.specs.Run.{openedFrom, plainOpened}
-use Rattle.column.specs.Theorems.{Sound, T2}
+use Rattle.column.specs.Theorems.{Sound, PlainRun}
 use Rattle.state.specs.State.{heldAnswer, finished, countCall}
 use Rattle.side.specs.Side.{begunSide}
 use Rattle.settings.specs.declared.Settings.{Settings}
 use Rattle.settings.specs.Questions.{settingsOk}
 use Rattle.settings.specs.Settings.{paramsIn, termsOf}
 use Rattle.settings.proofs.Sizes.{shared-most}
-use Rattle.runs.specs.Records.{answerOf, Hand}
-use Rattle.runs.specs.Demands.{Secret, Possible, Ended, Demand2, FipsHigh, ownHand, otherHand}
-use Rattle.runs.specs.Progress.{sideAt, seatAt, worldAt}
-use Rattle.runs.specs.Theorems.{T3}
-use Rattle.runs.proofs.Seats.{Which, FieldsPass}
-use Rattle.runs.proofs.Seats.Which.{server, phone}
+use Rattle.runs.specs.Records.{answerOf, PartyInput}
+use Rattle.runs.specs.Demands.{Secret, Possible, Ended, Demand2, FipsHigh, observerInput, peerInput}
+use Rattle.runs.specs.Progress.{sideAt, partyAt, jointAt}
+use Rattle.runs.specs.Theorems.{Progress}
+use Rattle.runs.proofs.PartyStates.{Which, FieldsPass}
+use Rattle.runs.proofs.PartyStates.Which.{server, phone}
 use Rattle.runs.proofs.Whole.{allowed, terms}
 use Rattle.runs.proofs.Steady.{finished-at, count-at}
 use Rattle.runs.proofs.Carried.{carried}
@@ -54,7 +54,7 @@ unfolding answerOf
 fips-high s secret e kind x =
     rw kind (high-parts (s .shape .set) (ltb-true (s .shape .set) 2 (allowed s e .set-bit)) secret (x .below))
 
--- ---- What T2 asks
+-- ---- What PlainRun asks
 
 bound-some : (b : Bool) (bound : ℕ) → cond b (eqb bound 0) (leb 1 bound && leb bound 4190208) ≡ true
     → (cond b (eqb bound 0) (ltb 0 bound) ≡ true) × (2 * bound < q)
@@ -98,22 +98,22 @@ front-list n xs ys e =
     (listTo-cong (length xs) (λ (j : ℕ). getD (xs ++ ys) j 0) (λ (j : ℕ). getD xs j 0) (λ j l. List·getD-append xs ys 0 j l) ∙ listTo-getD xs)
 
 module _ (k : ℕ) (s : Settings) (serial : ℕ) (numbers : ℕ → List ℕ) where
-  held-at : (h : Hand) → Which h → length (numbers (rounds - 1)) ≡ openings (paramsIn s) rounds → heldAnswer (sideAt k s serial numbers h steps) ≡ numbers (rounds - 1)
+  held-at : (h : PartyInput) → Which h → length (numbers (rounds - 1)) ≡ openings (paramsIn s) rounds → heldAnswer (sideAt k s serial numbers h steps) ≡ numbers (rounds - 1)
   unfolding sideAt begunSide openings
   held-at _ server e = front-list _ (numbers (rounds - 1)) (drop (length (numbers (rounds - 1))) (replicate 8 0)) e
   held-at _ phone e = front-list _ (numbers (rounds - 1)) (drop (length (numbers (rounds - 1))) (replicate 8 0)) e
 
-  ended-at : (h : Hand) → Which h → FieldsPass s serial h → (secret : List ℕ) → numbers (rounds - 1) ≡ answerOf s secret → length (numbers (rounds - 1)) ≡ openings (paramsIn s) rounds
-      → Ended s secret (seatAt k s serial numbers h steps)
-  unfolding seatAt
+  ended-at : (h : PartyInput) → Which h → FieldsPass s serial h → (secret : List ℕ) → numbers (rounds - 1) ≡ answerOf s secret → length (numbers (rounds - 1)) ≡ openings (paramsIn s) rounds
+      → Ended s secret (partyAt k s serial numbers h steps)
+  unfolding partyAt
   ended-at h u t secret e l =
       record { done = done-at h u t; answer = held-at h u l ∙ e; openings = opened-at h u t }
     where
-      done-at : (h : Hand) → Which h → FieldsPass s serial h → finished (sideAt k s serial numbers h steps) ≡ true
+      done-at : (h : PartyInput) → Which h → FieldsPass s serial h → finished (sideAt k s serial numbers h steps) ≡ true
       done-at h server t = finished-at k s serial numbers h (omega arith) t steps (omega arith)
       done-at h phone t = finished-at k s serial numbers h (omega arith) t steps (omega arith)
 
-      opened-at : (h : Hand) → Which h → FieldsPass s serial h → countCall (sideAt k s serial numbers h steps) ≡ openingsUpTo (paramsIn s) rounds
+      opened-at : (h : PartyInput) → Which h → FieldsPass s serial h → countCall (sideAt k s serial numbers h steps) ≡ openingsUpTo (paramsIn s) rounds
       opened-at h server t = count-at k s serial numbers h (omega arith) t steps (omega arith)
       opened-at h phone t = count-at k s serial numbers h (omega arith) t steps (omega arith)
 
@@ -122,13 +122,13 @@ opened-size : (s : Settings) (width : ℕ) (draw secret : List ℕ)
 unfolding plainOpened openedFrom
 opened-size s width draw secret = length-listFrom 0 _ _
 
-pub demand2 : (k : ℕ) → T3 k → T2 → Demand2 k
-unfolding worldAt answerOf
-demand2 k progress t2 s serial keys0 keys1 f secret inputs draw x y d w i calls e =
+pub demand2 : (k : ℕ) → Progress k → PlainRun → Demand2 k
+unfolding jointAt answerOf
+demand2 k progress plain-run-law s serial keys0 keys1 f secret inputs draw x y d w i calls e =
     let numbers : ℕ → List ℕ = plainOpened (termsOf s) (widthOf k) draw secret in
-    let h : Hand = ownHand k s 0 keys0 keys1 inputs draw in
-    let o : Hand = otherHand k s 0 keys0 keys1 inputs secret draw in
-    let a : numbers (rounds - 1) ≡ answerOf s secret = t2 .answer (termsOf s) k draw secret (sound k s secret draw (f .settings) x d) in
+    let h : PartyInput = observerInput k s 0 keys0 keys1 inputs draw in
+    let o : PartyInput = peerInput k s 0 keys0 keys1 inputs secret draw in
+    let a : numbers (rounds - 1) ≡ answerOf s secret = plain-run-law .answer (termsOf s) k draw secret (sound k s secret draw (f .settings) x d) in
     let l = opened-size s (widthOf k) draw secret in
     rw (progress s serial keys0 keys1 f 0 (omega arith) secret inputs draw x y d w i calls, carried k s calls e) (
       ended-at k s serial numbers h server (terms k s serial keys0 keys1 f 0 (omega arith) draw inputs) secret a l,

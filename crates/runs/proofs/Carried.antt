@@ -10,14 +10,14 @@ use lib.ListN.{length, replicate, length-replicate}
 use borrow.Author.Tests.{le-leb, lt-ltb, leb-true, ltb-true, eqb-true}
 use Rattle.lists.specs.Lists.{joinFrom}
 use Rattle.lists.proofs.Questions.{both-yes}
-use Rattle.settings.specs.Order.{rounds, steps, goesOn, roundAfter, sendsAfter, takenBy, sendStep, takeStep}
+use Rattle.settings.specs.Schedule.{rounds, steps, goesOn, roundAfter, sendsAfter, takenBy, sendStep, takeStep}
 use Rattle.settings.specs.Sizes.{messageLength}
 use Rattle.settings.specs.declared.Settings.{Settings}
 use Rattle.settings.specs.Settings.{paramsIn}
-use Rattle.runs.specs.Records.{Call, Who, Move}
-use Rattle.runs.specs.Records.Who.{mine, theirs}
+use Rattle.runs.specs.Records.{Call, Party, ScheduledCall}
+use Rattle.runs.specs.Records.Party.{observer, peer}
 use Rattle.runs.specs.Records.Call.{begin, send, takeLatest, answer, count}
-use Rattle.runs.specs.Demands.{outFor, roundInOrder, phoneSecond, phoneFirst, phoneLate, whoNumber, callNumber, room, isCall, holds, carriedThrough}
+use Rattle.runs.specs.Demands.{outFor, roundInOrder, phoneSecond, phoneFirst, phoneLate, partyNumber, callNumber, room, isCall, holds, carriedThrough}
 use Rattle.runs.specs.Progress.{Counts, none, sentOf, onward, roomFor, next, stepCounts, countsAfter}
 use Rattle.runs.proofs.Counts.{Moved, next-moved, next-send, next-take}
 use Rattle.runs.proofs.Counts.Moved.{stays, began, sent, took}
@@ -104,57 +104,57 @@ module _ (k : ℕ) (s : Settings) (number : ℕ) where
 -- ---- Both counts
 
 record Behind (c d : Counts) : Type 0 where
-  own : c .own ≤ d .own
-  other : c .other ≤ d .other
+  observer : c .observer ≤ d .observer
+  peer : c .peer ≤ d .peer
 
 module _ (k : ℕ) (s : Settings) where
-  grows : (c d : Counts) → Behind c d → (who : Who) (call : Call) → Behind c (stepCounts k s 0 d who call)
+  grows : (c d : Counts) → Behind c d → (party : Party) (call : Call) → Behind c (stepCounts k s 0 d party call)
   unfolding stepCounts
-  grows c d b mine call = record { own = omega (arith, next-near k s 0 (sentOf (1 - 0) (d .other)) call (d .own) .0); other = b .other }
-  grows c d b theirs call = record { own = b .own; other = omega (arith, next-near k s (1 - 0) (sentOf 0 (d .own)) call (d .other) .0) }
+  grows c d b observer call = record { observer = omega (arith, next-near k s 0 (sentOf (1 - 0) (d .peer)) call (d .observer) .0); peer = b .peer }
+  grows c d b peer call = record { observer = b .observer; peer = omega (arith, next-near k s (1 - 0) (sentOf 0 (d .observer)) call (d .peer) .0) }
 
   -- the planned call in both, with as much room
-  both-step : (c d : Counts) → Behind c d → (who who′ : Who) (call call′ : Call)
-      → whoNumber who ≡ whoNumber who′ → callNumber call ≡ callNumber call′ → room call ≤ room call′
-      → Behind (stepCounts k s 0 c who call) (stepCounts k s 0 d who′ call′)
+  both-step : (c d : Counts) → Behind c d → (party who′ : Party) (call call′ : Call)
+      → partyNumber party ≡ partyNumber who′ → callNumber call ≡ callNumber call′ → room call ≤ room call′
+      → Behind (stepCounts k s 0 c party call) (stepCounts k s 0 d who′ call′)
   unfolding stepCounts
-  both-step c d b mine mine call call′ e f r =
-      let heard = sent-more (1 - 0) (c .other) (d .other) (b .other) in
-      record { own = next-more k s 0 _ _ call call′ (c .own) (d .own) heard (b .own) (like k s 0 call call′ f r); other = b .other }
-  both-step c d b theirs theirs call call′ e f r =
-      let heard = sent-more 0 (c .own) (d .own) (b .own) in
-      record { own = b .own; other = next-more k s (1 - 0) _ _ call call′ (c .other) (d .other) heard (b .other) (like k s (1 - 0) call call′ f r) }
-  both-step c d b mine theirs call call′ e f r = absurd (omega arith)
-  both-step c d b theirs mine call call′ e f r = absurd (omega arith)
+  both-step c d b observer observer call call′ e f r =
+      let heard = sent-more (1 - 0) (c .peer) (d .peer) (b .peer) in
+      record { observer = next-more k s 0 _ _ call call′ (c .observer) (d .observer) heard (b .observer) (like k s 0 call call′ f r); peer = b .peer }
+  both-step c d b peer peer call call′ e f r =
+      let heard = sent-more 0 (c .observer) (d .observer) (b .observer) in
+      record { observer = b .observer; peer = next-more k s (1 - 0) _ _ call call′ (c .peer) (d .peer) heard (b .peer) (like k s (1 - 0) call call′ f r) }
+  both-step c d b observer peer call call′ e f r = absurd (omega arith)
+  both-step c d b peer observer call call′ e f r = absurd (omega arith)
 
   -- the counts of a plan stay behind those of a list that holds it
-  overtakes : (plan calls : List Move) (c d : Counts) → Behind c d → holds plan calls ≡ true → Behind (countsAfter k s 0 c plan) (countsAfter k s 0 d calls)
+  overtakes : (plan calls : List ScheduledCall) (c d : Counts) → Behind c d → holds plan calls ≡ true → Behind (countsAfter k s 0 c plan) (countsAfter k s 0 d calls)
   unfolding holds countsAfter
   overtakes [] [] c d b e = b
-  overtakes [] (m ∷ ms) c d b e = overtakes [] ms c (stepCounts k s 0 d (m .who) (m .call)) (grows c d b (m .who) (m .call)) (holds-none ms)
+  overtakes [] (m ∷ ms) c d b e = overtakes [] ms c (stepCounts k s 0 d (m .party) (m .call)) (grows c d b (m .party) (m .call)) (holds-none ms)
     where
-      holds-none : (ms : List Move) → holds [] ms ≡ true
+      holds-none : (ms : List ScheduledCall) → holds [] ms ≡ true
       holds-none [] = refl
       holds-none (m ∷ ms) = refl
   overtakes (p ∷ ps) [] c d b e = absurd (true≢false (sym e))
   overtakes (p ∷ ps) (m ∷ ms) c d b e =
-      by (isCall p m) refl (λ x f. overtakes ps ms _ _ x f) (λ f. overtakes (p ∷ ps) ms c _ (grows c d b (m .who) (m .call)) f)
+      by (isCall p m) refl (λ x f. overtakes ps ms _ _ x f) (λ f. overtakes (p ∷ ps) ms c _ (grows c d b (m .party) (m .call)) f)
     where
       by : {Goal : Type 0} (t : Bool) → isCall p m ≡ t
-          → (Behind (stepCounts k s 0 c (p .who) (p .call)) (stepCounts k s 0 d (m .who) (m .call)) → holds ps ms ≡ true → Goal)
+          → (Behind (stepCounts k s 0 c (p .party) (p .call)) (stepCounts k s 0 d (m .party) (m .call)) → holds ps ms ≡ true → Goal)
           → (holds (p ∷ ps) ms ≡ true → Goal)
           → Goal
       by true f go stay =
-          let x = both-yes (eqb (whoNumber (p .who)) (whoNumber (m .who)) && eqb (callNumber (p .call)) (callNumber (m .call))) (leb (room (p .call)) (room (m .call))) f in
-          let y = both-yes (eqb (whoNumber (p .who)) (whoNumber (m .who))) (eqb (callNumber (p .call)) (callNumber (m .call))) (x .0) in
-          go (both-step c d b (p .who) (m .who) (p .call) (m .call) (eqb-true _ _ (y .0)) (eqb-true _ _ (y .1)) (leb-true _ _ (x .1))) (rw f at e)
+          let x = both-yes (eqb (partyNumber (p .party)) (partyNumber (m .party)) && eqb (callNumber (p .call)) (callNumber (m .call))) (leb (room (p .call)) (room (m .call))) f in
+          let y = both-yes (eqb (partyNumber (p .party)) (partyNumber (m .party))) (eqb (callNumber (p .call)) (callNumber (m .call))) (x .0) in
+          go (both-step c d b (p .party) (m .party) (p .call) (m .call) (eqb-true _ _ (y .0)) (eqb-true _ _ (y .1)) (leb-true _ _ (x .1))) (rw f at e)
       by false f go stay = stay (rw f at e)
 
   -- ---- The plans
 
   -- both sides before round R + 1
   abbrev before : ℕ → Counts
-  before R = record { own = suc (sendStep 0 R); other = suc (takeStep 1 R) }
+  before R = record { observer = suc (sendStep 0 R); peer = suc (takeStep 1 R) }
 
   enough : (round : ℕ) → roomFor k s round (length (outFor k s round)) ≡ true
   enough round =
@@ -168,7 +168,7 @@ module _ (k : ℕ) (s : Settings) where
   take-goes : (number heard R : ℕ) → number < 2 → R < rounds → R < heard → next k s number heard takeLatest (suc (takeStep number R)) ≡ suc (suc (takeStep number R))
   take-goes number heard R u r l = rw (next-take k s number heard u R r, lt-ltb R heard l)
 
-  round-goes : (R : ℕ) → R < rounds → (rest : List Move) → countsAfter k s 0 (before R) (roundInOrder k s (suc R) ++ rest) ≡ countsAfter k s 0 (before (suc R)) rest
+  round-goes : (R : ℕ) → R < rounds → (rest : List ScheduledCall) → countsAfter k s 0 (before R) (roundInOrder k s (suc R) ++ rest) ≡ countsAfter k s 0 (before (suc R)) rest
   unfolding countsAfter stepCounts
   round-goes R r rest =
       let half : suc (suc (takeStep 1 R)) ≡ suc (sendStep 1 R) = omega arith in
@@ -213,16 +213,16 @@ module _ (k : ℕ) (s : Settings) where
   any-plan false false true P f g h e = h refl
   any-plan false false false P f g h e = absurd (true≢false (sym e))
 
-  at-end : (plan calls : List Move) → countsAfter k s 0 none plan ≡ before rounds → holds plan calls ≡ true → countsAfter k s 0 none calls ≡ before rounds
+  at-end : (plan calls : List ScheduledCall) → countsAfter k s 0 none plan ≡ before rounds → holds plan calls ≡ true → countsAfter k s 0 none calls ≡ before rounds
   at-end plan calls e f =
       let p = pace-after k s 0 (omega arith) calls none (start-pace 0) in
-      let b = rw e at (overtakes plan calls none none (record { own = omega arith; other = omega arith }) f) in
-      same-counts (countsAfter k s 0 none calls) (omega (arith, p .own-most, b .own)) (omega (arith, p .other-most, b .other))
+      let b = rw e at (overtakes plan calls none none (record { observer = omega arith; peer = omega arith }) f) in
+      same-counts (countsAfter k s 0 none calls) (omega (arith, p .own-most, b .observer)) (omega (arith, p .other-most, b .peer))
     where
-      same-counts : (c : Counts) → c .own ≡ suc steps → c .other ≡ suc steps → c ≡ before rounds
+      same-counts : (c : Counts) → c .observer ≡ suc steps → c .peer ≡ suc steps → c ≡ before rounds
       same-counts c e f = rw (e, f)
 
-  pub carried : (calls : List Move) → carriedThrough k s calls ≡ true → countsAfter k s 0 none calls ≡ record { own = suc steps; other = suc steps }
+  pub carried : (calls : List ScheduledCall) → carriedThrough k s calls ≡ true → countsAfter k s 0 none calls ≡ record { observer = suc steps; peer = suc steps }
   unfolding carriedThrough
   carried calls e =
       any-plan (holds (phoneSecond k s) calls) (holds (phoneFirst k s) calls) (holds (phoneLate k s) calls) (countsAfter k s 0 none calls ≡ before rounds)

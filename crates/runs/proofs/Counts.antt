@@ -7,8 +7,8 @@ use native.Mathlib.Omega.{arith}
 use lib.ListN.{length}
 use lib.Dec.{ltb}
 use borrow.Author.Tests.{ltb-true, eqb-true, eqb-false}
-use Rattle.settings.specs.Order.{rounds, steps, roundAfter, sendsAfter, takenBy, sendStep, takeStep}
-use Rattle.settings.proofs.Order.{send-on, take-on, send-sends, take-takes, send-round}
+use Rattle.settings.specs.Schedule.{rounds, steps, roundAfter, sendsAfter, takenBy, sendStep, takeStep}
+use Rattle.settings.proofs.Schedule.{send-on, take-on, send-sends, take-takes, send-round}
 use Rattle.settings.specs.declared.Settings.{Settings}
 use Rattle.runs.specs.Records.{Call}
 use Rattle.runs.specs.Records.Call.{begin, send, takeLatest, answer, count}

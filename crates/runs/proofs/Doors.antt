@@ -1,4 +1,4 @@
--- What the doors answer at a seat of which little is known, and what a call then leaves there.
+-- What the doors answer at a party state of which little is known, and what a call then leaves there.
 use Prim.Native.Nat.{ℕ, suc}
 use mathlib.Core.Path.{_≡_, refl, ap}
 use mathlib.Core.List.{List, [], _∷_, _++_}
@@ -20,9 +20,9 @@ use Rattle.opening.specs.Opening.{message, passes, dueHeader}
 use Rattle.side.specs.Side.{handedNo, beginNo, beginCall, begunSide, sendNo, sendCall, sentSide, takeNo, takeCall, takenSide, openedList}
 use Rattle.settings.specs.declared.Settings.{Settings}
 use Rattle.settings.specs.Settings.{paramsIn, termsOf}
-use Rattle.runs.specs.Records.{Hand, Seat, Event, Outcome, outcome, runOf}
+use Rattle.runs.specs.Records.{PartyInput, PartyState, Observation, Outcome, outcome, runOf}
 use Rattle.runs.specs.Records.Call.{begin, send, takeLatest}
-use Rattle.runs.specs.Records.Event.{began, sent, took, answered, counted}
+use Rattle.runs.specs.Records.Observation.{began, sent, took, answered, counted}
 use Rattle.runs.proofs.Laws.{message-sized}
 
 -- what was written in front
@@ -44,24 +44,24 @@ pub ask-in : (b : Bool) (n : ℕ) → b ≡ true → eqb (ask b n 0) 0 ≡ true
 unfolding ask
 ask-in b n e = rw e refl
 
--- what the begin of hand h answers at a seat, and what each call leaves there when it goes through
-abbrev pub beginNoAt : ℕ → Settings → ℕ → Hand → Seat → ℕ
+-- what the begin of input h answers at a party state, and what each call leaves there when it goes through
+abbrev pub beginNoAt : ℕ → Settings → ℕ → PartyInput → PartyState → ℕ
 beginNoAt k s serial h x =
     beginNo k (x .side) (runOf s serial h) (h .inputs) (h .book) (x .work)
 
-abbrev pub begunSeat : ℕ → Settings → ℕ → Hand → Seat → Seat
-begunSeat k s serial h x =
+abbrev pub begunState : ℕ → Settings → ℕ → PartyInput → PartyState → PartyState
+begunState k s serial h x =
     record {
       side = begunSide (runOf s serial h);
       work = begunWork (paramsIn s) (widthOf k) (h .inputs) (h .book);
       latest = x .latest;
     }
 
-abbrev pub sentSeat : ℕ → Seat → Seat
-sentSeat k x = record { side = sentSide (x .side); work = x .work; latest = message k (x .side) (x .work) }
+abbrev pub sentState : ℕ → PartyState → PartyState
+sentState k x = record { side = sentSide (x .side); work = x .work; latest = message k (x .side) (x .work) }
 
-abbrev pub takenSeat : ℕ → Seat → List ℕ → Seat
-takenSeat k x numbers =
+abbrev pub takenState : ℕ → PartyState → List ℕ → PartyState
+takenState k x numbers =
     record {
       side = takenSide (x .side) numbers;
       work = takenWork (termsOf (x .side .settings)) (x .side .round) (λ (o : ℕ). getD numbers o 0)
@@ -70,49 +70,49 @@ takenSeat k x numbers =
     }
 
 -- was a call accepted that moves a run?
-abbrev pub accepted : Event → Bool
+abbrev pub accepted : Observation → Bool
 accepted (began r) = eqb r 0
 accepted (sent r m) = eqb r 0
 accepted (took r m) = eqb r 0
 accepted (answered r ns) = false
 accepted (counted c) = false
 
--- a call leaves the seat x, and was accepted or not
-pub record Leaves (o : Outcome) (x : Seat) (went : Bool) : Type 0 where
-  pub seat-is : o .seat ≡ x
-  pub went-is : accepted (o .event) ≡ went
+-- a call leaves the party state x, and was accepted or not
+pub record Leaves (o : Outcome) (x : PartyState) (went : Bool) : Type 0 where
+  pub state-is : o .state ≡ x
+  pub went-is : accepted (o .observation) ≡ went
 
-module _ (k : ℕ) (s : Settings) (serial : ℕ) (h : Hand) (m : List ℕ) (x : Seat) where
-  pub begin-go : eqb (beginNoAt k s serial h x) 0 ≡ true → Leaves (outcome k s serial h m x begin) (begunSeat k s serial h x) true
+module _ (k : ℕ) (s : Settings) (serial : ℕ) (h : PartyInput) (m : List ℕ) (x : PartyState) where
+  pub begin-go : eqb (beginNoAt k s serial h x) 0 ≡ true → Leaves (outcome k s serial h m x begin) (begunState k s serial h x) true
   unfolding outcome beginCall
-  begin-go e = record { seat-is = rw e; went-is = rw e }
+  begin-go e = record { state-is = rw e; went-is = rw e }
 
   pub begin-stay : eqb (beginNoAt k s serial h x) 0 ≡ false → Leaves (outcome k s serial h m x begin) x false
   unfolding outcome beginCall
-  begin-stay e = record { seat-is = rw e; went-is = rw (e, e) }
+  begin-stay e = record { state-is = rw e; went-is = rw (e, e) }
 
-  pub send-go : (out : List ℕ) → eqb (sendNo k (x .side) (x .work) out) 0 ≡ true → Leaves (outcome k s serial h m x (send out)) (sentSeat k x) true
+  pub send-go : (out : List ℕ) → eqb (sendNo k (x .side) (x .work) out) 0 ≡ true → Leaves (outcome k s serial h m x (send out)) (sentState k x) true
   unfolding outcome sendCall
   send-go out e =
       record {
-        seat-is = rw (e, ← message-sized k (x .side) (x .work), take-front (message k (x .side) (x .work)) (drop (length (message k (x .side) (x .work))) out));
+        state-is = rw (e, ← message-sized k (x .side) (x .work), take-front (message k (x .side) (x .work)) (drop (length (message k (x .side) (x .work))) out));
         went-is = rw e;
       }
 
   pub send-stay : (out : List ℕ) → eqb (sendNo k (x .side) (x .work) out) 0 ≡ false → Leaves (outcome k s serial h m x (send out)) x false
   unfolding outcome sendCall
-  send-stay out e = record { seat-is = rw (e, e); went-is = rw (e, e) }
+  send-stay out e = record { state-is = rw (e, e); went-is = rw (e, e) }
 
   pub take-go : (numbers : List ℕ) → takeNo k (x .side) (x .work) m ≡ 0 → openedList k (x .side) (x .work) m ≡ numbers
-      → Leaves (outcome k s serial h m x takeLatest) (takenSeat k x numbers) true
+      → Leaves (outcome k s serial h m x takeLatest) (takenState k x numbers) true
   unfolding outcome takeCall
-  take-go numbers e f = record { seat-is = rw (e, f); went-is = rw e }
+  take-go numbers e f = record { state-is = rw (e, f); went-is = rw e }
 
-  -- every no but 13 leaves the seat
+  -- every no but 13 leaves the party state
   pub take-stay : eqb (takeNo k (x .side) (x .work) m) 0 ≡ false → eqb (takeNo k (x .side) (x .work) m) 13 ≡ false
       → Leaves (outcome k s serial h m x takeLatest) x false
   unfolding outcome takeCall
-  take-stay e f = record { seat-is = rw (e, f); went-is = rw (e, f, e) }
+  take-stay e f = record { state-is = rw (e, f); went-is = rw (e, f, e) }
 
   -- ---- no step due
   pub send-not : (out : List ℕ) → sendDue (x .side) ≡ false → Leaves (outcome k s serial h m x (send out)) x false
@@ -131,12 +131,12 @@ module _ (k : ℕ) (s : Settings) (serial : ℕ) (h : Hand) (m : List ℕ) (x : 
       (ask-no _ 7 _ refl (ask-no _ 0 _ refl (ask-no _ 0 _ refl (ask-no _ 1 _ refl (ask-no _ 2 _ refl (ask-no _ 3 _ refl (ask-no _ 4 _ refl (ask-no _ 5 _ refl
       (ask-last _ 6 _ (le-ltb (x .side .serial) serial (omega arith)))))))))))
 
--- ---- a step due, at a seat with a slice that passes
-pub record Sound (k : ℕ) (x : Seat) : Type 0 where
+-- ---- a step due, at a party state with a slice that passes
+pub record Sound (k : ℕ) (x : PartyState) : Type 0 where
   pub exact : eqb (length (x .work)) (workLength k) ≡ true
   pub low : allBelow q (x .work) ≡ true
 
-module _ (k : ℕ) (x : Seat) (v : Sound k x) where
+module _ (k : ℕ) (x : PartyState) (v : Sound k x) where
   pub send-due : (out : List ℕ) → sendDue (x .side) ≡ true
       → sendNo k (x .side) (x .work) out ≡ ask (leb (messageLength k (paramsIn (x .side .settings)) (x .side .round)) (length out)) 9 0
   unfolding sendNo ask

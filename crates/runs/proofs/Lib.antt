@@ -1,8 +1,8 @@
--- Theorems about every list of calls: T3 and demand 2.
--- T3: doors, seats, stages, then counts
+-- Theorems about every list of calls: Progress and demand 2.
+-- Progress: doors, party states, stages, then counts
 pub mod Laws
 pub mod Doors
-pub mod Seats
+pub mod PartyStates
 pub mod Stages
 pub mod Counts
 pub mod Steps
@@ -13,7 +13,7 @@ pub mod Tally
 pub mod Steady
 pub mod Carried
 pub mod Answers
--- The honest run, from T1, messages and books
+-- The honest run, from ColumnsJoin, messages and books
 pub mod Start
 pub mod Slices
 pub mod Sharing

@@ -12,10 +12,10 @@ use Rattle.lists.proofs.Every.{allTo-yes}
 use Rattle.lists.proofs.Lists.{getD-listTo, listTo-cong}
 use Rattle.field.specs.Field.{q, add, mul}
 use Rattle.field.specs.Forms.{Adds}
-use Rattle.settings.specs.Order.{rounds, takeStep}
+use Rattle.settings.specs.Schedule.{rounds, takeStep}
 use Rattle.settings.specs.Sizes.{openings}
 use Rattle.message.specs.Theorems.{RoundTrip}
-use Rattle.column.specs.Theorems.{T1Work}
+use Rattle.column.specs.Theorems.{SlicesJoin}
 use Rattle.state.specs.declared.Side.{Side}
 use Rattle.opening.specs.Check.{accepts}
 use Rattle.opening.specs.Opening.{partColumn, prepared, incoming, opened, passes}
@@ -23,18 +23,18 @@ use Rattle.side.specs.Side.{begunSide, openedList}
 use Rattle.settings.specs.declared.Settings.{Settings}
 use Rattle.settings.specs.Questions.{settingsOk}
 use Rattle.settings.specs.Settings.{paramsIn}
-use Rattle.runs.specs.Records.{Hand}
-use Rattle.runs.specs.Progress.{workAt, sideAt, seatAt, messageAt}
+use Rattle.runs.specs.Records.{PartyInput}
+use Rattle.runs.specs.Progress.{workAt, sideAt, partyAt, messageAt}
 use Rattle.runs.specs.Honest.{Meets}
-use Rattle.runs.proofs.Seats.{which-below, at-take}
+use Rattle.runs.proofs.PartyStates.{which-below, at-take}
 use Rattle.runs.proofs.Slices.{Fair}
 use Rattle.runs.proofs.Sharing.{sharing, piece, prepared-is, header-read, fields-read, field-read}
 
 -- two sides that face each other: their numbers for each opening add up, in every column
-pub record Facing (k : ℕ) (s : Settings) (serial : ℕ) (numbers : ℕ → List ℕ) (factors : List ℕ) (plain : ℕ → ℕ → ℕ) (h o : Hand) : Type 0 where
+pub record Facing (k : ℕ) (s : Settings) (serial : ℕ) (numbers : ℕ → List ℕ) (factors : List ℕ) (plain : ℕ → ℕ → ℕ) (h o : PartyInput) : Type 0 where
   pub faces : o .number ≡ 1 - h .number
-  pub own : Fair k s serial numbers h
-  pub other : Fair k s serial numbers o
+  pub observer : Fair k s serial numbers h
+  pub peer : Fair k s serial numbers o
   pub adds : (R c j : ℕ) → c < 1 + 2 * k → Adds q (getD factors c 0) (sharing k s serial numbers h R c j) (sharing k s serial numbers o R c j) (plain R j)
   -- what the shares' column and the columns of its own keys add up to
   pub unit : getD factors 0 0 ≡ 1
@@ -43,7 +43,7 @@ pub record Facing (k : ℕ) (s : Settings) (serial : ℕ) (numbers : ℕ → Lis
   pub opens : (R : ℕ) → numbers R ≡ listTo (openings (paramsIn s) (suc R)) (plain R)
   pub low : (R j : ℕ) → j < openings (paramsIn s) (suc R) → plain R j < q
 
-module _ (t : T1Work) (m : RoundTrip) (k : ℕ) (s : Settings) (serial : ℕ) (numbers : ℕ → List ℕ) (factors : List ℕ) (plain : ℕ → ℕ → ℕ) (h o : Hand)
+module _ (t : SlicesJoin) (m : RoundTrip) (k : ℕ) (s : Settings) (serial : ℕ) (numbers : ℕ → List ℕ) (factors : List ℕ) (plain : ℕ → ℕ → ℕ) (h o : PartyInput)
     (e : settingsOk s ≡ true) (f : serial < 4294967296) (v : Facing k s serial numbers factors plain h o) where
   abbrev side : ℕ → Side
   side R = sideAt k s serial numbers h (takeStep (h .number) R)
@@ -57,17 +57,17 @@ module _ (t : T1Work) (m : RoundTrip) (k : ℕ) (s : Settings) (serial : ℕ) (n
   -- field x of opening j, as the receiver reads it
   incoming-is : (R : ℕ) → R < rounds → (j x : ℕ) → j < openings (paramsIn s) (suc R) → x < 1 + k
       → incoming k (side R) (came R) j x ≡ getD (piece k s serial numbers o R j) x 0
-  unfolding incoming sideAt begunSide seatAt
-  incoming-is R r j x l b = rw (at-take k s serial numbers h R (v .own .which) r .round) (field-read k s serial numbers t m e f o (v .other) R r j x l b)
+  unfolding incoming sideAt begunSide partyAt
+  incoming-is R r j x l b = rw (at-take k s serial numbers h R (v .observer .which) r .round) (field-read k s serial numbers t m e f o (v .peer) R r j x l b)
 
   opened-is : (R : ℕ) → R < rounds → (j : ℕ) → j < openings (paramsIn s) (suc R) → opened k (side R) (work R) (came R) j ≡ plain R j
   unfolding opened
   opened-is R r j l =
-      rw (prepared-is k s serial numbers h R (v .own .which) r 0 j, incoming-is R r j 0 l (omega arith))
+      rw (prepared-is k s serial numbers h R (v .observer .which) r 0 j, incoming-is R r j 0 l (omega arith))
       (v .adds R 0 j (omega arith) .total .path ∙ rw (v .unit, one-mul (plain R j)) (mod-eq-of-lt (v .low R j l)))
 
   own-column : (i : ℕ) → i < k → partColumn k (h .number) i < 1 + 2 * k
-  own-column i l = by (h .number) (which-below h (v .own .which))
+  own-column i l = by (h .number) (which-below h (v .observer .which))
     where
       by : (number : ℕ) → number < 2 → partColumn k number i < 1 + 2 * k
       by zero u = omega arith
@@ -78,7 +78,7 @@ module _ (t : T1Work) (m : RoundTrip) (k : ℕ) (s : Settings) (serial : ℕ) (n
       → incoming k (side R) (came R) j (1 + i) ≡ sharing k s serial numbers o R (partColumn k (h .number) i) j
   part-is R r j i l b =
       let z : 1 + i ≡ suc i = omega arith in
-      let y : 1 - o .number ≡ h .number = omega (arith, v .faces, which-below h (v .own .which)) in
+      let y : 1 - o .number ≡ h .number = omega (arith, v .faces, which-below h (v .observer .which)) in
       incoming-is R r j (1 + i) l (omega arith)
       ∙ ap (λ (x : ℕ). getD (piece k s serial numbers o R j) x 0) z
       ∙ getD-listTo k (λ (i : ℕ). sharing k s serial numbers o R (partColumn k (1 - o .number) i) j) i 0 b
@@ -89,7 +89,7 @@ module _ (t : T1Work) (m : RoundTrip) (k : ℕ) (s : Settings) (serial : ℕ) (n
       → add q (prepared k (side R) (work R) (partColumn k (h .number) i) j) (incoming k (side R) (came R) j (1 + i))
       ≡ mul q (getD (h .keys) i 0) (opened k (side R) (work R) (came R) j)
   pass-part R r j i l b =
-      rw (prepared-is k s serial numbers h R (v .own .which) r (partColumn k (h .number) i) j, part-is R r j i l b, opened-is R r j l, ← v .keyed i b)
+      rw (prepared-is k s serial numbers h R (v .observer .which) r (partColumn k (h .number) i) j, part-is R r j i l b, opened-is R r j l, ← v .keyed i b)
       (v .adds R (partColumn k (h .number) i) j (own-column i b) .total .path)
 
   all-pass : (R : ℕ) → R < rounds → allTo (openings (paramsIn s) (suc R)) (passes k (side R) (work R) (came R)) ≡ true
@@ -99,17 +99,17 @@ module _ (t : T1Work) (m : RoundTrip) (k : ℕ) (s : Settings) (serial : ℕ) (n
       (λ j l. allTo-yes k _ (λ i b. eq-eqb _ _ (pass-part R r j i l b)))
 
   all-open : (R : ℕ) → R < rounds → openedList k (side R) (work R) (came R) ≡ numbers R
-  unfolding openedList sideAt begunSide seatAt
+  unfolding openedList sideAt begunSide partyAt
   all-open R r =
-      ap (λ (round : ℕ). listTo (openings (paramsIn s) round) (opened k (side R) (work R) (came R))) (at-take k s serial numbers h R (v .own .which) r .round)
+      ap (λ (round : ℕ). listTo (openings (paramsIn s) round) (opened k (side R) (work R) (came R))) (at-take k s serial numbers h R (v .observer .which) r .round)
       ∙ listTo-cong (openings (paramsIn s) (suc R)) (opened k (side R) (work R) (came R)) (plain R) (opened-is R r)
       ∙ sym (v .opens R)
 
   pub meets : Meets k s serial numbers h (messageAt k s serial numbers o)
   meets =
       record {
-        header = λ R l. rw (← v .faces) (header-read k s serial numbers t m e f o (v .other) R l);
-        fields = λ R l. fields-read k s serial numbers t m e f o (v .other) R l;
+        header = λ R l. rw (← v .faces) (header-read k s serial numbers t m e f o (v .peer) R l);
+        fields = λ R l. fields-read k s serial numbers t m e f o (v .peer) R l;
         pass = λ R l. all-pass R l;
         opens = λ R l. all-open R l;
       }

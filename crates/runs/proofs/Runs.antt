@@ -1,4 +1,4 @@
--- The facts of an honest run, from T1, the messages' round trip and the books' laws.
+-- The facts of an honest run, from ColumnsJoin, the messages' round trip and the books' laws.
 use Prim.Native.Nat.{ℕ, zero, suc, _+_, _*_, _<_}
 use mathlib.Core.Path.{_≡_, refl, sym, ap, _∙_}
 use mathlib.Core.List.{List, [], _∷_}
@@ -17,12 +17,12 @@ use Rattle.slice.specs.Layout.{column, maskedIn}
 use Rattle.steps.specs.Steps.{publicOf}
 use Rattle.steps.specs.Work.{openingOn}
 use Rattle.column.specs.Run.{openedFrom, plainAfter, plainOpened}
-use Rattle.column.specs.Theorems.{T1Work}
+use Rattle.column.specs.Theorems.{SlicesJoin}
 use Rattle.opening.specs.Opening.{partColumn}
 use Rattle.settings.specs.declared.Settings.{Settings}
 use Rattle.settings.specs.Settings.{paramsIn, termsOf}
-use Rattle.runs.specs.Records.{Hand, handOf, missing}
-use Rattle.runs.specs.Demands.{Fixed, Numbers, Secret, Shares, Possible, ownHand, otherHand}
+use Rattle.runs.specs.Records.{PartyInput, partyInput, missingShares}
+use Rattle.runs.specs.Demands.{Fixed, Numbers, Secret, Shares, Possible, observerInput, peerInput}
 use Rattle.runs.specs.Progress.{workAt, messageAt}
 use Rattle.runs.specs.Honest.{SideRuns, Runs}
 use Rattle.runs.proofs.Start.{length-missing, below-missing, missing-adds}
@@ -50,16 +50,16 @@ plainOpening k s draw secret R j =
     let work : List ℕ = plainAfter (termsOf s) (widthOf k) draw secret R in
     openingOn (publicOf (termsOf s) (maskedIn work)) (suc R) 1 (column work 0) j
 
-module _ (t : T1Work) (b : Laws) (k : ℕ) (s : Settings) (serial : ℕ)
+module _ (t : SlicesJoin) (b : Laws) (k : ℕ) (s : Settings) (serial : ℕ)
     (keys0 keys1 secret draw inA inB : List ℕ) (g : Joint k s serial keys0 keys1 secret draw inA inB) where
   abbrev numbers : ℕ → List ℕ
   numbers R = plainOpened (termsOf s) (widthOf k) draw secret R
 
-  abbrev A : Hand
-  A = handOf k s 0 keys0 keys1 draw inA
+  abbrev A : PartyInput
+  A = partyInput k s 0 keys0 keys1 draw inA
 
-  abbrev B : Hand
-  B = handOf k s 1 keys0 keys1 draw inB
+  abbrev B : PartyInput
+  B = partyInput k s 1 keys0 keys1 draw inB
 
   abbrev column-at : ℕ → List ℕ
   column-at R = plainAfter (termsOf s) (widthOf k) draw secret R
@@ -70,7 +70,7 @@ module _ (t : T1Work) (b : Laws) (k : ℕ) (s : Settings) (serial : ℕ)
   abbrev plain : ℕ → ℕ → ℕ
   plain R j = plainOpening k s draw secret R j
 
-  -- T1: what the two sides have for an opening
+  -- ColumnsJoin: what the two sides have for an opening
   shares-add : (R c j : ℕ) → c < 1 + 2 * k
       → Adds q (getD (multipliers keys0 keys1) c 0) (sharing k s serial numbers A R c j) (sharing k s serial numbers B R c j) (plain R j)
   unfolding sharing
@@ -91,8 +91,8 @@ module _ (t : T1Work) (b : Laws) (k : ℕ) (s : Settings) (serial : ℕ)
   facing-a =
       record {
         faces = refl;
-        own = z .fair-a;
-        other = z .fair-b;
+        observer = z .fair-a;
+        peer = z .fair-b;
         adds = shares-add;
         unit = refl;
         keyed = λ i l. first-keys keys0 keys1 k i (g .fixed .server-count) l;
@@ -104,8 +104,8 @@ module _ (t : T1Work) (b : Laws) (k : ℕ) (s : Settings) (serial : ℕ)
   facing-b =
       record {
         faces = refl;
-        own = z .fair-b;
-        other = z .fair-a;
+        observer = z .fair-b;
+        peer = z .fair-a;
         adds = λ R c j l. adds-swap (shares-add R c j l);
         unit = refl;
         keyed = λ i l. second-keys keys0 keys1 k i (g .fixed .server-count);
@@ -113,12 +113,12 @@ module _ (t : T1Work) (b : Laws) (k : ℕ) (s : Settings) (serial : ℕ)
         low = plain-below;
       }
 
-  side-runs : RoundTrip → (h o : Hand) → Facing k s serial numbers (multipliers keys0 keys1) plain h o → Shares k s (h .inputs)
+  side-runs : RoundTrip → (h o : PartyInput) → Facing k s serial numbers (multipliers keys0 keys1) plain h o → Shares k s (h .inputs)
       → Numbers (shared (paramsIn s) * widthOf k) (h .book) → SideRuns k s serial numbers h (messageAt k s serial numbers o)
   side-runs m h o v ins bk =
       record {
-        exact = λ R l. v .own .exact R;
-        low = λ R l. all-below q (workAt k s serial numbers h R) (v .own .low R);
+        exact = λ R l. v .observer .exact R;
+        low = λ R l. all-below q (workAt k s serial numbers h R) (v .observer .low R);
         inputs = ins;
         book = bk;
         meets = meets t m k s serial numbers (multipliers keys0 keys1) plain h o (g .fixed .settings) (g .fixed .fits) v;
@@ -131,7 +131,7 @@ module _ (t : T1Work) (b : Laws) (k : ℕ) (s : Settings) (serial : ℕ)
   runs-b m = side-runs m B A facing-b (g .phone-ok) (z .book-b)
 
 -- the other side's inputs
-missing-ok : (k : ℕ) (s : Settings) (factors secret inputs : List ℕ) → Secret s secret → Shares k s (missing (widthOf k) factors secret inputs)
+missing-ok : (k : ℕ) (s : Settings) (factors secret inputs : List ℕ) → Secret s secret → Shares k s (missingShares (widthOf k) factors secret inputs)
 missing-ok k s factors secret inputs x =
     record {
       size-is = length-missing (widthOf k) factors secret inputs ∙ ap (λ (n : ℕ). n * widthOf k) (x .size-is);
@@ -142,7 +142,7 @@ missing-ok k s factors secret inputs x =
 module _ (k : ℕ) (s : Settings) (serial : ℕ) (keys0 keys1 : List ℕ) (f : Fixed k s serial keys0 keys1)
     (secret inputs draw : List ℕ) (x : Secret s secret) (y : Shares k s inputs) (d : Possible k s draw) where
   abbrev rest : List ℕ
-  rest = missing (widthOf k) (multipliers keys0 keys1) secret inputs
+  rest = missingShares (widthOf k) (multipliers keys0 keys1) secret inputs
 
   rest-adds : (j c : ℕ) → j < s .shape .n → c < widthOf k
       → Adds q (getD (multipliers keys0 keys1) c 0) (getD inputs (j * widthOf k + c) 0) (getD rest (j * widthOf k + c) 0) (getD secret j 0)
@@ -156,7 +156,7 @@ module _ (k : ℕ) (s : Settings) (serial : ℕ) (keys0 keys1 : List ℕ) (f : F
   phone-own =
       record { fixed = f; secret-ok = x; draw-ok = d; server-ok = missing-ok k s _ secret inputs x; phone-ok = y; adds = λ j c h i. adds-swap (rest-adds j c h i) }
 
-pub runs : (k : ℕ) → T1Work → RoundTrip → Laws → Runs k
+pub runs : (k : ℕ) → SlicesJoin → RoundTrip → Laws → Runs k
 runs k t m b s serial keys0 keys1 f zero l secret inputs draw x y d =
     let g = server-own k s serial keys0 keys1 f secret inputs draw x y d in
     (runs-a t b k s serial keys0 keys1 secret draw _ _ g m, runs-b t b k s serial keys0 keys1 secret draw _ _ g m)
@@ -166,12 +166,12 @@ runs k t m b s serial keys0 keys1 f (suc zero) l secret inputs draw x y d =
 runs k t m b s serial keys0 keys1 f (suc (suc number)) l secret inputs draw x y d = absurd (omega arith)
 
 -- what a side faces
-pub facing : (k : ℕ) → T1Work → Laws
+pub facing : (k : ℕ) → SlicesJoin → Laws
     → (s : Settings) (serial : ℕ) (keys0 keys1 : List ℕ) → Fixed k s serial keys0 keys1
     → (number : ℕ) → number < 2
     → (secret inputs draw : List ℕ) → Secret s secret → Shares k s inputs → Possible k s draw
     → Facing k s serial (plainOpened (termsOf s) (widthOf k) draw secret) (multipliers keys0 keys1)
-    (plainOpening k s draw secret) (ownHand k s number keys0 keys1 inputs draw) (otherHand k s number keys0 keys1 inputs secret draw)
+    (plainOpening k s draw secret) (observerInput k s number keys0 keys1 inputs draw) (peerInput k s number keys0 keys1 inputs secret draw)
 facing k t b s serial keys0 keys1 f zero l secret inputs draw x y d =
     facing-a t b k s serial keys0 keys1 secret draw _ _ (server-own k s serial keys0 keys1 f secret inputs draw x y d)
 facing k t b s serial keys0 keys1 f (suc zero) l secret inputs draw x y d =

@@ -13,7 +13,7 @@ use Rattle.lists.specs.Lists.{every, allBelow, listTo, joinFrom, joinTo}
 use Rattle.lists.proofs.Every.{every-join, every-listTo}
 use Rattle.lists.proofs.Lists.{length-listFrom, listTo-cong, join-at}
 use Rattle.field.specs.Field.{q}
-use Rattle.settings.specs.Order.{rounds, sendStep, takeStep}
+use Rattle.settings.specs.Schedule.{rounds, sendStep, takeStep}
 use Rattle.settings.specs.Sizes.{openings, fieldCount, places}
 use Rattle.message.specs.Message.{headerNumber, messageOf, headerIn, fieldIn, fieldsOk, headerWith}
 use Rattle.message.specs.Fields.{HeaderFits}
@@ -22,7 +22,7 @@ use Rattle.message.proofs.RoundTrip.{sized-q}
 use Rattle.slice.specs.Layout.{column, maskedIn, weights}
 use Rattle.steps.specs.Steps.{publicOf}
 use Rattle.steps.specs.Work.{openingOn}
-use Rattle.column.specs.Theorems.{T1Work}
+use Rattle.column.specs.Theorems.{SlicesJoin}
 use Rattle.state.specs.declared.Side.{Side}
 use Rattle.opening.specs.Opening.{partColumn, prepared, outgoing, message, ownHeader}
 use Rattle.side.specs.Side.{begunSide}
@@ -30,11 +30,11 @@ use Rattle.settings.specs.declared.Settings.{Settings}
 use Rattle.settings.specs.Questions.{settingsOk}
 use Rattle.settings.specs.Settings.{paramsIn, termsOf}
 use Rattle.settings.proofs.Ready.{settings-ok-ready}
-use Rattle.runs.specs.Records.{Hand}
-use Rattle.runs.specs.Progress.{workAt, sideAt, seatAt, messageAt}
+use Rattle.runs.specs.Records.{PartyInput}
+use Rattle.runs.specs.Progress.{workAt, sideAt, partyAt, messageAt}
 use Rattle.runs.proofs.Laws.{length-join}
-use Rattle.runs.proofs.Seats.{handAs, Which, which-below, at-send, at-take}
-use Rattle.runs.proofs.Seats.Which.{server, phone}
+use Rattle.runs.proofs.PartyStates.{inputAs, Which, which-below, at-send, at-take}
+use Rattle.runs.proofs.PartyStates.Which.{server, phone}
 use Rattle.runs.proofs.Slices.{Fair, opening-below}
 
 pub join-cong : {A : Type 0} (i n : ℕ) (f g : ℕ → List A) → ((x : ℕ) → x < n → f (i + x) ≡ g (i + x)) → joinFrom i n f ≡ joinFrom i n g
@@ -46,29 +46,29 @@ join-cong i (suc n) f g e =
 
 module _ (k : ℕ) (s : Settings) (serial : ℕ) (numbers : ℕ → List ℕ) where
   -- side h's number in column c for opening j of round R + 1
-  unfoldable pub sharing : Hand → ℕ → ℕ → ℕ → ℕ
+  unfoldable pub sharing : PartyInput → ℕ → ℕ → ℕ → ℕ
   sharing h R c j =
       openingOn (publicOf (termsOf s) (maskedIn (workAt k s serial numbers h R))) (suc R)
       (getD (weights k (h .number) (h .keys)) c 0) (column (workAt k s serial numbers h R) c) j
 
   -- when it takes
-  pub prepared-is : (h : Hand) (R : ℕ) → Which h → R < rounds → (c j : ℕ)
+  pub prepared-is : (h : PartyInput) (R : ℕ) → Which h → R < rounds → (c j : ℕ)
       → prepared k (sideAt k s serial numbers h (takeStep (h .number) R)) (workAt k s serial numbers h R) c j ≡ sharing h R c j
-  unfolding prepared sharing sideAt begunSide seatAt
+  unfolding prepared sharing sideAt begunSide partyAt
   prepared-is h R u r c j = rw (at-take k s serial numbers h R u r .round)
 
   -- when it sends: the server works them out, the phone has kept them
-  module _ (t : T1Work) where
-    pub outgoing-is : (h : Hand) → Which h → Fair k s serial numbers h → (R : ℕ) → R < rounds → (c j : ℕ) → c < 1 + 2 * k → j < openings (paramsIn s) (suc R)
+  module _ (t : SlicesJoin) where
+    pub outgoing-is : (h : PartyInput) → Which h → Fair k s serial numbers h → (R : ℕ) → R < rounds → (c j : ℕ) → c < 1 + 2 * k → j < openings (paramsIn s) (suc R)
         → outgoing k (sideAt k s serial numbers h (sendStep (h .number) R)) (workAt k s serial numbers h (R + h .number)) c j ≡ sharing h R c j
-    unfolding outgoing prepared sharing sideAt begunSide seatAt workAt
-    outgoing-is _ (server {keys} {inputs} {book}) v R r c j l m = rw (add-zero R, at-send k s serial numbers (handAs 0 keys inputs book) R server r .round)
+    unfolding outgoing prepared sharing sideAt begunSide partyAt workAt
+    outgoing-is _ (server {keys} {inputs} {book}) v R r c j l m = rw (add-zero R, at-send k s serial numbers (inputAs 0 keys inputs book) R server r .round)
     outgoing-is _ (phone {keys} {inputs} {book}) v R r c j l m =
         rw (add-one R)
-        (t .own (termsOf s) (suc R) _ (weights k 1 keys) (workAt k s serial numbers (handAs 1 keys inputs book) R) (v .most) (v .some)
+        (t .observer (termsOf s) (suc R) _ (weights k 1 keys) (workAt k s serial numbers (inputAs 1 keys inputs book) R) (v .most) (v .some)
         (v .exact R ∙ ap (λ (x : ℕ). x * places) (sym (v .sized))) c j (omega (arith, v .sized)) m)
 
-  pub sharing-below : T1Work → (h : Hand) → Fair k s serial numbers h → (R c j : ℕ) → c < 1 + 2 * k → j < openings (paramsIn s) (suc R) → sharing h R c j < q
+  pub sharing-below : SlicesJoin → (h : PartyInput) → Fair k s serial numbers h → (R c j : ℕ) → c < 1 + 2 * k → j < openings (paramsIn s) (suc R) → sharing h R c j < q
   unfolding sharing
   sharing-below t h v R c j l m =
       opening-below t s (suc R) (weights k (h .number) (h .keys)) (workAt k s serial numbers h R) (v .most) (v .some)
@@ -77,31 +77,31 @@ module _ (k : ℕ) (s : Settings) (serial : ℕ) (numbers : ℕ → List ℕ) wh
   -- ---- Its message
 
   -- the fields of opening j: the share, and a part under each of the receiver's keys
-  abbrev pub piece : Hand → ℕ → ℕ → List ℕ
+  abbrev pub piece : PartyInput → ℕ → ℕ → List ℕ
   piece o R j = sharing o R 0 j ∷ listTo k (λ (i : ℕ). sharing o R (partColumn k (1 - o .number) i) j)
 
-  unfoldable pub fieldsAt : Hand → ℕ → List ℕ
+  unfoldable pub fieldsAt : PartyInput → ℕ → List ℕ
   fieldsAt o R = joinTo (openings (paramsIn s) (suc R)) (piece o R)
 
-  pub part-inside : (o : Hand) → Which o → (i : ℕ) → i < k → partColumn k (1 - o .number) i < 1 + 2 * k
+  pub part-inside : (o : PartyInput) → Which o → (i : ℕ) → i < k → partColumn k (1 - o .number) i < 1 + 2 * k
   part-inside _ server i l = omega arith
   part-inside _ phone i l = omega arith
 
-  piece-length : (o : Hand) (R j : ℕ) → length (piece o R j) ≡ 1 + k
+  piece-length : (o : PartyInput) (R j : ℕ) → length (piece o R j) ≡ 1 + k
   piece-length o R j = omega (arith, length-listFrom 0 k (λ (i : ℕ). sharing o R (partColumn k (1 - o .number) i) j))
 
-  pub fields-length : (o : Hand) (R : ℕ) → length (fieldsAt o R) ≡ fieldCount k (paramsIn s) (suc R)
+  pub fields-length : (o : PartyInput) (R : ℕ) → length (fieldsAt o R) ≡ fieldCount k (paramsIn s) (suc R)
   unfolding fieldsAt
   fields-length o R = length-join 0 (openings (paramsIn s) (suc R)) (1 + k) (piece o R) (piece-length o R)
 
   -- what any side sends, from its numbers for the openings
-  told : (x : Side) (work : List ℕ) (share : ℕ → ℕ → ℕ)
+  result : (x : Side) (work : List ℕ) (share : ℕ → ℕ → ℕ)
       → ((i : ℕ) → i < k → partColumn k (1 - x .number) i < 1 + 2 * k)
       → ((c j : ℕ) → c < 1 + 2 * k → j < openings (paramsIn (x .settings)) (x .round) → outgoing k x work c j ≡ share c j)
       → message k x work ≡ messageOf (headerNumber (ownHeader x))
       (joinTo (openings (paramsIn (x .settings)) (x .round)) (λ (j : ℕ). share 0 j ∷ listTo k (λ (i : ℕ). share (partColumn k (1 - x .number) i) j)))
   unfolding message
-  told x work share inside e =
+  result x work share inside e =
       ap (messageOf (headerNumber (ownHeader x)))
       (join-cong 0 (openings (paramsIn (x .settings)) (x .round)) _ _
       (λ j l. let z : 0 + j ≡ j = zero-add j in
@@ -110,15 +110,15 @@ module _ (k : ℕ) (s : Settings) (serial : ℕ) (numbers : ℕ → List ℕ) wh
       (listTo-cong k (λ (i : ℕ). outgoing k x work (partColumn k (1 - x .number) i) j) (λ (i : ℕ). share (partColumn k (1 - x .number) i) j)
       (λ i m. e (partColumn k (1 - x .number) i) j (inside i m) l)))))
 
-  pub message-is : (t : T1Work) (o : Hand) → Fair k s serial numbers o → (R : ℕ) → R < rounds
+  pub message-is : (t : SlicesJoin) (o : PartyInput) → Fair k s serial numbers o → (R : ℕ) → R < rounds
       → messageAt k s serial numbers o (suc R) ≡ messageOf (headerNumber (headerWith (o .number) s (suc R) serial)) (fieldsAt o R)
-  unfolding seatAt sideAt begunSide fieldsAt
+  unfolding partyAt sideAt begunSide fieldsAt
   message-is t o v R r =
       let a = at-send k s serial numbers o R (v .which) r in
       let x : Side = sideAt k s serial numbers o (sendStep (o .number) R) in
       sym (a .message-is)
       ∙ ap (λ (work : List ℕ). message k x work) (a .slice-is)
-      ∙ told x (workAt k s serial numbers o (R + o .number)) (sharing o R) (part-inside o (v .which)) (λ c j l m. outgoing-is t o (v .which) v R r c j l (rw (a .round) at m))
+      ∙ result x (workAt k s serial numbers o (R + o .number)) (sharing o R) (part-inside o (v .which)) (λ c j l m. outgoing-is t o (v .which) v R r c j l (rw (a .round) at m))
       ∙ in-round (x .round) (a .round)
     where
       in-round : (round : ℕ) → round ≡ suc R
@@ -131,7 +131,7 @@ module _ (k : ℕ) (s : Settings) (serial : ℕ) (numbers : ℕ → List ℕ) wh
   header-ok : (number : ℕ) → number < 2 → settingsOk s ≡ true → (R : ℕ) → R < rounds → HeaderFits (headerWith number s (suc R) serial)
   header-ok number u e R l = record { sender-fits = u; settings-fit = settings-ok-ready s e; round-fits = omega arith }
 
-  module _ (t : T1Work) (m : RoundTrip) (e : settingsOk s ≡ true) (f : serial < 4294967296) (o : Hand) (v : Fair k s serial numbers o) (R : ℕ) (r : R < rounds) where
+  module _ (t : SlicesJoin) (m : RoundTrip) (e : settingsOk s ≡ true) (f : serial < 4294967296) (o : PartyInput) (v : Fair k s serial numbers o) (R : ℕ) (r : R < rounds) where
     abbrev header : ℕ
     header = headerNumber (headerWith (o .number) s (suc R) serial)
 

@@ -19,15 +19,15 @@ use Rattle.slice.specs.Layout.{column, ownIn, maskedIn, weights}
 use Rattle.steps.specs.Steps.{publicOf}
 use Rattle.steps.specs.Work.{openingOn}
 use Rattle.column.specs.Run.{plainBook, plainStart, openedFrom, plainAfter, plainOpened}
-use Rattle.column.specs.Theorems.{JoinedWork, T1Work}
+use Rattle.column.specs.Theorems.{JoinedWork, SlicesJoin}
 use Rattle.settings.specs.declared.Settings.{Settings}
 use Rattle.settings.specs.Settings.{paramsIn, termsOf}
 use Rattle.settings.proofs.Sizes.{shared-most}
-use Rattle.runs.specs.Records.{Hand, handOf}
+use Rattle.runs.specs.Records.{PartyInput, partyInput}
 use Rattle.runs.specs.Demands.{Fixed, Numbers, Secret, Shares, Possible}
 use Rattle.runs.specs.Progress.{workAt}
-use Rattle.runs.proofs.Seats.{Which}
-use Rattle.runs.proofs.Seats.Which.{server, phone}
+use Rattle.runs.proofs.PartyStates.{Which}
+use Rattle.runs.proofs.PartyStates.Which.{server, phone}
 use Rattle.runs.proofs.Whole.{allowed}
 use Rattle.runs.proofs.Start.{below-begun, start-joined}
 
@@ -42,7 +42,7 @@ pub record Joint (k : ℕ) (s : Settings) (serial : ℕ) (keys0 keys1 secret dra
       → Adds q (getD (multipliers keys0 keys1) c 0) (getD inA (j * widthOf k + c) 0) (getD inB (j * widthOf k + c) 0) (getD secret j 0)
 
 -- one side of a run: its slices are exact, their numbers below q
-pub record Fair (k : ℕ) (s : Settings) (serial : ℕ) (numbers : ℕ → List ℕ) (h : Hand) : Type 0 where
+pub record Fair (k : ℕ) (s : Settings) (serial : ℕ) (numbers : ℕ → List ℕ) (h : PartyInput) : Type 0 where
   pub which : Which h
   pub most : s .shape .n ≤ 8
   pub some : 1 ≤ s .shape .n
@@ -65,17 +65,17 @@ all-below m [] h = refl
 all-below m (x ∷ xs) h = rw (lt-ltb x m (h 0)) (all-below m xs (λ i. h (suc i)))
 
 -- a side's numbers for openings are below q: it could keep them
-pub opening-below : (t : T1Work) (s : Settings) (round : ℕ) (κs work : List ℕ) → s .shape .n ≤ 8 → 1 ≤ s .shape .n
+pub opening-below : (t : SlicesJoin) (s : Settings) (round : ℕ) (κs work : List ℕ) → s .shape .n ≤ 8 → 1 ≤ s .shape .n
     → length work ≡ length κs * places → ((i : ℕ) → getD work i 0 < q)
     → (c o : ℕ) → c < length κs → o < openings (paramsIn s) round
     → openingOn (publicOf (termsOf s) (maskedIn work)) round (getD κs c 0) (column work c) o < q
 unfolding ownIn
 opening-below t s round κs work most some e h c o l m =
-    rw (← t .own (termsOf s) round (λ i. 0) κs work most some e c o l m)
+    rw (← t .observer (termsOf s) round (λ i. 0) κs work most some e c o l m)
     (t .bounded (termsOf s) round (λ i. 0) κs work (omega arith) most some e h (λ i. omega arith) .1 _)
 
--- what is known of the server's hand h and the phone's o, of their books and slices, and of the plain column
-pub record Slices (k : ℕ) (s : Settings) (serial : ℕ) (numbers plain : ℕ → List ℕ) (keys0 keys1 : List ℕ) (h o : Hand) : Type 0 where
+-- what is known of the server's input h and the phone's o, of their books and slices, and of the plain column
+pub record Slices (k : ℕ) (s : Settings) (serial : ℕ) (numbers plain : ℕ → List ℕ) (keys0 keys1 : List ℕ) (h o : PartyInput) : Type 0 where
   pub joined : (R : ℕ) → JoinedWork q keys0 keys1 (workAt k s serial numbers h R) (workAt k s serial numbers o R) (plain R)
   pub plain-low : (R i : ℕ) → getD (plain R) i 0 < q
   pub fair-a : Fair k s serial numbers h
@@ -83,7 +83,7 @@ pub record Slices (k : ℕ) (s : Settings) (serial : ℕ) (numbers plain : ℕ �
   pub book-a : Numbers (shared (paramsIn s) * widthOf k) (h .book)
   pub book-b : Numbers (shared (paramsIn s) * widthOf k) (o .book)
 
-module _ (t : T1Work) (b : Laws) (k : ℕ) (s : Settings) (serial : ℕ)
+module _ (t : SlicesJoin) (b : Laws) (k : ℕ) (s : Settings) (serial : ℕ)
     (keys0 keys1 secret draw inA inB : List ℕ) (g : Joint k s serial keys0 keys1 secret draw inA inB) where
   abbrev numbers : ℕ → List ℕ
   numbers R = plainOpened (termsOf s) (widthOf k) draw secret R
@@ -91,13 +91,13 @@ module _ (t : T1Work) (b : Laws) (k : ℕ) (s : Settings) (serial : ℕ)
   abbrev plain : ℕ → List ℕ
   plain R = plainAfter (termsOf s) (widthOf k) draw secret R
 
-  abbrev A : Hand
-  A = handOf k s 0 keys0 keys1 draw inA
+  abbrev A : PartyInput
+  A = partyInput k s 0 keys0 keys1 draw inA
 
-  abbrev B : Hand
-  B = handOf k s 1 keys0 keys1 draw inB
+  abbrev B : PartyInput
+  B = partyInput k s 1 keys0 keys1 draw inB
 
-  abbrev slice : Hand → ℕ → List ℕ
+  abbrev slice : PartyInput → ℕ → List ℕ
   slice h R = workAt k s serial numbers h R
 
   most : s .shape .n ≤ 8
@@ -149,7 +149,7 @@ module _ (t : T1Work) (b : Laws) (k : ℕ) (s : Settings) (serial : ℕ)
   numbers-low R o = numbers-from R (plain-low R) o
 
   -- a side's slices
-  side-low : (h : Hand) → length (h .keys) ≡ k → allBelow q (h .inputs) ≡ true → allBelow q (h .book) ≡ true
+  side-low : (h : PartyInput) → length (h .keys) ≡ k → allBelow q (h .inputs) ≡ true → allBelow q (h .book) ≡ true
       → ((R : ℕ) → length (slice h R) ≡ widthOf k * places)
       → (R i : ℕ) → getD (slice h R) i 0 < q
   unfolding workAt

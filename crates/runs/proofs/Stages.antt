@@ -10,7 +10,7 @@ use borrow.Author.Tests.{eq-eqb, ne-eqb}
 use Rattle.lists.specs.Answers.{ask}
 use Rattle.lists.specs.Lists.{allTo, allBelow}
 use Rattle.field.specs.Field.{q}
-use Rattle.settings.specs.Order.{rounds, steps, sendStep, takeStep}
+use Rattle.settings.specs.Schedule.{rounds, steps, sendStep, takeStep}
 use Rattle.settings.specs.Sizes.{openings, fieldCount, messageLength, workLength}
 use Rattle.message.specs.Message.{headerIn, headerNumber, fieldsOk, askForm, headerWith}
 use Rattle.state.specs.declared.Phase.the-variants.{Sending, Taking, Finished}
@@ -20,13 +20,13 @@ use Rattle.side.specs.Side.{begunSide, sendNo, takeNo}
 use Rattle.settings.specs.declared.Settings.{Settings}
 use Rattle.settings.specs.Settings.{paramsIn, Params}
 use Rattle.message.specs.declared.Header.{Header}
-use Rattle.runs.specs.Records.{Hand, Seat, Call, outcome}
+use Rattle.runs.specs.Records.{PartyInput, PartyState, Call, outcome}
 use Rattle.runs.specs.Records.Call.{begin, send, takeLatest}
-use Rattle.runs.specs.Progress.{sideAt, seatAt}
+use Rattle.runs.specs.Progress.{sideAt, partyAt}
 use Rattle.runs.specs.Honest.{Meets}
 use Rattle.runs.proofs.Doors.{Leaves, Sound, send-go, send-stay, send-not, send-due, ask-in, ask-last, take-go, take-stay, take-not, take-due, begin-spent}
-use Rattle.runs.proofs.Seats.{Which, FieldsPass, seat, slice, send-in, take-in, at-send, at-take, at-end, which-below}
-use Rattle.runs.proofs.Laws.{told}
+use Rattle.runs.proofs.PartyStates.{Which, FieldsPass, state, slice, send-in, take-in, at-send, at-take, at-end, which-below}
+use Rattle.runs.proofs.Laws.{result}
 
 -- a no by length or header is neither 0 nor 13
 pub late-0 : (a b : Bool) (rest : ℕ) → (a && b) ≡ false → eqb (ask a 10 (ask b 11 rest)) 0 ≡ false
@@ -59,7 +59,7 @@ pub form-passes : (k : ℕ) (due : Header) (msg : List ℕ) (last : Bool)
 unfolding askForm ask
 form-passes k due msg last a b c d = rw (a, b, c, d)
 
-module _ (k : ℕ) (s : Settings) (serial : ℕ) (numbers : ℕ → List ℕ) (h : Hand) where
+module _ (k : ℕ) (s : Settings) (serial : ℕ) (numbers : ℕ → List ℕ) (h : PartyInput) where
   -- a side's settings, key and slices pass
   pub record Kept : Type 0 where
     pub terms : FieldsPass s serial h
@@ -80,19 +80,19 @@ module _ (k : ℕ) (s : Settings) (serial : ℕ) (numbers : ℕ → List ℕ) (h
   -- one of the round before has not
   pub late : (messages : ℕ → List ℕ) → Heard messages → (R : ℕ) → R < rounds → isOf (suc R) (messages (suc R)) ≡ false
   late messages z R r =
-      told k (1 - h .number) s serial (messages (suc R)) (suc R) (z .sized R r) (z .meets .header R r)
+      result k (1 - h .number) s serial (messages (suc R)) (suc R) (z .sized R r) (z .meets .header R r)
 
   module _ (u : Which h) (v : Kept) where
-    abbrev pub at : ℕ → Seat
-    at m = seat k s serial numbers h m
+    abbrev pub at : ℕ → PartyState
+    at m = state k s serial numbers h m
 
     -- what a call at step m leaves
-    abbrev pub Left : List ℕ → ℕ → Call → Seat → Bool → Type 0
+    abbrev pub Left : List ℕ → ℕ → Call → PartyState → Bool → Type 0
     Left incoming m c x went = Leaves (outcome k s serial h incoming (at m) c) x went
 
     -- begin, at any stage
     pub begins : (incoming : List ℕ) (m : ℕ) → Left incoming m begin (at m) false
-    unfolding seatAt sideAt begunSide
+    unfolding partyAt sideAt begunSide
     begins incoming m = begin-spent k s serial h incoming (at m) refl
 
     sending-due : (R : ℕ) → R < rounds → sendDue (at (sendStep (h .number) R) .side) ≡ true
@@ -115,7 +115,7 @@ module _ (k : ℕ) (s : Settings) (serial : ℕ) (numbers : ℕ → List ℕ) (h
 
     send-answer : (R : ℕ) → R < rounds → (out : List ℕ)
         → sendNo k (at (sendStep (h .number) R) .side) (at (sendStep (h .number) R) .work) out ≡ ask (leb (messageLength k (paramsIn s) (suc R)) (length out)) 9 0
-    unfolding seatAt sideAt begunSide
+    unfolding partyAt sideAt begunSide
     send-answer R r out =
         rw (← at-send k s serial numbers h R u r .round)
         (send-due k (at (sendStep (h .number) R)) (sound-send R r) out (sending-due R r))
@@ -124,7 +124,7 @@ module _ (k : ℕ) (s : Settings) (serial : ℕ) (numbers : ℕ → List ℕ) (h
     pub sends : (incoming : List ℕ) (R : ℕ) (r : R < rounds) (out : List ℕ) (d : Bool)
         → leb (messageLength k (paramsIn s) (suc R)) (length out) ≡ d
         → Left incoming (sendStep (h .number) R) (send out) (cond d (at (suc (sendStep (h .number) R))) (at (sendStep (h .number) R))) d
-    unfolding seatAt sideAt begunSide
+    unfolding partyAt sideAt begunSide
     sends incoming R r out true e =
         rw (at-send k s serial numbers h R u r .after) at
         (send-go k s serial h incoming (at (sendStep (h .number) R)) out (rw (send-answer R r out) (ask-in _ 9 e)))
@@ -154,7 +154,7 @@ module _ (k : ℕ) (s : Settings) (serial : ℕ) (numbers : ℕ → List ℕ) (h
         → takeNo k (at (takeStep (h .number) R) .side) (at (takeStep (h .number) R) .work) msg
         ≡ askForm k (headerWith (1 - h .number) s (suc R) serial) msg
         (ask (allTo (openings (paramsIn s) (suc R)) (passes k (at (takeStep (h .number) R) .side) (at (takeStep (h .number) R) .work) msg)) 13 0)
-    unfolding seatAt sideAt begunSide
+    unfolding partyAt sideAt begunSide
     take-answer R r msg =
         rw (← at-take k s serial numbers h R u r .round)
         (take-due k (at (takeStep (h .number) R)) (sound-take R r) msg (taking-due R r))
@@ -173,13 +173,13 @@ module _ (k : ℕ) (s : Settings) (serial : ℕ) (numbers : ℕ → List ℕ) (h
     -- the message that is due
     module _ (messages : ℕ → List ℕ) (z : Heard messages) where
       take-passes : (R : ℕ) → R < rounds → takeNo k (at (takeStep (h .number) R) .side) (slice k s serial numbers h R) (messages (suc R)) ≡ 0
-      unfolding seatAt
+      unfolding partyAt
       take-passes R r =
           rw (at-take k s serial numbers h R u r .slice-is) at (take-answer R r (messages (suc R)))
           ∙ form-passes _ _ _ _ (eq-eqb _ _ (z .sized R r)) (eq-eqb _ _ (z .meets .header R r)) (z .meets .fields R r) (z .meets .pass R r)
 
       pub takes : (R : ℕ) → R < rounds → Left (messages (suc R)) (takeStep (h .number) R) takeLatest (at (suc (takeStep (h .number) R))) true
-      unfolding seatAt
+      unfolding partyAt
       takes R r =
           rw (at-take k s serial numbers h R u r .after) at
           (take-go k s serial h (messages (suc R)) (at (takeStep (h .number) R)) (numbers R)

@@ -19,13 +19,13 @@ use Rattle.field.proofs.Congruence.{≈-eq}
 use Rattle.field.proofs.Solve.{at, _⊕_, _⊖_, _⊗_, red, solve}
 use Rattle.settings.specs.Sizes.{shared, places}
 use Rattle.settings.specs.Settings.{Params, Terms}
-use Rattle.book.specs.Book.{value}
+use Rattle.book.specs.Book.{bookValue}
 use Rattle.book.specs.Deal.{multipliers, serverBook, phoneBook}
 use Rattle.book.specs.Theorems.{Books}
 use Rattle.slice.specs.Layout.{column, maskedIn, begunPlace, begunWork}
 use Rattle.column.specs.Run.{plainBook, plainStart}
 use Rattle.column.specs.Theorems.{JoinedWork}
-use Rattle.runs.specs.Records.{missing}
+use Rattle.runs.specs.Records.{missingShares}
 use Rattle.runs.proofs.Laws.{length-join}
 
 -- ---- Inputs: what is missing to the secret
@@ -34,25 +34,25 @@ module _ (width : ℕ) (factors secret shares : List ℕ) where
   abbrev lacking : ℕ → ℕ → ℕ
   lacking j c = (getD factors c 0 * getD secret j 0 + (q - getD shares (j * width + c) 0 % q)) % q
 
-  pub length-missing : length (missing width factors secret shares) ≡ length secret * width
-  unfolding missing
+  pub length-missing : length (missingShares width factors secret shares) ≡ length secret * width
+  unfolding missingShares
   length-missing = length-listFrom 0 (length secret * width) _
 
-  pub below-missing : allBelow q (missing width factors secret shares) ≡ true
-  unfolding missing allBelow
+  pub below-missing : allBelow q (missingShares width factors secret shares) ≡ true
+  unfolding missingShares allBelow
   below-missing =
       every-listTo (λ (x : ℕ). ltb x q) (length secret * width) (λ (x : ℕ). lacking (x / width) (x % width))
       (λ x l. lt-ltb (lacking (x / width) (x % width)) q (mod-lt _ (omega arith)))
 
-  missing-at : (j c : ℕ) → j < length secret → c < width → getD (missing width factors secret shares) (j * width + c) 0 ≡ lacking j c
-  unfolding missing
+  missing-at : (j c : ℕ) → j < length secret → c < width → getD (missingShares width factors secret shares) (j * width + c) 0 ≡ lacking j c
+  unfolding missingShares
   missing-at j c h l =
       getD-listTo (length secret * width) (λ (x : ℕ). lacking (x / width) (x % width)) (j * width + c) 0 (omega (arith, mul-le-mul-right width h))
       ∙ ap₂ lacking (digits-div j l) (digits-mod j l)
 
   -- "what is missing to the secret and to key × secret"
   pub missing-adds : (j c : ℕ) → j < length secret → c < width
-      → Adds q (getD factors c 0) (getD shares (j * width + c) 0) (getD (missing width factors secret shares) (j * width + c) 0) (getD secret j 0)
+      → Adds q (getD factors c 0) (getD shares (j * width + c) 0) (getD (missingShares width factors secret shares) (j * width + c) 0) (getD secret j 0)
   missing-adds j c h l =
       let m = getD factors c 0 in
       let x = getD secret j 0 in
@@ -130,7 +130,7 @@ module _ (T : Terms) (width : ℕ) (factors draw secret inA inB : List ℕ) (pos
           → Adds (T .params .scale .modulus) (getD factors c 0) (placed (T .params) width inA bookA c i) (placed (T .params) width inB bookB c i) (placed (T .params) 1 secret values 0 i)
       by (yes x) y z =
           let e : i * 1 + 0 ≡ i = omega arith in
-          rw (lt-ltb i (shared (T .params)) x, b .server-at i c x h, b .phone-at i c x h, e, getD-listTo (shared (T .params)) (value (T .params) width draw) i 0 x)
+          rw (lt-ltb i (shared (T .params)) x, b .server-at i c x h, b .phone-at i c x h, e, getD-listTo (shared (T .params)) (bookValue (T .params) width draw) i 0 x)
           (b .adds pos i c)
       by (no x) (yes y) (yes z) =
           let e : (i - 1320) * 1 + 0 ≡ i - 1320 = omega arith in

@@ -8,7 +8,7 @@ use native.Mathlib.Decide.{decLt}
 use lib.Dec.{eqb}
 use borrow.Author.Tests.{eq-eqb, ne-eqb, eqb-true, lt-ltb, le-ltb}
 use Rattle.settings.specs.Sizes.{widthOf, openingsUpTo}
-use Rattle.settings.specs.Order.{rounds, steps, goesOn, sendsAfter, takenBy, sentBy}
+use Rattle.settings.specs.Schedule.{rounds, steps, goesOn, sendsAfter, takenBy, sentBy}
 use Rattle.column.specs.Run.{plainOpened}
 use Rattle.state.specs.declared.Phase.{Phase}
 use Rattle.state.specs.declared.Phase.the-variants.{Sending, Taking, Finished}
@@ -16,13 +16,13 @@ use Rattle.state.specs.State.{isSending, isTaking, isFinished, sendDue, takeDue
 use Rattle.side.specs.Side.{begunSide}
 use Rattle.settings.specs.declared.Settings.{Settings}
 use Rattle.settings.specs.Settings.{paramsIn, termsOf}
-use Rattle.runs.specs.Records.{Hand, Seat, Event}
-use Rattle.runs.specs.Demands.{Steady, Demand2Steady, takesIn, sendsIn, beganIn, ownHand, otherHand}
-use Rattle.runs.specs.Progress.{sideAt, seatAt, seatFrom, none, worldAt}
+use Rattle.runs.specs.Records.{PartyInput, PartyState, Observation}
+use Rattle.runs.specs.Demands.{Steady, Demand2Steady, takesIn, sendsIn, beganIn, observerInput, peerInput}
+use Rattle.runs.specs.Progress.{sideAt, partyAt, partyFrom, none, jointAt}
 use Rattle.runs.specs.Honest.{Runs}
-use Rattle.runs.proofs.Seats.{FieldsPass, kept-whole, step-is}
+use Rattle.runs.proofs.PartyStates.{FieldsPass, kept-whole, step-is}
 use Rattle.runs.proofs.Both.{start-pace, pace-after}
-use Rattle.runs.proofs.Whole.{honest-pair, t3}
+use Rattle.runs.proofs.Whole.{honest-pair, progress-law}
 use Rattle.runs.proofs.Tally.{Tally, tally}
 
 -- ---- a side after m of its steps
@@ -47,7 +47,7 @@ all-rounds number m u l = by (eqb (takenBy number m) rounds) refl
         let f : takenBy number m ≡ rounds = eqb-true (takenBy number m) rounds e in
         ne-eqb (sentBy number m) rounds (λ x. omega arith)
 
-module _ (k : ℕ) (s : Settings) (serial : ℕ) (numbers : ℕ → List ℕ) (h : Hand) (u : h .number < 2) (t : FieldsPass s serial h) (m : ℕ) (l : m ≤ steps) where
+module _ (k : ℕ) (s : Settings) (serial : ℕ) (numbers : ℕ → List ℕ) (h : PartyInput) (u : h .number < 2) (t : FieldsPass s serial h) (m : ℕ) (l : m ≤ steps) where
   begun-goes : (underWay (sideAt k s serial numbers h m) || finished (sideAt k s serial numbers h m)) ≡ true
   unfolding underWay sendDue takeDue finished sideAt begunSide phaseAfter
   begun-goes = rw (kept-whole k s serial numbers h t m) (phases (goesOn m) (sendsAfter (h .number) m))
@@ -71,13 +71,13 @@ module _ (k : ℕ) (s : Settings) (serial : ℕ) (numbers : ℕ → List ℕ) (h
   count-at = rw (kept-whole k s serial numbers h t m, rounds-at)
 
   -- with a log of so many takes and sends
-  steady-at : (log : List Event) → takesIn log ≡ takenBy (h .number) m → sendsIn log ≡ sentBy (h .number) m → Steady s log (seatAt k s serial numbers h m)
-  unfolding seatAt
+  steady-at : (log : List Observation) → takesIn log ≡ takenBy (h .number) m → sendsIn log ≡ sentBy (h .number) m → Steady s log (partyAt k s serial numbers h m)
+  unfolding partyAt
   steady-at log e f = record { goes-on = begun-goes; in-time = rw (e, f) finished-at; by-rounds = rw e count-at }
 
 -- a run that has begun has a count above 0
-steady-from : (k : ℕ) (s : Settings) (serial : ℕ) (numbers : ℕ → List ℕ) (h : Hand) → h .number < 2 → FieldsPass s serial h → (x : Seat) (log : List Event) (c : ℕ)
-    → c ≤ suc steps → Tally (h .number) log 0 c → beganIn log ≡ true → Steady s log (seatFrom k s serial numbers h x c)
+steady-from : (k : ℕ) (s : Settings) (serial : ℕ) (numbers : ℕ → List ℕ) (h : PartyInput) → h .number < 2 → FieldsPass s serial h → (x : PartyState) (log : List Observation) (c : ℕ)
+    → c ≤ suc steps → Tally (h .number) log 0 c → beganIn log ≡ true → Steady s log (partyFrom k s serial numbers h x c)
 steady-from k s serial numbers h u t x log zero l a b = absurd (true≢false (sym b ∙ or-false (beganIn log) (a .begun)))
   where
     or-false : (b : Bool) → (b || false) ≡ false → b ≡ false
@@ -88,13 +88,13 @@ steady-from k s serial numbers h u t x log (suc m) l a b =
 
 -- after any list of calls, at either side
 pub steady : (k : ℕ) → Runs k → Demand2Steady k
-unfolding worldAt
+unfolding jointAt
 steady k runs s serial keys0 keys1 f number l secret inputs draw x y d w i calls b =
-    let h : Hand = ownHand k s number keys0 keys1 inputs draw in
-    let o : Hand = otherHand k s number keys0 keys1 inputs secret draw in
+    let h : PartyInput = observerInput k s number keys0 keys1 inputs draw in
+    let o : PartyInput = peerInput k s number keys0 keys1 inputs secret draw in
     let numbers : ℕ → List ℕ = plainOpened (termsOf s) (widthOf k) draw secret in
     let z = honest-pair k runs s serial keys0 keys1 f number l secret inputs draw x y d in
-    rw (t3 k runs s serial keys0 keys1 f number l secret inputs draw x y d w i calls)
-    (steady-from k s serial numbers h l (z .0 .kept .terms) (w .own) _ _
+    rw (progress-law k runs s serial keys0 keys1 f number l secret inputs draw x y d w i calls)
+    (steady-from k s serial numbers h l (z .0 .kept .terms) (w .observer) _ _
     (pace-after k s number l calls none (start-pace number) .own-most)
     (tally k s serial numbers h o refl (z .0) (z .1) w i calls none (start-pace number)) b)

@@ -12,23 +12,23 @@ use Rattle.lists.specs.Lists.{allBelow}
 use Rattle.field.specs.Field.{q}
 use Rattle.settings.specs.Sizes.{widthOf, shared, workLength}
 use Rattle.settings.specs.Questions.{askShape, askSettings}
-use Rattle.settings.specs.Order.{rounds, steps, takenBy, sendStep, takeStep}
+use Rattle.settings.specs.Schedule.{rounds, steps, takenBy, sendStep, takeStep}
 use Rattle.state.specs.State.{underWay, sendDue, takeDue}
 use Rattle.side.specs.Side.{handedNo, beginNo}
 use Rattle.settings.specs.declared.Settings.{Settings}
 use Rattle.settings.specs.Settings.{paramsIn}
-use Rattle.runs.specs.Records.{Hand, Seat, Call, outcome}
+use Rattle.runs.specs.Records.{PartyInput, PartyState, Call, outcome}
 use Rattle.runs.specs.Records.Call.{begin, send, takeLatest, answer, count}
 use Rattle.runs.specs.Demands.{Idle}
-use Rattle.runs.specs.Progress.{takenOf, onward, roomFor, next, seatFrom}
+use Rattle.runs.specs.Progress.{takenOf, onward, roomFor, next, partyFrom}
 use Rattle.runs.proofs.Doors.{Leaves, begin-go, send-not, take-not, beginNoAt}
-use Rattle.runs.proofs.Seats.{Which, Stage, begun, stage, which-below}
-use Rattle.runs.proofs.Seats.Stage.{sending, taking, ended}
+use Rattle.runs.proofs.PartyStates.{Which, Stage, begun, stage, which-below}
+use Rattle.runs.proofs.PartyStates.Stage.{sending, taking, ended}
 use Rattle.runs.proofs.Stages.{Kept, Heard, late, begins, sends, sends-not-taking, sends-not-ended, takes, takes-late, takes-empty, takes-not-sending, takes-not-ended}
 use Rattle.runs.proofs.Counts.{next-send, next-send-not, next-take, next-take-not, next-end-send, next-end-take}
 
 -- no run under way: neither step is due
-pub idle-send : (x : Seat) → underWay (x .side) ≡ false → sendDue (x .side) ≡ false
+pub idle-send : (x : PartyState) → underWay (x .side) ≡ false → sendDue (x .side) ≡ false
 unfolding underWay
 idle-send x e = or-left _ _ e
   where
@@ -36,7 +36,7 @@ idle-send x e = or-left _ _ e
     or-left false b e = refl
     or-left true b e = e
 
-pub idle-take : (x : Seat) → underWay (x .side) ≡ false → takeDue (x .side) ≡ false
+pub idle-take : (x : PartyState) → underWay (x .side) ≡ false → takeDue (x .side) ≡ false
 unfolding underWay
 idle-take x e = or-right (sendDue (x .side)) _ e
   where
@@ -55,13 +55,13 @@ went true c = lt-ltb c (suc c) (omega arith)
 went false c = le-ltb c c (omega arith)
 
 -- what its begin is handed passes
-pub record Handed (k : ℕ) (s : Settings) (h : Hand) : Type 0 where
+pub record Handed (k : ℕ) (s : Settings) (h : PartyInput) : Type 0 where
   pub inputs-exact : eqb (length (h .inputs)) (s .shape .n * widthOf k) ≡ true
   pub book-exact : eqb (length (h .book)) (shared (paramsIn s) * widthOf k) ≡ true
   pub low : (allBelow q (h .inputs) && allBelow q (h .book)) ≡ true
 
-module _ (k : ℕ) (s : Settings) (serial : ℕ) (numbers : ℕ → List ℕ) (h : Hand) where
-  module _ (u : Which h) (v : Kept k s serial numbers h) (f : Handed k s h) (x : Seat) (i : Idle k serial x) where
+module _ (k : ℕ) (s : Settings) (serial : ℕ) (numbers : ℕ → List ℕ) (h : PartyInput) where
+  module _ (u : Which h) (v : Kept k s serial numbers h) (f : Handed k s h) (x : PartyState) (i : Idle k serial x) where
     begin-in : eqb (beginNoAt k s serial h x) 0 ≡ true
     unfolding beginNo handedNo askSettings askShape ask
     begin-in =
@@ -74,11 +74,11 @@ module _ (k : ℕ) (s : Settings) (serial : ℕ) (numbers : ℕ → List ℕ) (h
       -- a call from count c, so many messages having come, moves the count or not
       abbrev Moves : (c heard : ℕ) → Call → Bool → Type 0
       Moves c heard call d =
-          Leaves (outcome k s serial h (latestOf message-of heard) (seatFrom k s serial numbers h x c) call) (seatFrom k s serial numbers h x (onward d c)) d
+          Leaves (outcome k s serial h (latestOf message-of heard) (partyFrom k s serial numbers h x c) call) (partyFrom k s serial numbers h x (onward d c)) d
 
       abbrev pub goes : (c heard : ℕ) → Call → Type 0
       goes c heard call =
-          Leaves (outcome k s serial h (latestOf message-of heard) (seatFrom k s serial numbers h x c) call) (seatFrom k s serial numbers h x (next k s (h .number) heard call c))
+          Leaves (outcome k s serial h (latestOf message-of heard) (partyFrom k s serial numbers h x c) call) (partyFrom k s serial numbers h x (next k s (h .number) heard call c))
           (ltb c (next k s (h .number) heard call c))
 
       goes-by : (c heard : ℕ) (call : Call) (d : Bool) → next k s (h .number) heard call c ≡ onward d c → Moves c heard call d → goes c heard call
@@ -128,5 +128,5 @@ module _ (k : ℕ) (s : Settings) (serial : ℕ) (numbers : ℕ → List ℕ) (h
       one-call (suc m) heard l a b (send out) = send-step m heard out (stage (h .number) m (which-below h u) (omega arith))
       one-call zero heard l a b takeLatest = goes-by 0 heard takeLatest false refl (take-not k s serial h (latestOf message-of heard) x (idle-take x (i .none)))
       one-call (suc m) heard l a b takeLatest = take-step m heard a b (stage (h .number) m (which-below h u) (omega arith))
-      one-call c heard l a b (answer out) = goes-by c heard (answer out) false refl (record { seat-is = refl; went-is = refl })
-      one-call c heard l a b count = goes-by c heard count false refl (record { seat-is = refl; went-is = refl })
+      one-call c heard l a b (answer out) = goes-by c heard (answer out) false refl (record { state-is = refl; went-is = refl })
+      one-call c heard l a b count = goes-by c heard count false refl (record { state-is = refl; went-is = refl })

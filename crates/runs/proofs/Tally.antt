@@ -9,13 +9,13 @@ use borrow.Author.Tests.{lt-ltb, le-ltb}
 use Rattle.lists.specs.Answers.{bit}
 use Rattle.lists.proofs.Indicators.{lt-one}
 use Rattle.settings.specs.declared.Settings.{Settings}
-use Rattle.runs.specs.Records.{Hand, Seat, Call, Event, Who, Move, World, outcome, note, events}
-use Rattle.runs.specs.Records.Who.{mine, theirs}
+use Rattle.runs.specs.Records.{PartyInput, PartyState, Call, Observation, Party, ScheduledCall, JointState, outcome, observed, observations}
+use Rattle.runs.specs.Records.Party.{observer, peer}
 use Rattle.runs.specs.Records.Call.{begin, send, takeLatest, answer, count}
 use Rattle.runs.specs.Demands.{Start, takesIn, sendsIn, beganIn}
-use Rattle.runs.specs.Progress.{Counts, takenOf, sentOf, stepCounts, countsAfter, worldAt}
+use Rattle.runs.specs.Progress.{Counts, takenOf, sentOf, stepCounts, countsAfter, jointAt}
 use Rattle.runs.proofs.Doors.{accepted}
-use Rattle.runs.proofs.Seats.{which-below}
+use Rattle.runs.proofs.PartyStates.{which-below}
 use Rattle.runs.proofs.Counts.{Moved, next-moved, Pace}
 use Rattle.runs.proofs.Counts.Moved.{stays, began, sent, took}
 use Rattle.runs.proofs.Both.{HonestSide, keeps-pace, own-call, step-counts}
@@ -42,8 +42,8 @@ beginsOf takeLatest d = false
 beginsOf (answer out) d = false
 beginsOf count d = false
 
-module _ (k : ℕ) (s : Settings) (serial : ℕ) (h : Hand) (m : List ℕ) (x : Seat) (es : List Event) where
-  event-takes : (call : Call) → takesIn (outcome k s serial h m x call .event ∷ es) ≡ takesOf call (accepted (outcome k s serial h m x call .event)) + takesIn es
+module _ (k : ℕ) (s : Settings) (serial : ℕ) (h : PartyInput) (m : List ℕ) (x : PartyState) (es : List Observation) where
+  event-takes : (call : Call) → takesIn (outcome k s serial h m x call .observation ∷ es) ≡ takesOf call (accepted (outcome k s serial h m x call .observation)) + takesIn es
   unfolding outcome takesIn
   event-takes begin = omega arith
   event-takes (send out) = omega arith
@@ -51,7 +51,7 @@ module _ (k : ℕ) (s : Settings) (serial : ℕ) (h : Hand) (m : List ℕ) (x : 
   event-takes (answer out) = omega arith
   event-takes count = omega arith
 
-  event-sends : (call : Call) → sendsIn (outcome k s serial h m x call .event ∷ es) ≡ sendsOf call (accepted (outcome k s serial h m x call .event)) + sendsIn es
+  event-sends : (call : Call) → sendsIn (outcome k s serial h m x call .observation ∷ es) ≡ sendsOf call (accepted (outcome k s serial h m x call .observation)) + sendsIn es
   unfolding outcome sendsIn
   event-sends begin = omega arith
   event-sends (send out) = refl
@@ -59,7 +59,7 @@ module _ (k : ℕ) (s : Settings) (serial : ℕ) (h : Hand) (m : List ℕ) (x : 
   event-sends (answer out) = omega arith
   event-sends count = omega arith
 
-  event-begins : (call : Call) → beganIn (outcome k s serial h m x call .event ∷ es) ≡ (beginsOf call (accepted (outcome k s serial h m x call .event)) || beganIn es)
+  event-begins : (call : Call) → beganIn (outcome k s serial h m x call .observation ∷ es) ≡ (beginsOf call (accepted (outcome k s serial h m x call .observation)) || beganIn es)
   unfolding outcome beganIn
   event-begins begin = refl
   event-begins (send out) = refl
@@ -74,7 +74,7 @@ pub record Adds-up (number takes sends : ℕ) (begins : Bool) (c c′ : ℕ) : T
   pub begun : (begins || ltb 0 c) ≡ ltb 0 c′
 
 -- the same of a log
-abbrev pub Tally : ℕ → List Event → ℕ → ℕ → Type 0
+abbrev pub Tally : ℕ → List Observation → ℕ → ℕ → Type 0
 Tally number log c c′ = Adds-up number (takesIn log) (sendsIn log) (beganIn log) c c′
 
 no-takes : (call : Call) → takesOf call false ≡ 0
@@ -127,32 +127,32 @@ adds-more {b = b} {b′ = b′} {c = c} {c₁ = c₁} {c₂ = c₂} x y =
     record { took = omega (arith, x .took, y .took); sent = omega (arith, x .sent, y .sent); begun = or-move b b′ (ltb 0 c) (ltb 0 c₁) (ltb 0 c₂) (x .begun) (y .begun) }
 
 module _ (k : ℕ) (s : Settings) (serial : ℕ) (numbers : ℕ → List ℕ)
-    (h o : Hand) (faces : o .number ≡ 1 - h .number) (y : HonestSide k s serial numbers h o)
-    (z : HonestSide k s serial numbers o h) (w : World) (i : Start k serial w) where
-  abbrev at : Counts → World
-  at c = worldAt k s serial numbers h o w c
+    (h o : PartyInput) (faces : o .number ≡ 1 - h .number) (y : HonestSide k s serial numbers h o)
+    (z : HonestSide k s serial numbers o h) (w : JointState) (i : Start k serial w) where
+  abbrev at : Counts → JointState
+  at c = jointAt k s serial numbers h o w c
 
-  tally-one : (who : Who) (call : Call) (c : Counts) (es : List Event) (c₂ : ℕ) → Pace (h .number) (c .own) (c .other)
-      → Tally (h .number) es (stepCounts k s (h .number) c who call .own) c₂
-      → Tally (h .number) (note k s serial h o (at c) who call ++ es) (c .own) c₂
-  unfolding note stepCounts
-  tally-one mine call c es c₂ p t =
+  tally-one : (party : Party) (call : Call) (c : Counts) (es : List Observation) (c₂ : ℕ) → Pace (h .number) (c .observer) (c .peer)
+      → Tally (h .number) es (stepCounts k s (h .number) c party call .observer) c₂
+      → Tally (h .number) (observed k s serial h o (at c) party call ++ es) (c .observer) c₂
+  unfolding observed stepCounts
+  tally-one observer call c es c₂ p t =
       let u : h .number < 2 = which-below h (y .which) in
-      let heard = sentOf (1 - h .number) (c .other) in
-      let came = at c .other .latest in
-      let a = event-takes k s serial h came (at c .own) es call in
-      let b = event-sends k s serial h came (at c .own) es call in
-      let d = event-begins k s serial h came (at c .own) es call in
+      let heard = sentOf (1 - h .number) (c .peer) in
+      let came = at c .peer .latest in
+      let a = event-takes k s serial h came (at c .observer) es call in
+      let b = event-sends k s serial h came (at c .observer) es call in
+      let d = event-begins k s serial h came (at c .observer) es call in
       rw (a, b, d, own-call k s serial numbers h o faces y z w i c p call .went-is)
-      (adds-more (one-adds (h .number) heard call (c .own) _ u (next-moved k s (h .number) heard call (c .own))) t)
-  tally-one theirs call c es c₂ p t = t
+      (adds-more (one-adds (h .number) heard call (c .observer) _ u (next-moved k s (h .number) heard call (c .observer))) t)
+  tally-one peer call c es c₂ p t = t
 
   -- the events of a list, from any counts
-  pub tally : (ms : List Move) (c : Counts) → Pace (h .number) (c .own) (c .other)
-      → Tally (h .number) (events k s serial h o (at c) ms) (c .own) (countsAfter k s (h .number) c ms .own)
-  unfolding events countsAfter takesIn sendsIn beganIn
+  pub tally : (ms : List ScheduledCall) (c : Counts) → Pace (h .number) (c .observer) (c .peer)
+      → Tally (h .number) (observations k s serial h o (at c) ms) (c .observer) (countsAfter k s (h .number) c ms .observer)
+  unfolding observations countsAfter takesIn sendsIn beganIn
   tally [] c p = record { took = omega arith; sent = omega arith; begun = refl }
   tally (m ∷ ms) c p =
-      tally-one (m .who) (m .call) c _ _ p
-      (rw (step-counts k s serial numbers h o faces y z w i c p (m .who) (m .call))
-      (tally ms (stepCounts k s (h .number) c (m .who) (m .call)) (keeps-pace k s (h .number) (which-below h (y .which)) c p (m .who) (m .call))))
+      tally-one (m .party) (m .call) c _ _ p
+      (rw (step-counts k s serial numbers h o faces y z w i c p (m .party) (m .call))
+      (tally ms (stepCounts k s (h .number) c (m .party) (m .call)) (keeps-pace k s (h .number) (which-below h (y .which)) c p (m .party) (m .call))))

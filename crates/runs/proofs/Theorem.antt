@@ -1,4 +1,4 @@
--- T3 and demand 2, for any number of keys.
+-- Progress and demand 2, for any number of keys.
 use Prim.Native.Nat.{ℕ}
 use Rattle.message.proofs.RoundTrip.{round-trip}
 use Rattle.book.proofs.Laws.{laws}
@@ -6,19 +6,19 @@ use Rattle.column.proofs.Joins.{work-joins}
 use Rattle.column.proofs.PlainRun.{plain-run}
 use Rattle.runs.specs.Honest.{Runs}
 use Rattle.runs.specs.Demands.{Demand2, Demand2Steady}
-use Rattle.runs.specs.Theorems.{T3}
-use Rattle.runs.proofs.Whole.{t3}
+use Rattle.runs.specs.Theorems.{Progress}
+use Rattle.runs.proofs.Whole.{progress-law}
 use Rattle.runs.proofs.Steady.{steady}
 use Rattle.runs.proofs.Answers.{demand2}
 use Rattle.runs.proofs.Runs.{runs}
 
 module _ (k : ℕ) where
-  -- the honest run, by T1, messages and books
+  -- the honest run, by ColumnsJoin, messages and books
   honest : Runs k
   honest = runs k work-joins round-trip laws
 
-  pub progress : T3 k
-  progress = t3 k honest
+  pub progress : Progress k
+  progress = progress-law k honest
 
   pub every-run-ends : Demand2 k
   every-run-ends = demand2 k progress plain-run

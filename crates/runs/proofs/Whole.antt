@@ -1,4 +1,4 @@
--- T3 from the arithmetic of the honest run.
+-- Progress from the arithmetic of the honest run.
 use Prim.Native.Nat.{ℕ, zero, suc, _-_, _<_}
 use mathlib.Core.Path.{_≡_, refl}
 use mathlib.Core.List.{List}
@@ -12,21 +12,21 @@ use Rattle.settings.specs.Questions.{isBit, countOk, boundOk, keysOk, settingsO
 use Rattle.column.specs.Run.{plainOpened}
 use Rattle.settings.specs.declared.Settings.{Settings}
 use Rattle.settings.specs.Settings.{termsOf}
-use Rattle.runs.specs.Records.{Hand, handOf}
-use Rattle.runs.specs.Demands.{Fixed, Secret, Shares, Possible, ownHand, otherHand}
-use Rattle.runs.specs.Progress.{none, worldAt}
+use Rattle.runs.specs.Records.{PartyInput, partyInput}
+use Rattle.runs.specs.Demands.{Fixed, Secret, Shares, Possible, observerInput, peerInput}
+use Rattle.runs.specs.Progress.{none, jointAt}
 use Rattle.runs.specs.Honest.{SideRuns, Runs}
-use Rattle.runs.specs.Theorems.{T3}
-use Rattle.runs.proofs.Seats.{Which, FieldsPass, handAs, said}
-use Rattle.runs.proofs.Seats.Which.{server, phone}
-use Rattle.runs.proofs.Both.{HonestSide, start-pace, world-at-counts}
+use Rattle.runs.specs.Theorems.{Progress}
+use Rattle.runs.proofs.PartyStates.{Which, FieldsPass, inputAs, said}
+use Rattle.runs.proofs.PartyStates.Which.{server, phone}
+use Rattle.runs.proofs.Both.{HonestSide, start-pace, joint-at-counts}
 
-which-of : (number : ℕ) (keys inputs book : List ℕ) → number < 2 → Which (handAs number keys inputs book)
+which-of : (number : ℕ) (keys inputs book : List ℕ) → number < 2 → Which (inputAs number keys inputs book)
 which-of zero keys inputs book l = server
 which-of (suc zero) keys inputs book l = phone
 which-of (suc (suc n)) keys inputs book l = absurd (omega arith)
 
-pub which-side : (h : Hand) → h .number < 2 → Which h
+pub which-side : (h : PartyInput) → h .number < 2 → Which h
 which-side h l = which-of (h .number) (h .keys) (h .inputs) (h .book) l
 
 -- what the settings fix, read from the test
@@ -45,7 +45,7 @@ allowed s e =
 
 -- the kept fields of either side pass
 pub terms : (k : ℕ) (s : Settings) (serial : ℕ) (keys0 keys1 : List ℕ) → Fixed k s serial keys0 keys1 → (number : ℕ) → number < 2
-    → (draw inputs : List ℕ) → FieldsPass s serial (handOf k s number keys0 keys1 draw inputs)
+    → (draw inputs : List ℕ) → FieldsPass s serial (partyInput k s number keys0 keys1 draw inputs)
 terms k s serial keys0 keys1 f number l draw inputs =
     let a = allowed s (f .settings) in
     record {
@@ -61,7 +61,7 @@ terms k s serial keys0 keys1 f number l draw inputs =
     keys-of zero = f .server-keys
     keys-of (suc n) = rw (ne-eqb (suc n) 0 (λ z. omega arith)) (f .phone-keys)
 
-honest : (k : ℕ) (s : Settings) (serial : ℕ) (numbers : ℕ → List ℕ) (h o : Hand) → SideRuns k s serial numbers h (said k s serial numbers o)
+honest : (k : ℕ) (s : Settings) (serial : ℕ) (numbers : ℕ → List ℕ) (h o : PartyInput) → SideRuns k s serial numbers h (said k s serial numbers o)
     → h .number < 2 → FieldsPass s serial h → HonestSide k s serial numbers h o
 honest k s serial numbers h o z l t =
     record {
@@ -74,13 +74,13 @@ honest k s serial numbers h o z l t =
 -- both sides of an honest run
 pub honest-pair : (k : ℕ) → Runs k → (s : Settings) (serial : ℕ) (keys0 keys1 : List ℕ) → Fixed k s serial keys0 keys1 → (number : ℕ) → number < 2
     → (secret inputs draw : List ℕ) → Secret s secret → Shares k s inputs → Possible k s draw
-    → let h : Hand = ownHand k s number keys0 keys1 inputs draw in
-    let o : Hand = otherHand k s number keys0 keys1 inputs secret draw in
+    → let h : PartyInput = observerInput k s number keys0 keys1 inputs draw in
+    let o : PartyInput = peerInput k s number keys0 keys1 inputs secret draw in
     let numbers : ℕ → List ℕ = plainOpened (termsOf s) (widthOf k) draw secret in
     HonestSide k s serial numbers h o × HonestSide k s serial numbers o h
 honest-pair k runs s serial keys0 keys1 f number l secret inputs draw x y d =
-    let h : Hand = ownHand k s number keys0 keys1 inputs draw in
-    let o : Hand = otherHand k s number keys0 keys1 inputs secret draw in
+    let h : PartyInput = observerInput k s number keys0 keys1 inputs draw in
+    let o : PartyInput = peerInput k s number keys0 keys1 inputs secret draw in
     let numbers : ℕ → List ℕ = plainOpened (termsOf s) (widthOf k) draw secret in
     let z = runs s serial keys0 keys1 f number l secret inputs draw x y d in
     let l′ : 1 - number < 2 = omega arith in (
@@ -88,11 +88,11 @@ honest-pair k runs s serial keys0 keys1 f number l secret inputs draw x y d =
       honest k s serial numbers o h (z .1) l′ (terms k s serial keys0 keys1 f (1 - number) l′ draw _),
     )
 
--- T3: after every list of calls the world is the one at its counts
-pub t3 : (k : ℕ) → Runs k → T3 k
-unfolding worldAt
-t3 k runs s serial keys0 keys1 f number l secret inputs draw x y d w i calls =
+-- Progress: after every list of calls the joint state is the one at its counts
+pub progress-law : (k : ℕ) → Runs k → Progress k
+unfolding jointAt
+progress-law k runs s serial keys0 keys1 f number l secret inputs draw x y d w i calls =
     let numbers : ℕ → List ℕ = plainOpened (termsOf s) (widthOf k) draw secret in
     let z = honest-pair k runs s serial keys0 keys1 f number l secret inputs draw x y d in
-    world-at-counts k s serial numbers (ownHand k s number keys0 keys1 inputs draw) (otherHand k s number keys0 keys1 inputs secret draw) refl (z .0) (z .1)
+    joint-at-counts k s serial numbers (observerInput k s number keys0 keys1 inputs draw) (peerInput k s number keys0 keys1 inputs secret draw) refl (z .0) (z .1)
     w i calls none (start-pace number)

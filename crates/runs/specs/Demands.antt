@@ -13,15 +13,15 @@ use Rattle.settings.specs.Sets.{scaleOf}
 use Rattle.settings.specs.Sizes.{widthOf, openingsUpTo, messageLength, drawLength, workLength}
 use Rattle.settings.specs.Questions.{keysOk, settingsOk}
 use Rattle.rounding.specs.Plain.{decompose}
-use Rattle.settings.specs.Order.{rounds}
+use Rattle.settings.specs.Schedule.{rounds}
 use Rattle.book.specs.Deal.{multipliers}
 use Rattle.state.specs.State.{underWay, finished, heldAnswer, countCall}
 use Rattle.settings.specs.declared.Settings.{Settings}
 use Rattle.settings.specs.Settings.{paramsIn}
-use Rattle.runs.specs.Records.{answerOf, missing, Hand, handOf, Seat, World, Who, Call, Move, Event, worldAfter, events}
-use Rattle.runs.specs.Records.Who.{mine, theirs}
+use Rattle.runs.specs.Records.{answerOf, missingShares, PartyInput, partyInput, PartyState, JointState, Party, Call, ScheduledCall, Observation, jointAfter, observations}
+use Rattle.runs.specs.Records.Party.{observer, peer}
 use Rattle.runs.specs.Records.Call.{begin, send, takeLatest, answer, count}
-use Rattle.runs.specs.Records.Event.{began, sent, took, answered, counted}
+use Rattle.runs.specs.Records.Observation.{began, sent, took, answered, counted}
 
 -- ---- What is fixed. k: keys a side
 
@@ -54,60 +54,60 @@ Possible k s draw = Numbers (drawLength (paramsIn s) (widthOf k)) draw
 
 -- "Both sides start with no run under way, a last serial below the list's one serial, and a working slice of the exact length";
 -- nothing was sent in this list
-pub record Idle (k serial : ℕ) (x : Seat) : Type 0 where
+pub record Idle (k serial : ℕ) (x : PartyState) : Type 0 where
   pub none : underWay (x .side) ≡ false
   pub last : x .side .serial < serial
   pub exact : length (x .work) ≡ workLength k
   pub silent : x .latest ≡ []
 
-pub record Start (k serial : ℕ) (w : World) : Type 0 where
-  pub own : Idle k serial (w .own)
-  pub other : Idle k serial (w .other)
+pub record Start (k serial : ℕ) (w : JointState) : Type 0 where
+  pub observer : Idle k serial (w .observer)
+  pub peer : Idle k serial (w .peer)
 
 -- side `number` with its own shares, and the other with what is missing to the secret
-abbrev pub ownHand : ℕ → Settings → ℕ → List ℕ → List ℕ → List ℕ → List ℕ → Hand
-ownHand k s number keys0 keys1 inputs draw = handOf k s number keys0 keys1 draw inputs
+abbrev pub observerInput : ℕ → Settings → ℕ → List ℕ → List ℕ → List ℕ → List ℕ → PartyInput
+observerInput k s number keys0 keys1 inputs draw = partyInput k s number keys0 keys1 draw inputs
 
-abbrev pub otherHand : ℕ → Settings → ℕ → List ℕ → List ℕ → List ℕ → List ℕ → List ℕ → Hand
-otherHand k s number keys0 keys1 inputs secret draw =
-    handOf k s (1 - number) keys0 keys1 draw (missing (widthOf k) (multipliers keys0 keys1) secret inputs)
+abbrev pub peerInput : ℕ → Settings → ℕ → List ℕ → List ℕ → List ℕ → List ℕ → List ℕ → PartyInput
+peerInput k s number keys0 keys1 inputs secret draw =
+    partyInput k s (1 - number) keys0 keys1 draw (missingShares (widthOf k) (multipliers keys0 keys1) secret inputs)
 
 -- ---- Demand 2
 
-abbrev pub move : Who → Call → Move
-move who call = record { who = who; call = call }
+abbrev pub scheduled : Party → Call → ScheduledCall
+scheduled party call = record { party = party; call = call }
 
 -- an output just long enough for a round's message
 abbrev pub outFor : ℕ → Settings → ℕ → List ℕ
 outFor k s round = replicate (messageLength k (paramsIn s) round) 0
 
--- a round in order, `mine` the server: its message; then the phone's take, the phone's message, the server's take
-abbrev pub restOfRound : ℕ → Settings → ℕ → List Move
-restOfRound k s round = move theirs takeLatest ∷ move theirs (send (outFor k s round)) ∷ move mine takeLatest ∷ []
+-- a round in order, `observer` the server: its message; then the phone's take, the phone's message, the server's take
+abbrev pub restOfRound : ℕ → Settings → ℕ → List ScheduledCall
+restOfRound k s round = scheduled peer takeLatest ∷ scheduled peer (send (outFor k s round)) ∷ scheduled observer takeLatest ∷ []
 
-abbrev pub roundInOrder : ℕ → Settings → ℕ → List Move
-roundInOrder k s round = move mine (send (outFor k s round)) ∷ restOfRound k s round
+abbrev pub roundInOrder : ℕ → Settings → ℕ → List ScheduledCall
+roundInOrder k s round = scheduled observer (send (outFor k s round)) ∷ restOfRound k s round
 
-abbrev pub roundsFrom : ℕ → Settings → ℕ → ℕ → List Move
+abbrev pub roundsFrom : ℕ → Settings → ℕ → ℕ → List ScheduledCall
 roundsFrom k s first many = joinTo many (λ (i : ℕ). roundInOrder k s (first + i))
 
 -- the orders in which a run can be carried through: the phone begins last, first, or after the server's first message
-abbrev pub phoneSecond : ℕ → Settings → List Move
-phoneSecond k s = move mine begin ∷ move theirs begin ∷ roundsFrom k s 1 rounds
+abbrev pub phoneSecond : ℕ → Settings → List ScheduledCall
+phoneSecond k s = scheduled observer begin ∷ scheduled peer begin ∷ roundsFrom k s 1 rounds
 
-abbrev pub phoneFirst : ℕ → Settings → List Move
-phoneFirst k s = move theirs begin ∷ move mine begin ∷ roundsFrom k s 1 rounds
+abbrev pub phoneFirst : ℕ → Settings → List ScheduledCall
+phoneFirst k s = scheduled peer begin ∷ scheduled observer begin ∷ roundsFrom k s 1 rounds
 
-abbrev pub phoneLate : ℕ → Settings → List Move
+abbrev pub phoneLate : ℕ → Settings → List ScheduledCall
 phoneLate k s =
-    move mine begin
-    ∷ move mine (send (outFor k s 1))
-    ∷ move theirs begin
+    scheduled observer begin
+    ∷ scheduled observer (send (outFor k s 1))
+    ∷ scheduled peer begin
     ∷ restOfRound k s 1 ++ roundsFrom k s 2 (rounds - 1)
 
-abbrev pub whoNumber : Who → ℕ
-whoNumber mine = 0
-whoNumber theirs = 1
+abbrev pub partyNumber : Party → ℕ
+partyNumber observer = 0
+partyNumber peer = 1
 
 abbrev pub callNumber : Call → ℕ
 callNumber begin = 0
@@ -124,30 +124,30 @@ room (answer out) = length out
 room count = 0
 
 -- the same call at the same side, with at least as long an output
-abbrev pub isCall : Move → Move → Bool
+abbrev pub isCall : ScheduledCall → ScheduledCall → Bool
 isCall planned m =
-    eqb (whoNumber (planned .who)) (whoNumber (m .who))
+    eqb (partyNumber (planned .party)) (partyNumber (m .party))
     && eqb (callNumber (planned .call)) (callNumber (m .call))
     && leb (room (planned .call)) (room (m .call))
 
 -- the planned calls stand in the list, in order, whatever other calls stand between
-unfoldable pub holds : List Move → List Move → Bool
+unfoldable pub holds : List ScheduledCall → List ScheduledCall → Bool
 holds [] [] = true
 holds [] (m ∷ ms) = true
 holds (c ∷ cs) [] = false
 holds (c ∷ cs) (m ∷ ms) = cond (isCall c m) (holds cs ms) (holds (c ∷ cs) ms)
 
-unfoldable pub carriedThrough : ℕ → Settings → List Move → Bool
+unfoldable pub carriedThrough : ℕ → Settings → List ScheduledCall → Bool
 carriedThrough k s calls =
     holds (phoneSecond k s) calls || holds (phoneFirst k s) calls || holds (phoneLate k s) calls
 
 -- what a side holds at the end: finished, the answer by the plain meaning, all openings counted
-pub record Ended (s : Settings) (secret : List ℕ) (x : Seat) : Type 0 where
+pub record Ended (s : Settings) (secret : List ℕ) (x : PartyState) : Type 0 where
   pub done : finished (x .side) ≡ true
   pub answer : heldAnswer (x .side) ≡ answerOf s secret
   pub openings : countCall (x .side) ≡ openingsUpTo (paramsIn s) rounds
 
--- "every run carried through in order finishes, and both sides hold the high parts, or the verdict"; `own` is the server
+-- "every run carried through in order finishes, and both sides hold the high parts, or the verdict"; `observer` is the server
 abbrev pub Demand2 : ℕ → Type 0
 Demand2 k =
     (s : Settings) (serial : ℕ) (keys0 keys1 : List ℕ)
@@ -156,12 +156,12 @@ Demand2 k =
     → Secret s secret
     → Shares k s inputs
     → Possible k s draw
-    → (w : World)
+    → (w : JointState)
     → Start k serial w
-    → (calls : List Move)
+    → (calls : List ScheduledCall)
     → carriedThrough k s calls ≡ true
-    → let e = worldAfter k s serial (ownHand k s 0 keys0 keys1 inputs draw) (otherHand k s 0 keys0 keys1 inputs secret draw) w calls in
-    Ended s secret (e .own) × Ended s secret (e .other)
+    → let e = jointAfter k s serial (observerInput k s 0 keys0 keys1 inputs draw) (peerInput k s 0 keys0 keys1 inputs secret draw) w calls in
+    Ended s secret (e .observer) × Ended s secret (e .peer)
 
 -- "that FIPS 204 gives": the answer by the plain meaning is Decompose's high part
 abbrev pub FipsHigh : Type 0
@@ -173,7 +173,7 @@ FipsHigh =
     → map pos (answerOf s secret) ≡ map (λ (w : ℕ). decompose (scaleOf (s .shape .set)) w .high) secret
 
 -- takes and sends that were accepted, and whether a begin was
-unfoldable pub takesIn : List Event → ℕ
+unfoldable pub takesIn : List Observation → ℕ
 takesIn [] = 0
 takesIn (began r ∷ es) = takesIn es
 takesIn (sent r m ∷ es) = takesIn es
@@ -181,7 +181,7 @@ takesIn (took r m ∷ es) = bit (eqb r 0) + takesIn es
 takesIn (answered r ns ∷ es) = takesIn es
 takesIn (counted c ∷ es) = takesIn es
 
-unfoldable pub sendsIn : List Event → ℕ
+unfoldable pub sendsIn : List Observation → ℕ
 sendsIn [] = 0
 sendsIn (began r ∷ es) = sendsIn es
 sendsIn (sent r m ∷ es) = bit (eqb r 0) + sendsIn es
@@ -189,7 +189,7 @@ sendsIn (took r m ∷ es) = sendsIn es
 sendsIn (answered r ns ∷ es) = sendsIn es
 sendsIn (counted c ∷ es) = sendsIn es
 
-unfoldable pub beganIn : List Event → Bool
+unfoldable pub beganIn : List Observation → Bool
 beganIn [] = false
 beganIn (began r ∷ es) = eqb r 0 || beganIn es
 beganIn (sent r m ∷ es) = beganIn es
@@ -199,7 +199,7 @@ beganIn (counted c ∷ es) = beganIn es
 
 -- after any list of calls, at either side: a run that has begun never stops; it is finished when it has sent and taken all
 -- rounds and not before; its count is fixed by the rounds taken
-pub record Steady (s : Settings) (log : List Event) (x : Seat) : Type 0 where
+pub record Steady (s : Settings) (log : List Observation) (x : PartyState) : Type 0 where
   pub goes-on : (underWay (x .side) || finished (x .side)) ≡ true
   pub in-time : finished (x .side) ≡ (eqb (takesIn log) rounds && eqb (sendsIn log) rounds)
   pub by-rounds : countCall (x .side) ≡ openingsUpTo (paramsIn s) (takesIn log)
@@ -214,10 +214,10 @@ Demand2Steady k =
     → Secret s secret
     → Shares k s inputs
     → Possible k s draw
-    → (w : World)
+    → (w : JointState)
     → Start k serial w
-    → (calls : List Move)
-    → let h = ownHand k s number keys0 keys1 inputs draw in
-    let o = otherHand k s number keys0 keys1 inputs secret draw in
-    beganIn (events k s serial h o w calls) ≡ true
-    → Steady s (events k s serial h o w calls) (worldAfter k s serial h o w calls .own)
+    → (calls : List ScheduledCall)
+    → let h = observerInput k s number keys0 keys1 inputs draw in
+    let o = peerInput k s number keys0 keys1 inputs secret draw in
+    beganIn (observations k s serial h o w calls) ≡ true
+    → Steady s (observations k s serial h o w calls) (jointAfter k s serial h o w calls .observer)

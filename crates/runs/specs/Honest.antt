@@ -1,5 +1,5 @@
 -- What holds of an honest run by arithmetic alone, no call in it: the slices that both sides come to, what their begins are
--- handed, and that the messages pass and open the plain numbers. T3 follows from it.
+-- handed, and that the messages pass and open the plain numbers. Progress follows from it.
 use Prim.Native.Nat.{ℕ, suc, _*_, _-_, _<_, _≤_}
 use mathlib.Core.Path.{_≡_}
 use mathlib.Core.Bool.{true}
@@ -8,20 +8,20 @@ use lib.ListN.{length}
 use Rattle.lists.specs.Lists.{allBelow, allTo}
 use Rattle.field.specs.Field.{q}
 use Rattle.settings.specs.Sizes.{widthOf, openings, fieldCount, shared, workLength}
-use Rattle.settings.specs.Order.{rounds, takeStep}
+use Rattle.settings.specs.Schedule.{rounds, takeStep}
 use Rattle.message.specs.Message.{headerIn, headerNumber, fieldsOk, headerWith}
 use Rattle.column.specs.Run.{plainOpened}
 use Rattle.opening.specs.Opening.{passes}
 use Rattle.side.specs.Side.{openedList}
 use Rattle.settings.specs.declared.Settings.{Settings}
 use Rattle.settings.specs.Settings.{paramsIn, termsOf}
-use Rattle.runs.specs.Records.{Hand}
-use Rattle.runs.specs.Demands.{Fixed, Numbers, Secret, Shares, Possible, ownHand, otherHand}
+use Rattle.runs.specs.Records.{PartyInput}
+use Rattle.runs.specs.Demands.{Fixed, Numbers, Secret, Shares, Possible, observerInput, peerInput}
 use Rattle.runs.specs.Progress.{workAt, sideAt, messageAt}
 
 -- the other side's messages, by round, have the due header, fields below q and zero padding; every opening passes its check here,
 -- and the joined numbers are `numbers R`
-pub record Meets (k : ℕ) (s : Settings) (serial : ℕ) (numbers : ℕ → List ℕ) (h : Hand) (messages : ℕ → List ℕ) : Type 0 where
+pub record Meets (k : ℕ) (s : Settings) (serial : ℕ) (numbers : ℕ → List ℕ) (h : PartyInput) (messages : ℕ → List ℕ) : Type 0 where
   pub header : (R : ℕ) → R < rounds
       → headerIn (fieldCount k (paramsIn s) (suc R)) (messages (suc R))
       ≡ headerNumber (headerWith (1 - h .number) s (suc R) serial)
@@ -35,14 +35,14 @@ pub record Meets (k : ℕ) (s : Settings) (serial : ℕ) (numbers : ℕ → List
       ≡ numbers R
 
 -- one side: its slices pass questions 5 and 6, its inputs and book too, and the other's messages meet it
-pub record SideRuns (k : ℕ) (s : Settings) (serial : ℕ) (numbers : ℕ → List ℕ) (h : Hand) (messages : ℕ → List ℕ) : Type 0 where
+pub record SideRuns (k : ℕ) (s : Settings) (serial : ℕ) (numbers : ℕ → List ℕ) (h : PartyInput) (messages : ℕ → List ℕ) : Type 0 where
   pub exact : (R : ℕ) → R ≤ rounds → length (workAt k s serial numbers h R) ≡ workLength k
   pub low : (R : ℕ) → R ≤ rounds → allBelow q (workAt k s serial numbers h R) ≡ true
   pub inputs : Numbers (s .shape .n * widthOf k) (h .inputs)
   pub book : Numbers (shared (paramsIn s) * widthOf k) (h .book)
   pub meets : Meets k s serial numbers h messages
 
--- both sides, for all that T3 speaks of; the numbers are those that the plain run opens
+-- both sides, for all that Progress speaks of; the numbers are those that the plain run opens
 abbrev pub Runs : ℕ → Type 0
 Runs k =
     (s : Settings) (serial : ℕ) (keys0 keys1 : List ℕ)
@@ -53,7 +53,7 @@ Runs k =
     → Secret s secret
     → Shares k s inputs
     → Possible k s draw
-    → let h : Hand = ownHand k s number keys0 keys1 inputs draw in
-    let o : Hand = otherHand k s number keys0 keys1 inputs secret draw in
+    → let h : PartyInput = observerInput k s number keys0 keys1 inputs draw in
+    let o : PartyInput = peerInput k s number keys0 keys1 inputs secret draw in
     let numbers : ℕ → List ℕ = plainOpened (termsOf s) (widthOf k) draw secret in
     SideRuns k s serial numbers h (messageAt k s serial numbers o) × SideRuns k s serial numbers o (messageAt k s serial numbers h)

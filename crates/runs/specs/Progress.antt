@@ -1,4 +1,4 @@
--- Progress: the seat of a side that has come so far in its run, and how calls move it; nothing here looks at a secret.
+-- Progress: the party state of a side that has come so far in its run, and how calls move it; nothing here looks at a secret.
 use Prim.Native.Nat.{ℕ, zero, suc, _-_}
 use mathlib.Core.Bool.{Bool, cond, not, _&&_}
 use mathlib.Core.List.{List, [], _∷_}
@@ -6,7 +6,7 @@ use lib.Dec.{eqb, leb, ltb}
 use lib.ListN.{length, getD, replicate}
 use Rattle.lists.specs.Lists.{inFront}
 use Rattle.settings.specs.Sizes.{widthOf, messageLength}
-use Rattle.settings.specs.Order.{rounds, goesOn, roundAfter, sendsAfter, takenBy, sentBy, sendStep}
+use Rattle.settings.specs.Schedule.{rounds, goesOn, roundAfter, sendsAfter, takenBy, sentBy, sendStep}
 use Rattle.slice.specs.Layout.{begunWork, weights}
 use Rattle.steps.specs.Work.{takenWork}
 use Rattle.state.specs.declared.Side.{Side}
@@ -15,14 +15,14 @@ use Rattle.opening.specs.Opening.{message}
 use Rattle.side.specs.Side.{begunSide}
 use Rattle.settings.specs.declared.Settings.{Settings}
 use Rattle.settings.specs.Settings.{paramsIn, termsOf}
-use Rattle.runs.specs.Records.{Hand, Seat, World, Who, Call, Move, runOf}
-use Rattle.runs.specs.Records.Who.{mine, theirs}
+use Rattle.runs.specs.Records.{PartyInput, PartyState, JointState, Party, Call, ScheduledCall, runOf}
+use Rattle.runs.specs.Records.Party.{observer, peer}
 use Rattle.runs.specs.Records.Call.{begin, send, takeLatest, answer, count}
 
 -- ---- One side after m of its steps
 
 -- numbers R: the numbers that round R + 1 opens
-module _ (k : ℕ) (s : Settings) (serial : ℕ) (numbers : ℕ → List ℕ) (h : Hand) where
+module _ (k : ℕ) (s : Settings) (serial : ℕ) (numbers : ℕ → List ℕ) (h : PartyInput) where
   -- the working slice after so many rounds
   unfoldable pub workAt : ℕ → List ℕ
   workAt zero = begunWork (paramsIn s) (widthOf k) (h .inputs) (h .book)
@@ -47,19 +47,19 @@ module _ (k : ℕ) (s : Settings) (serial : ℕ) (numbers : ℕ → List ℕ) (h
       let m = sendStep (h .number) (round - 1) in
       message k (sideAt m) (workAt (takenBy (h .number) m))
 
-  unfoldable pub seatAt : ℕ → Seat
-  seatAt m =
+  unfoldable pub partyAt : ℕ → PartyState
+  partyAt m =
       let sends = sentBy (h .number) m in
       record { side = sideAt m; work = workAt (takenBy (h .number) m); latest = cond (eqb sends 0) [] (messageAt sends) }
 
 -- ---- Progress: one count for each side, 0 if it has not begun in this list, else 1 + its steps
 
 pub record Counts : Type 0 where
-  pub own : ℕ
-  pub other : ℕ
+  pub observer : ℕ
+  pub peer : ℕ
 
 abbrev pub none : Counts
-none = record { own = 0; other = 0 }
+none = record { observer = 0; peer = 0 }
 
 abbrev pub takenOf : ℕ → ℕ → ℕ
 takenOf number zero = 0
@@ -88,23 +88,23 @@ module _ (k : ℕ) (s : Settings) (number heard : ℕ) where
   next (answer out) c = c
   next count c = c
 
--- `own` is side `number`
+-- `observer` is side `number`
 module _ (k : ℕ) (s : Settings) (number : ℕ) where
-  unfoldable pub stepCounts : Counts → Who → Call → Counts
-  stepCounts c mine call = record { own = next k s number (sentOf (1 - number) (c .other)) call (c .own); other = c .other }
-  stepCounts c theirs call = record { own = c .own; other = next k s (1 - number) (sentOf number (c .own)) call (c .other) }
+  unfoldable pub stepCounts : Counts → Party → Call → Counts
+  stepCounts c observer call = record { observer = next k s number (sentOf (1 - number) (c .peer)) call (c .observer); peer = c .peer }
+  stepCounts c peer call = record { observer = c .observer; peer = next k s (1 - number) (sentOf number (c .observer)) call (c .peer) }
 
-  unfoldable pub countsAfter : Counts → List Move → Counts
+  unfoldable pub countsAfter : Counts → List ScheduledCall → Counts
   countsAfter c [] = c
-  countsAfter c (m ∷ ms) = countsAfter (stepCounts c (m .who) (m .call)) ms
+  countsAfter c (m ∷ ms) = countsAfter (stepCounts c (m .party) (m .call)) ms
 
--- ---- The world at its counts, from the world at the start
+-- ---- The joint state at its counts, from the joint state at the start
 
 module _ (k : ℕ) (s : Settings) (serial : ℕ) (numbers : ℕ → List ℕ) where
-  -- the seat of one side: as it started, or after its steps
-  abbrev pub seatFrom : Hand → Seat → ℕ → Seat
-  seatFrom h x zero = x
-  seatFrom h x (suc m) = seatAt k s serial numbers h m
+  -- the party state of one side: as it started, or after its steps
+  abbrev pub partyFrom : PartyInput → PartyState → ℕ → PartyState
+  partyFrom h x zero = x
+  partyFrom h x (suc m) = partyAt k s serial numbers h m
 
-  unfoldable pub worldAt : Hand → Hand → World → Counts → World
-  worldAt h o w c = record { own = seatFrom h (w .own) (c .own); other = seatFrom o (w .other) (c .other) }
+  unfoldable pub jointAt : PartyInput → PartyInput → JointState → Counts → JointState
+  jointAt h o w c = record { observer = partyFrom h (w .observer) (c .observer); peer = partyFrom o (w .peer) (c .peer) }

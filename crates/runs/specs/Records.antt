@@ -24,22 +24,22 @@ answerOf s secret =
     cond (eqb (s .shape .kind) 0) (map (highPart (scaleOf (s .shape .set))) secret) (verdict q (s .bound) secret ∷ [])
 
 -- "the other side's are what is missing to the secret and to key × secret"
-unfoldable pub missing : ℕ → List ℕ → List ℕ → List ℕ → List ℕ
-missing width factors secret shares =
+unfoldable pub missingShares : ℕ → List ℕ → List ℕ → List ℕ → List ℕ
+missingShares width factors secret shares =
     inOrder (length secret) width (λ (j c : ℕ).
     sub q (getD factors c 0 * getD secret j 0) (getD shares (j * width + c) 0))
 
 -- ---- What the begins are handed
 
 -- "Each begin gets the one settings and serial and its side's own number, key, input shares, check shares and book"
-pub record Hand : Type 0 where
+pub record PartyInput : Type 0 where
   pub number : ℕ
   pub keys : List ℕ
   pub inputs : List ℕ
   pub book : List ℕ
 
 -- what its begin is handed
-abbrev pub runOf : Settings → ℕ → Hand → Run
+abbrev pub runOf : Settings → ℕ → PartyInput → Run
 runOf s serial h = record { number = h .number; settings = s; keys = h .keys; serial = serial }
 
 -- "the deal makes both books from it": the book of side `number`
@@ -50,14 +50,14 @@ bookOf k s number keys0 keys1 draw =
     (phoneBook (paramsIn s) (widthOf k) draw)
 
 -- side `number`, with these inputs; k keys a side
-abbrev pub handOf : ℕ → Settings → ℕ → List ℕ → List ℕ → List ℕ → List ℕ → Hand
-handOf k s number keys0 keys1 draw inputs =
+abbrev pub partyInput : ℕ → Settings → ℕ → List ℕ → List ℕ → List ℕ → List ℕ → PartyInput
+partyInput k s number keys0 keys1 draw inputs =
     record { number = number; keys = cond (eqb number 0) keys0 keys1; inputs = inputs; book = bookOf k s number keys0 keys1 draw }
 
--- ---- Calls and worlds
+-- ---- Calls and joint states
 
 -- a side, its working slice, and the latest message that it sent in this list, or the empty one
-pub record Seat : Type 0 where
+pub record PartyState : Type 0 where
   pub side : Side
   pub work : List ℕ
   pub latest : List ℕ
@@ -71,84 +71,84 @@ pub data Call : Type 0 where
   count : Call
 
 -- what a call adds to its side's record: the refusal number or 0; a message sent, or handed in; an answer; a count
-pub data Event : Type 0 where
-  began : (refused : ℕ) → Event
-  sent : (refused : ℕ) (message : List ℕ) → Event
-  took : (refused : ℕ) (message : List ℕ) → Event
-  answered : (refused : ℕ) (numbers : List ℕ) → Event
-  counted : (openings : ℕ) → Event
+pub data Observation : Type 0 where
+  began : (refused : ℕ) → Observation
+  sent : (refused : ℕ) (message : List ℕ) → Observation
+  took : (refused : ℕ) (message : List ℕ) → Observation
+  answered : (refused : ℕ) (numbers : List ℕ) → Observation
+  counted : (openings : ℕ) → Observation
 
 pub record Outcome : Type 0 where
-  pub seat : Seat
-  pub event : Event
+  pub state : PartyState
+  pub observation : Observation
 
 -- the side whose record is looked at, and the other
-pub data Who : Type 0 where
-  mine : Who
-  theirs : Who
+pub data Party : Type 0 where
+  observer : Party
+  peer : Party
 
-pub record World : Type 0 where
-  pub own : Seat
-  pub other : Seat
+pub record JointState : Type 0 where
+  pub observer : PartyState
+  pub peer : PartyState
 
-pub record Move : Type 0 where
-  pub who : Who
+pub record ScheduledCall : Type 0 where
+  pub party : Party
   pub call : Call
 
 module _ (k : ℕ) (s : Settings) (serial : ℕ) where
-  abbrev pub beginAt : Hand → Seat → After
+  abbrev pub beginAt : PartyInput → PartyState → After
   beginAt h x =
       beginCall k (x .side) (runOf s serial h) (h .inputs) (h .book) (x .work)
 
-  abbrev pub leftBy : Seat → After → Seat
+  abbrev pub leftBy : PartyState → After → PartyState
   leftBy x a = record { side = a .done .side; work = a .work; latest = x .latest }
 
   -- a refused send sends nothing
-  abbrev pub leftBySend : Seat → AfterSend → Seat
+  abbrev pub leftBySend : PartyState → AfterSend → PartyState
   leftBySend x a =
       record { side = a .sent .side; work = x .work; latest = cond (eqb (a .sent .refused) 0) (take (a .sent .length) (a .out)) (x .latest) }
 
-  -- what a call leaves at its seat, and what it adds to that side's record; incoming is the other side's latest message
-  unfoldable pub outcome : Hand → List ℕ → Seat → Call → Outcome
+  -- what a call leaves at its party state, and what it adds to that side's record; incoming is the other side's latest message
+  unfoldable pub outcome : PartyInput → List ℕ → PartyState → Call → Outcome
   outcome h incoming x begin =
       let a = beginAt h x in
-      record { seat = leftBy x a; event = began (a .done .refused) }
+      record { state = leftBy x a; observation = began (a .done .refused) }
   outcome h incoming x (send out) =
       let a = sendCall k (x .side) (x .work) out in
-      record { seat = leftBySend x a; event = sent (a .sent .refused) (take (a .sent .length) (a .out)) }
+      record { state = leftBySend x a; observation = sent (a .sent .refused) (take (a .sent .length) (a .out)) }
   outcome h incoming x takeLatest =
       let a = takeCall k (x .side) (x .work) incoming in
-      record { seat = leftBy x a; event = took (a .done .refused) incoming }
+      record { state = leftBy x a; observation = took (a .done .refused) incoming }
   outcome h incoming x (answer out) =
       let a = answerCall (x .side) out in
-      record { seat = x; event = answered (a .told .refused) (take (a .told .length) (a .out)) }
-  outcome h incoming x count = record { seat = x; event = counted (countCall (x .side)) }
+      record { state = x; observation = answered (a .result .refused) (take (a .result .length) (a .out)) }
+  outcome h incoming x count = record { state = x; observation = counted (countCall (x .side)) }
 
-  module _ (h o : Hand) where
-    -- "Each call gets the side and working slice that the last call there left": the world after a call, and the events at `own`
-    unfoldable pub step : World → Who → Call → World
-    step w mine c = record { own = outcome h (w .other .latest) (w .own) c .seat; other = w .other }
-    step w theirs c = record { own = w .own; other = outcome o (w .own .latest) (w .other) c .seat }
+  module _ (h o : PartyInput) where
+    -- "Each call gets the side and working slice that the last call there left": the joint state after a call, and the events at `observer`
+    unfoldable pub step : JointState → Party → Call → JointState
+    step w observer c = record { observer = outcome h (w .peer .latest) (w .observer) c .state; peer = w .peer }
+    step w peer c = record { observer = w .observer; peer = outcome o (w .observer .latest) (w .peer) c .state }
 
-    unfoldable pub note : World → Who → Call → List Event
-    note w mine c = outcome h (w .other .latest) (w .own) c .event ∷ []
-    note w theirs c = []
+    unfoldable pub observed : JointState → Party → Call → List Observation
+    observed w observer c = outcome h (w .peer .latest) (w .observer) c .observation ∷ []
+    observed w peer c = []
 
-    unfoldable pub worldAfter : World → List Move → World
-    worldAfter w [] = w
-    worldAfter w (m ∷ ms) = worldAfter (step w (m .who) (m .call)) ms
+    unfoldable pub jointAfter : JointState → List ScheduledCall → JointState
+    jointAfter w [] = w
+    jointAfter w (m ∷ ms) = jointAfter (step w (m .party) (m .call)) ms
 
-    unfoldable pub events : World → List Move → List Event
-    events w [] = []
-    events w (m ∷ ms) = note w (m .who) (m .call) ++ events (step w (m .who) (m .call)) ms
+    unfoldable pub observations : JointState → List ScheduledCall → List Observation
+    observations w [] = []
+    observations w (m ∷ ms) = observed w (m .party) (m .call) ++ observations (step w (m .party) (m .call)) ms
 
 -- "A side's record is its key, input shares, check shares and book, each message it sent or was handed, and each result of its calls, in order"
 pub record Record : Type 0 where
   pub keys : List ℕ
   pub inputs : List ℕ
   pub book : List ℕ
-  pub log : List Event
+  pub log : List Observation
 
-abbrev pub recordOf : ℕ → Settings → ℕ → Hand → Hand → World → List Move → Record
+abbrev pub recordOf : ℕ → Settings → ℕ → PartyInput → PartyInput → JointState → List ScheduledCall → Record
 recordOf k s serial h o w ms =
-    record { keys = h .keys; inputs = h .inputs; book = h .book; log = events k s serial h o w ms }
+    record { keys = h .keys; inputs = h .inputs; book = h .book; log = observations k s serial h o w ms }

@@ -1,4 +1,4 @@
--- T3, as a type: after every list of calls the world is the one at its counts, and the counts look at no secret.
+-- Progress, as a type: after every list of calls the joint state is the one at its counts, and the counts look at no secret.
 use Prim.Native.Nat.{ℕ, _<_}
 use mathlib.Core.Path.{_≡_}
 use mathlib.Core.List.{List}
@@ -6,12 +6,12 @@ use Rattle.settings.specs.Sizes.{widthOf}
 use Rattle.column.specs.Run.{plainOpened}
 use Rattle.settings.specs.declared.Settings.{Settings}
 use Rattle.settings.specs.Settings.{termsOf}
-use Rattle.runs.specs.Records.{World, Move, worldAfter}
-use Rattle.runs.specs.Demands.{Fixed, Secret, Shares, Possible, Start, ownHand, otherHand}
-use Rattle.runs.specs.Progress.{none, countsAfter, worldAt}
+use Rattle.runs.specs.Records.{JointState, ScheduledCall, jointAfter}
+use Rattle.runs.specs.Demands.{Fixed, Secret, Shares, Possible, Start, observerInput, peerInput}
+use Rattle.runs.specs.Progress.{none, countsAfter, jointAt}
 
-abbrev pub T3 : ℕ → Type 0
-T3 k =
+abbrev pub Progress : ℕ → Type 0
+Progress k =
     (s : Settings) (serial : ℕ) (keys0 keys1 : List ℕ)
     → Fixed k s serial keys0 keys1
     → (number : ℕ)
@@ -20,10 +20,10 @@ T3 k =
     → Secret s secret
     → Shares k s inputs
     → Possible k s draw
-    → (w : World)
+    → (w : JointState)
     → Start k serial w
-    → (calls : List Move)
-    → let h = ownHand k s number keys0 keys1 inputs draw in
-    let o = otherHand k s number keys0 keys1 inputs secret draw in
+    → (calls : List ScheduledCall)
+    → let h = observerInput k s number keys0 keys1 inputs draw in
+    let o = peerInput k s number keys0 keys1 inputs secret draw in
     let numbers : ℕ → List ℕ = plainOpened (termsOf s) (widthOf k) draw secret in
-    worldAfter k s serial h o w calls ≡ worldAt k s serial numbers h o w (countsAfter k s number none calls)
+    jointAfter k s serial h o w calls ≡ jointAt k s serial numbers h o w (countsAfter k s number none calls)

@@ -10,10 +10,10 @@ use lib.ListN.{getD}
 use lib.Seq.{ext-getD}
 use Rattle.lists.proofs.Lists.{length-listFrom}
 use Rattle.field.specs.Field.{add, sub}
-use Rattle.settings.specs.Order.{rounds}
+use Rattle.settings.specs.Schedule.{rounds}
 use Rattle.settings.specs.Sizes.{openings, shared}
 use Rattle.settings.specs.Settings.{Terms}
-use Rattle.book.specs.Book.{drawn, phoneNumber, value}
+use Rattle.book.specs.Book.{drawn, phoneNumber, bookValue}
 use Rattle.book.specs.Deal.{phoneBook, serverNumber, serverBook}
 use Rattle.column.specs.Run.{openedFrom, plainOpened}
 use Rattle.secrecy.specs.Paired.{openedOf, tripleOpening, drawnMoved, phoneMoved, paired}
@@ -35,7 +35,7 @@ module _ (T : Terms) (width : ℕ) (pos : 0 < T .params .scale .modulus) where
   Ph d k c = phoneNumber (T .params) width d k c
 
   abbrev Val : List ℕ → ℕ → ℕ
-  Val d k = value (T .params) width d k
+  Val d k = bookValue (T .params) width d k
 
   abbrev O : List ℕ → List ℕ → ℕ → ℕ → ℕ
   O d x rounds o = openedOf T width d x rounds o

@@ -15,7 +15,7 @@ use Rattle.field.proofs.Congruence.{≈-lt}
 use Rattle.field.proofs.Solve.{at, _⊕_, _⊖_, _⊗_, red, solve}
 use Rattle.field.proofs.Sums.{sum-cong}
 use Rattle.rounding.specs.Digits.{digit}
-use Rattle.book.specs.Book.{Entry, groupGap, entryOf, maskAt, tripleAt, groupAt, isDrawn, drawn, value, valueOf}
+use Rattle.book.specs.Book.{Entry, groupGap, entryOf, maskAt, tripleAt, groupAt, isDrawn, drawn, bookValue, entryValue}
 use Rattle.settings.specs.Sizes.{shared, drawLength, groups}
 use Rattle.settings.specs.Settings.{Terms}
 use Rattle.book.specs.Book.Entry.{mask, place, left, right, product, groupMask, groupPlace}
@@ -95,11 +95,11 @@ module _ (T : Terms) (width : ℕ) where
   masks-same d d′ s c h = same-at d d′ s (maskAt (T .params) c) (mask c) (holds-mask (T .params) c h) refl
 
   -- the values follow the drawn numbers
-  pub value-same : (d d′ : List ℕ) → Same d d′ → (k : ℕ) → k < shared (T .params) → value (T .params) width d k ≡ value (T .params) width d′ k
-  unfolding value
+  pub value-same : (d d′ : List ℕ) → Same d d′ → (k : ℕ) → k < shared (T .params) → bookValue (T .params) width d k ≡ bookValue (T .params) width d′ k
+  unfolding bookValue
   value-same d d′ s k h = go (entryOf (T .params) k) refl (at-entry (T .params) k h)
     where
-      go : (e : Entry) → entryOf (T .params) k ≡ e → At (T .params) k e → valueOf (T .params) width d k e ≡ valueOf (T .params) width d′ k e
+      go : (e : Entry) → entryOf (T .params) k ≡ e → At (T .params) k e → entryValue (T .params) width d k e ≡ entryValue (T .params) width d′ k e
       go (mask c) i a = same-at d d′ s k (mask c) (h, i) refl
       go (left c t) i a = same-at d d′ s k (left c t) (h, i) refl
       go (right c t) i a = same-at d d′ s k (right c t) (h, i) refl

@@ -1,4 +1,4 @@
--- From T2's closed form of the openings to what the pairing asks of them, and that settings, secrets and draws are sound.
+-- From PlainRun's closed form of the openings to what the pairing asks of them, and that settings, secrets and draws are sound.
 use mathlib.Core.Path.{_≡_, refl, ap, _∙_}
 use mathlib.Core.List.{List}
 use mathlib.Core.Bool.{Bool, true, false, cond, _&&_}
@@ -11,11 +11,11 @@ use Rattle.lists.proofs.Lists.{getD-listTo}
 use Rattle.field.specs.Field.{add, sub}
 use Rattle.settings.specs.Sizes.{widthOf, openings, groups}
 use Rattle.settings.specs.Questions.{settingsOk}
-use Rattle.settings.specs.Order.{rounds}
+use Rattle.settings.specs.Schedule.{rounds}
 use Rattle.book.specs.Book.{maskAt, tripleAt, groupAt, drawn}
 use Rattle.steps.specs.Steps.{shiftOf}
 use Rattle.column.specs.Clear.{clearFactor, clearOpened, maskOf, maskedOf}
-use Rattle.column.specs.Theorems.{Sound, T2}
+use Rattle.column.specs.Theorems.{Sound, PlainRun}
 use Rattle.settings.specs.declared.Settings.{Settings}
 use Rattle.settings.specs.Settings.{Terms, termsOf}
 use Rattle.runs.proofs.Answers.{sound}
@@ -25,13 +25,13 @@ use Rattle.secrecy.proofs.Moves.{factorOf, checkOf, Good, Opens, Shapes
 
 -- ---- the openings of all rounds but the last
 
-module _ (T : Terms) (k : ℕ) (t2 : T2) (x d : List ℕ) (sound : Sound T k d x) where
+module _ (T : Terms) (k : ℕ) (plain-run-law : PlainRun) (x d : List ℕ) (sound : Sound T k d x) where
   abbrev w : ℕ
   w = widthOf k
 
   opened-is : (r o : ℕ) → r < rounds - 1 → o < openings (T .params) (suc r) → openedOf T w d x r o ≡ clearOpened T w d x (suc r) o
   opened-is r o h b =
-      ap (λ l. getD l o 0) (t2 .opened T k d x sound r h)
+      ap (λ l. getD l o 0) (plain-run-law .opened T k d x sound r h)
       ∙ getD-listTo (openings (T .params) (suc r)) (clearOpened T w d x (suc r)) o 0 b
 
   first-is : (c : ℕ) → c < T .params .n → openedOf T w d x 0 c ≡ sub (T .params .scale .modulus) (getD x c 0 + shiftOf T) (drawn (T .params) w d (maskAt (T .params) c))
@@ -71,6 +71,6 @@ good k s d h = record { size = h .size-is; below = h .below }
 pub able : (k : ℕ) (s : Settings) (d : List ℕ) → Good (termsOf s) (widthOf k) d → Possible k s d
 able k s d h = record { size-is = h .size; below = h .below }
 
-pub shapes : (k : ℕ) → T2 → (s : Settings) (x : List ℕ) → settingsOk s ≡ true → Secret s x
+pub shapes : (k : ℕ) → PlainRun → (s : Settings) (x : List ℕ) → settingsOk s ≡ true → Secret s x
     → Shapes (termsOf s) (widthOf k) x
-shapes k t2 s x ok hx d g = opens (termsOf s) k t2 x d (sound k s x d ok hx (able k s d g))
+shapes k plain-run-law s x ok hx d g = opens (termsOf s) k plain-run-law x d (sound k s x d ok hx (able k s d g))

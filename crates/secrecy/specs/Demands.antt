@@ -3,8 +3,8 @@ use Prim.Native.Nat.{ℕ, _<_}
 use mathlib.Core.Path.{_≡_}
 use mathlib.Core.List.{List}
 use Rattle.settings.specs.declared.Settings.{Settings}
-use Rattle.runs.specs.Records.{answerOf, World, Move, recordOf}
-use Rattle.runs.specs.Demands.{Fixed, Secret, Shares, Possible, Start, ownHand, otherHand}
+use Rattle.runs.specs.Records.{answerOf, JointState, ScheduledCall, recordOf}
+use Rattle.runs.specs.Demands.{Fixed, Secret, Shares, Possible, Start, observerInput, peerInput}
 
 -- draws under the first secret x pair off one to one with draws under the second x′: "one pairing of draws serves all lists"
 pub record Pairing (k : ℕ) (s : Settings) (serial : ℕ) (keys0 keys1 : List ℕ) (number : ℕ) (inputs x x′ : List ℕ) : Type 0 where
@@ -16,11 +16,11 @@ pub record Pairing (k : ℕ) (s : Settings) (serial : ℕ) (keys0 keys1 : List �
   pub there-back : (draw : List ℕ) → Possible k s draw → there (back draw) ≡ draw
   pub same-records : (draw : List ℕ)
       → Possible k s draw
-      → (w : World)
+      → (w : JointState)
       → Start k serial w
-      → (calls : List Move)
-      → recordOf k s serial (ownHand k s number keys0 keys1 inputs draw) (otherHand k s number keys0 keys1 inputs x draw) w calls
-      ≡ recordOf k s serial (ownHand k s number keys0 keys1 inputs (there draw)) (otherHand k s number keys0 keys1 inputs x′ (there draw)) w calls
+      → (calls : List ScheduledCall)
+      → recordOf k s serial (observerInput k s number keys0 keys1 inputs draw) (peerInput k s number keys0 keys1 inputs x draw) w calls
+      ≡ recordOf k s serial (observerInput k s number keys0 keys1 inputs (there draw)) (peerInput k s number keys0 keys1 inputs x′ (there draw)) w calls
 
 -- "For each side and any two alike secrets": "two secrets are alike if their answers are equal"
 abbrev pub Demand3 : ℕ → Type 0

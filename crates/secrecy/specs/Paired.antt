@@ -1,4 +1,4 @@
--- The pairing of draws (T5), as a definition: each mask moves by the change of the opened number that it hides.
+-- The pairing of draws (DrawsPair), as a definition: each mask moves by the change of the opened number that it hides.
 use Prim.Native.Nat.{ℕ, _+_, _*_, _/_, _%_}
 use mathlib.Core.Bool.{cond}
 use mathlib.Core.List.{List, [], _∷_, _++_}
@@ -6,7 +6,7 @@ use lib.Dec.{eqb}
 use lib.ListN.{getD}
 use Rattle.lists.specs.Lists.{listTo, joinTo}
 use Rattle.field.specs.Field.{add, sub}
-use Rattle.book.specs.Book.{Entry, isDrawn, entryOf, drawn, phoneNumber, value}
+use Rattle.book.specs.Book.{Entry, isDrawn, entryOf, drawn, phoneNumber, bookValue}
 use Rattle.settings.specs.Sizes.{shared}
 use Rattle.settings.specs.Settings.{Params, Terms}
 use Rattle.book.specs.Book.Entry.{mask, place, left, right, product, groupMask, groupPlace}
@@ -78,7 +78,7 @@ module _ (T : Terms) (width : ℕ) (x x′ : List ℕ) where
       let all = drawnMoved draw in
       drawFrom params width (drawn params width all) (λ (k c : ℕ).
       add modulus (phoneNumber params width draw k c)
-      (getD factors c 0 * sub modulus (value params width all k) (value params width draw k)))
+      (getD factors c 0 * sub modulus (bookValue params width all k) (bookValue params width draw k)))
 
   -- the pairing, for the record of side `number`
   unfoldable pub paired : ℕ → List ℕ → List ℕ → List ℕ

@@ -1,10 +1,10 @@
--- T5, as a type.
+-- DrawsPair, as a type.
 use Prim.Native.Nat.{ℕ, _<_}
 use mathlib.Core.Path.{_≡_}
 use mathlib.Core.Bool.{true}
 use mathlib.Core.List.{List}
 use Rattle.settings.specs.Sizes.{widthOf}
-use Rattle.settings.specs.Order.{rounds}
+use Rattle.settings.specs.Schedule.{rounds}
 use Rattle.book.specs.Deal.{multipliers}
 use Rattle.column.specs.Run.{plainOpened}
 use Rattle.settings.specs.declared.Settings.{Settings}
@@ -15,7 +15,7 @@ use Rattle.runs.specs.Demands.{Secret, Possible}
 use Rattle.secrecy.specs.Paired.{paired}
 
 -- the pairing is one to one, keeps possible draws, the opened numbers and the own book
-pub record T5 (k : ℕ) : Type 0 where
+pub record DrawsPair (k : ℕ) : Type 0 where
   pub possible : (s : Settings) (number : ℕ) (keys0 keys1 x x′ draw : List ℕ)
       → settingsOk s ≡ true → Secret s x → Secret s x′ → Possible k s draw
       → Possible k s (paired (termsOf s) (widthOf k) x x′ number (multipliers keys0 keys1) draw)

@@ -2,5 +2,5 @@
 pub mod Sets
 pub mod Ready
 pub mod Keys
-pub mod Order
+pub mod Schedule
 pub mod Sizes

@@ -2,6 +2,6 @@
 pub mod Sets
 pub mod Settings
 pub mod Questions
-pub mod Order
+pub mod Schedule
 pub mod Sizes
 pub mod Theorems

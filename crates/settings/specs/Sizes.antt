@@ -7,7 +7,7 @@ use Rattle.settings.specs.declared.Shape.{Shape}
 use Rattle.settings.specs.Sets.{base}
 use Rattle.settings.specs.Settings.{Params, paramsOf}
 use Rattle.settings.specs.Questions.{shapeOk}
-use Rattle.settings.specs.Order.{roundOk}
+use Rattle.settings.specs.Schedule.{roundOk}
 
 -- ---- Keys
 

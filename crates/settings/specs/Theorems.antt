@@ -5,7 +5,7 @@ use Rattle.settings.specs.declared.Shape.{Shape}
 use Rattle.settings.specs.Sets.{Scale, scaleOf, base}
 use Rattle.settings.specs.Settings.{Params, paramsOf, paramsWith}
 use Rattle.settings.specs.Questions.{ShapeReady}
-use Rattle.settings.specs.Order.{rounds}
+use Rattle.settings.specs.Schedule.{rounds}
 use Rattle.settings.specs.Sizes.{widthOf, openingsUpTo, shared, drawLength, workLength}
 
 -- all that the arguments may use of the modulus, α, s and the bases

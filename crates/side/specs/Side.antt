@@ -10,7 +10,7 @@ use Rattle.lists.specs.Lists.{allBelow, allTo, listTo, inFront}
 use Rattle.field.specs.Field.{q}
 use Rattle.settings.specs.Sizes.{widthOf, openings, messageLength, shared, workLength}
 use Rattle.settings.specs.Questions.{askSettings, keysOk}
-use Rattle.settings.specs.Order.{rounds, roundAfter}
+use Rattle.settings.specs.Schedule.{rounds, roundAfter}
 use Rattle.settings.specs.Settings.{paramsIn, termsOf}
 use Rattle.message.specs.Message.{askForm}
 use Rattle.slice.specs.Layout.{begunWork, weights}

@@ -12,7 +12,7 @@ use Rattle.lists.specs.Answers.{ask}
 use Rattle.lists.proofs.Questions.{passed, both-yes}
 use Rattle.settings.specs.Questions.{askSettings, keysOk}
 use Rattle.settings.proofs.Ready.{settings-ready, settings-pass, settings-refuse, settings-rest}
-use Rattle.settings.specs.Order.{rounds, steps, roundOk, stepsIn}
+use Rattle.settings.specs.Schedule.{rounds, steps, roundOk, stepsIn}
 use Rattle.state.specs.declared.Side.{Side}
 use Rattle.state.specs.State.{isSending, isTaking, isFinished, whole, sendDue, takeDue, finished, Whole, stepOf, placesOf, answerNo}
 

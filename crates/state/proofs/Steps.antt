@@ -6,8 +6,8 @@ use mathlib.Core.List.{List}
 use native.Mathlib.Omega.{arith}
 use native.Mathlib.Decide.{decLt}
 use borrow.Author.Tests.{eqb-true, eqb-false, lt-ltb, le-ltb}
-use Rattle.settings.specs.Order.{rounds, steps, roundAfter, sendsAfter, sendStep, takeStep, stepsIn}
-use Rattle.settings.proofs.Order.{send-on, take-on, send-sends, take-takes}
+use Rattle.settings.specs.Schedule.{rounds, steps, roundAfter, sendsAfter, sendStep, takeStep, stepsIn}
+use Rattle.settings.proofs.Schedule.{send-on, take-on, send-sends, take-takes}
 use Rattle.state.specs.declared.Side.{Side}
 use Rattle.state.specs.declared.Phase.{Phase}
 use Rattle.state.specs.declared.Phase.the-variants.{Sending, Taking, Finished}

@@ -9,10 +9,10 @@ use Rattle.lists.specs.Answers.{ask}
 use Rattle.lists.specs.Lists.{listTo, inFront}
 use Rattle.settings.specs.Sizes.{keyCount, openingsUpTo, answerPlaces}
 use Rattle.settings.specs.Questions.{askSettings, keysOk, Ready}
-use Rattle.settings.specs.Order.{rounds, steps, roundOk, goesOn, roundAfter, sendsAfter, takenBy, stepsIn}
+use Rattle.settings.specs.Schedule.{rounds, steps, roundOk, goesOn, roundAfter, sendsAfter, takenBy, stepsIn}
 use Rattle.settings.specs.Settings.{paramsIn, settingsWith}
 use Rattle.state.specs.declared.Side.{Side}
-use Rattle.state.specs.declared.Told.{Told}
+use Rattle.state.specs.declared.AnswerResult.{AnswerResult}
 use Rattle.state.specs.declared.Phase.{Phase}
 use Rattle.state.specs.declared.Phase.the-variants.{Sending, Taking, Stopped, Finished}
 
@@ -116,11 +116,11 @@ answerNo s out =
     0)
 
 pub record AfterAnswer : Type 0 where
-  pub told : Told
+  pub result : AnswerResult
   pub out : List ℕ
 
 abbrev pub afterAnswer : ℕ → ℕ → List ℕ → AfterAnswer
-afterAnswer refused count out = record { told = record { refused = refused; length = count }; out = out }
+afterAnswer refused count out = record { result = record { refused = refused; length = count }; out = out }
 
 unfoldable pub answerCall : Side → List ℕ → AfterAnswer
 answerCall s out =

@@ -3,7 +3,7 @@ ghost use mathlib.Core.Path.{_≡_};
 ghost use Prim.Native.Nat.{ℕ, _≤_};
 ghost use lib.ListN.{length, getD};
 ghost use Rattle.lists.specs.Lists.{fill};
-ghost use Rattle.settings.specs.Order.{rounds, steps};
+ghost use Rattle.settings.specs.Schedule.{rounds, steps};
 ghost use Rattle.settings.specs.Settings.{paramsOf};
 ghost use Rattle.settings.specs.Sizes.{openingsUpTo};
 ghost use Rattle.state.specs.State.{isSending, isTaking, isFinished, whole, sendDue, takeDue, underWay, finished, Whole, freshSide, moved, inPhase, stepOf, phaseAfter, atStep, placesOf, answerNo, answerCall, roundsTaken, countCall};
@@ -44,7 +44,7 @@ pub struct Side {
 }
 
 // What answer gives back: the number of the first no, or 0, and how many places it wrote.
-pub struct Told {
+pub struct AnswerResult {
     pub refused: u32,
     pub length: usize,
 }
@@ -295,17 +295,17 @@ pub fn copy_front(out: &mut [u32], from: &[u32], count: usize)
 }
 
 // The opened answer of a finished run, in front of `out`.
-pub fn answer(side: Side, out: &mut [u32]) -> Told
-    ensures { λ r. ⌜ record { told = r; out = now (out .exit) } ≡ answerCall side (now (out .entry)) ⌝ }
+pub fn answer(side: Side, out: &mut [u32]) -> AnswerResult
+    ensures { λ r. ⌜ record { result = r; out = now (out .exit) } ≡ answerCall side (now (out .entry)) ⌝ }
 {
     let refused = answer_no(side, out);
     if refused != 0 {
-        return Told { refused, length: 0 };
+        return AnswerResult { refused, length: 0 };
     }
     let count = places_of(side);
     let held = side.answer;
     copy_front(out, &held, count);
-    Told {
+    AnswerResult {
         refused: 0,
         length: count,
     }

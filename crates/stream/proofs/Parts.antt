@@ -11,7 +11,7 @@ use lib.ListN.{length, take, drop, length-take, length-append, length-drop}
 use lib.Seq.{take-append-seam, take-append-le, take-nil, take-take, take-all, drop-length}
 use Rattle.stream.specs.Input.{linesOf, answersFrom, outputOf}
 use Rattle.stream.specs.Stream.{atStart, lineLength, atLine, heldOf, heldAfter, keptAfter, nextLine}
-use Rattle.stream.specs.Theorems.{State, afterCall, afterCalls, afterParts, afterEnd, writtenFor, joined, WritesTheOutput}
+use Rattle.stream.specs.Theorems.{State, afterCall, afterCalls, afterParts, afterEnd, writtenFor, concatenated, WritesTheOutput}
 use Rattle.stream.proofs.Standing.{same-line, left-none, left-is}
 use Rattle.stream.proofs.Onto.{onto, onto-append, onto-line, onto-none, lines-ended, lines-open, length-line}
 
@@ -173,10 +173,10 @@ module _ (answer : ℕ → List ℕ → List ℕ) (room : ℕ) (cut : (k : ℕ) 
   calls zero a (b ∷ bytes) rest h st = absurd (omega arith)
   calls (suc fuel) a bytes rest h st = one-more fuel (calls fuel) a bytes rest h st
 
-  parts-stand : (ps : List (List ℕ)) (a : State) → Stands a (joined ps) → Stands (afterParts answer a ps) []
-  unfolding afterParts joined
+  parts-stand : (ps : List (List ℕ)) (a : State) → Stands a (concatenated ps) → Stands (afterParts answer a ps) []
+  unfolding afterParts concatenated
   parts-stand [] a st = st
-  parts-stand (p ∷ ps) a st = parts-stand ps (afterCalls answer (length p) a p) (calls (length p) a p (joined ps) (omega arith) st)
+  parts-stand (p ∷ ps) a st = parts-stand ps (afterCalls answer (length p) a p) (calls (length p) a p (concatenated ps) (omega arith) st)
 
   -- ---- the end
 
@@ -220,7 +220,7 @@ module _ (answer : ℕ → List ℕ → List ℕ) (room : ℕ) (cut : (k : ℕ) 
 pub writes-the-output : WritesTheOutput
 unfolding writtenFor outputOf onto atLine
 writes-the-output answer kept r cut parts few =
-    let input = joined parts in
+    let input = concatenated parts in
     let total = outputOf answer input in
     let begin : Stands answer (length kept) cut total (record { stream = atStart; kept = kept; written = [] }) input =
     record {

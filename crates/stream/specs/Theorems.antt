@@ -43,16 +43,16 @@ unfoldable pub writtenFor : (ℕ → List ℕ → List ℕ) → List ℕ → Lis
 writtenFor answer kept parts = afterEnd answer (afterParts answer (record { stream = atStart; kept = kept; written = [] }) parts)
 
 -- the parts joined
-unfoldable pub joined : List (List ℕ) → List ℕ
-joined [] = []
-joined (p ∷ ps) = p ++ joined ps
+unfoldable pub concatenated : List (List ℕ) → List ℕ
+concatenated [] = []
+concatenated (p ∷ ps) = p ++ concatenated ps
 
--- T7. An answer that looks at no more than the first `length kept` bytes of a line is written for each line, in order
+-- WritesTheOutput. An answer that looks at no more than the first `length kept` bytes of a line is written for each line, in order
 abbrev pub WritesTheOutput : Type 0
 WritesTheOutput =
     (answer : ℕ → List ℕ → List ℕ) (kept : List ℕ)
     → 0 < length kept
     → ((k : ℕ) (line : List ℕ) → answer k (take (length kept) line) ≡ answer k line)
     → (parts : List (List ℕ))
-    → length (linesOf (joined parts)) < 18446744073709551616
-    → writtenFor answer kept parts ≡ outputOf answer (joined parts)
+    → length (linesOf (concatenated parts)) < 18446744073709551616
+    → writtenFor answer kept parts ≡ outputOf answer (concatenated parts)

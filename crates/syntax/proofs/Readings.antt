@@ -1,4 +1,4 @@
--- Words taken one by one give the order of all of them.
+-- Words taken one by one give the request of all of them.
 use Prim.Native.Nat.{ℕ, suc, _+_, _-_, _≤_, _<_}
 use mathlib.Core.Path.{_≡_, refl, sym, ap, _∙_}
 use mathlib.Core.Bool.{Bool, true, false, _&&_}
@@ -9,9 +9,9 @@ use lib.ListN.{length, getD, take, drop, length-append, length-drop}
 use lib.Seq.{getD-drop, take-all}
 use Rattle.lists.specs.Lists.{every, listFrom}
 use Rattle.syntax.specs.Rows.{row}
-use Rattle.syntax.specs.Line.{fieldAt, fieldsFrom, allGood, valuesOf, orderOf, ordered}
+use Rattle.syntax.specs.Line.{fieldAt, fieldsFrom, allGood, valuesOf, orderOf, requested}
 use Rattle.syntax.specs.Reading.{startReading, withWord, withWords, finish}
-use Rattle.syntax.specs.declared.Order.{Order}
+use Rattle.syntax.specs.declared.Request.{Request}
 use Rattle.syntax.specs.declared.Reading.{Reading}
 use Rattle.syntax.specs.declared.Field.{Field}
 use Rattle.lists.proofs.Questions.{and-true}
@@ -48,9 +48,9 @@ words-on g vs (w ∷ ws) =
     (omega (arith, e))
     (ap (row 11) (append-assoc vs (f .value ∷ []) _ ∙ ap (λ (k : ℕ). vs ++ f .value ∷ valuesOf (fieldsFrom k ws)) e))
 
--- an order from the eleven values
+-- a request from the eleven values
 pub order-is : (n : ℕ) (v : List ℕ)
-    → _≡_ {A = Order}
+    → _≡_ {A = Request}
     (record {
       good = true;
       kind = getD v 0 0;
@@ -59,16 +59,16 @@ pub order-is : (n : ℕ) (v : List ℕ)
       count = n - 3;
       numbers = getD v 3 0 ∷ getD v 4 0 ∷ getD v 5 0 ∷ getD v 6 0 ∷ getD v 7 0 ∷ getD v 8 0 ∷ getD v 9 0 ∷ getD v 10 0 ∷ [];
     })
-    (ordered n v)
-unfolding ordered row listFrom
+    (requested n v)
+unfolding requested row listFrom
 order-is n v = rw (getD-drop 3 v 0 0, getD-drop 3 v 1 0, getD-drop 3 v 2 0, getD-drop 3 v 3 0, getD-drop 3 v 4 0, getD-drop 3 v 5 0, getD-drop 3 v 6 0, getD-drop 3 v 7 0) refl
 
--- an order keeps no more than eleven values
+-- a request keeps no more than eleven values
 kept : (vs : List ℕ) → row 8 (drop 3 (row 11 vs)) ≡ row 8 (drop 3 vs)
 kept vs = row-cong 8 (drop 3 (row 11 vs)) (drop 3 vs) (λ x h. getD-drop 3 (row 11 vs) x 0 ∙ getD-row 11 vs (3 + x) (omega (arith, h)) ∙ sym (getD-drop 3 vs x 0))
 
-ordered-row : (n : ℕ) (vs : List ℕ) → ordered n (row 11 vs) ≡ ordered n vs
-unfolding ordered
+ordered-row : (n : ℕ) (vs : List ℕ) → requested n (row 11 vs) ≡ requested n vs
+unfolding requested
 ordered-row n vs =
     rw (getD-row 11 vs 0 (omega arith), getD-row 11 vs 1 (omega arith), getD-row 11 vs 2 (omega arith), kept vs) refl
 

@@ -5,27 +5,27 @@ use mathlib.Core.List.{[], _∷_}
 use lib.ListN.{replicate}
 use Rattle.lists.specs.Lists.{every, listFrom, toFirst}
 use Rattle.syntax.specs.Rows.{row}
-use Rattle.syntax.specs.Line.{words, digitByte, valueFrom, numberIn, isByte, kindIn, setIn, fieldAt, fieldsFrom, allGood, valuesOf, malformed, ordered, orderOf, lineOf}
+use Rattle.syntax.specs.Line.{words, digitByte, valueFrom, numberIn, isByte, kindIn, setIn, fieldAt, fieldsFrom, allGood, valuesOf, malformed, requested, orderOf, lineOf}
 use Rattle.syntax.specs.Answer.{decimalIn, decimal, lineNumber, numbersText, refusalText, answerPart, answerText}
 
 -- `H - 0 95233`
 pub first-order : lineOf (72 ∷ 32 ∷ 45 ∷ 32 ∷ 48 ∷ 32 ∷ 57 ∷ 53 ∷ 50 ∷ 51 ∷ 51 ∷ []) ≡ record { good = true; kind = 0; set = 0; bound = 0; count = 1; numbers = 95233 ∷ replicate 7 0 }
-unfolding toFirst words digitByte valueFrom numberIn isByte kindIn setIn fieldAt fieldsFrom allGood valuesOf ordered orderOf lineOf every row listFrom
+unfolding toFirst words digitByte valueFrom numberIn isByte kindIn setIn fieldAt fieldsFrom allGood valuesOf requested orderOf lineOf every row listFrom
 first-order = refl
 
 -- `B - 1 0 0`
 pub second-order : lineOf (66 ∷ 32 ∷ 45 ∷ 32 ∷ 49 ∷ 32 ∷ 48 ∷ 32 ∷ 48 ∷ []) ≡ record { good = true; kind = 1; set = 0; bound = 1; count = 2; numbers = replicate 8 0 }
-unfolding toFirst words digitByte valueFrom numberIn isByte kindIn setIn fieldAt fieldsFrom allGood valuesOf ordered orderOf lineOf every row listFrom
+unfolding toFirst words digitByte valueFrom numberIn isByte kindIn setIn fieldAt fieldsFrom allGood valuesOf requested orderOf lineOf every row listFrom
 second-order = refl
 
 -- `H 1 0`
 pub third-order : lineOf (72 ∷ 32 ∷ 49 ∷ 32 ∷ 48 ∷ []) ≡ record { good = true; kind = 0; set = 1; bound = 0; count = 0; numbers = replicate 8 0 }
-unfolding toFirst words digitByte valueFrom numberIn isByte kindIn setIn fieldAt fieldsFrom allGood valuesOf ordered orderOf lineOf every row listFrom
+unfolding toFirst words digitByte valueFrom numberIn isByte kindIn setIn fieldAt fieldsFrom allGood valuesOf requested orderOf lineOf every row listFrom
 third-order = refl
 
 -- a blank at the end: `H 1 0 `
 pub blank-behind : lineOf (72 ∷ 32 ∷ 49 ∷ 32 ∷ 48 ∷ 32 ∷ []) ≡ malformed
-unfolding toFirst words digitByte valueFrom numberIn isByte kindIn setIn fieldAt fieldsFrom allGood valuesOf ordered orderOf lineOf every row listFrom
+unfolding toFirst words digitByte valueFrom numberIn isByte kindIn setIn fieldAt fieldsFrom allGood valuesOf requested orderOf lineOf every row listFrom
 blank-behind = refl
 
 -- `1 1`

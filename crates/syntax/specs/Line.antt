@@ -7,7 +7,7 @@ use lib.ListN.{length, getD, drop, replicate}
 use Rattle.lists.specs.Lists.{every, toFirst}
 use Rattle.syntax.specs.Rows.{row}
 use Rattle.syntax.specs.declared.Field.{Field}
-use Rattle.syntax.specs.declared.Order.{Order}
+use Rattle.syntax.specs.declared.Request.{Request}
 
 -- "one blank between": a line's words, split at each blank (byte 32). A blank at an end, or next to another, leaves an empty word
 unfoldable pub words : List ℕ → List (List ℕ)
@@ -75,21 +75,21 @@ allGood fs = every (λ (f : Field). f .good) fs
 unfoldable pub valuesOf : List Field → List ℕ
 valuesOf fs = map (λ (f : Field). f .value) fs
 
--- the order of a malformed line
-abbrev pub malformed : Order
+-- the request of a malformed line
+abbrev pub malformed : Request
 malformed = record { good = false; kind = 0; set = 0; bound = 0; count = 0; numbers = replicate 8 0 }
 
 -- n words with these values: kind, set, B, and the coefficients, of which the first 8 are kept
-unfoldable pub ordered : ℕ → List ℕ → Order
-ordered n vs =
+unfoldable pub requested : ℕ → List ℕ → Request
+requested n vs =
     record { good = true; kind = getD vs 0 0; set = getD vs 1 0; bound = getD vs 2 0; count = n - 3; numbers = row 8 (drop 3 vs) }
 
 -- three words at least, and all of their form
-unfoldable pub orderOf : List (List ℕ) → Order
+unfoldable pub orderOf : List (List ℕ) → Request
 orderOf ws =
     cond (ltb (length ws) 3) malformed
-    (cond (allGood (fieldsFrom 0 ws)) (ordered (length ws) (valuesOf (fieldsFrom 0 ws))) malformed)
+    (cond (allGood (fieldsFrom 0 ws)) (requested (length ws) (valuesOf (fieldsFrom 0 ws))) malformed)
 
 -- "any other form, or a line above 1,024 bytes without its line end .., is malformed"
-unfoldable pub lineOf : List ℕ → Order
+unfoldable pub lineOf : List ℕ → Request
 lineOf line = cond (ltb 1024 (length line)) malformed (orderOf (words line))

@@ -4,8 +4,8 @@ use mathlib.Core.Bool.{true, cond, _&&_}
 use mathlib.Core.List.{List, [], _∷_}
 use lib.Dec.{eqb, ltb}
 use lib.ListN.{set, replicate}
-use Rattle.syntax.specs.Line.{fieldAt, malformed, ordered}
-use Rattle.syntax.specs.declared.Order.{Order}
+use Rattle.syntax.specs.Line.{fieldAt, malformed, requested}
+use Rattle.syntax.specs.declared.Request.{Request}
 use Rattle.syntax.specs.declared.Reading.{Reading}
 
 -- the bytes before the first blank
@@ -27,6 +27,6 @@ unfoldable pub withWords : Reading → List (List ℕ) → Reading
 withWords s [] = s
 withWords s (w ∷ ws) = withWords (withWord s w) ws
 
--- the order, when the last word has been read
-unfoldable pub finish : Reading → Order
-finish s = cond (ltb (s .count) 3) malformed (cond (s .good) (ordered (s .count) (s .values)) malformed)
+-- the request, when the last word has been read
+unfoldable pub finish : Reading → Request
+finish s = cond (ltb (s .count) 3) malformed (cond (s .good) (requested (s .count) (s .values)) malformed)

@@ -5,7 +5,7 @@ ghost use mathlib.Core.List.{_∷_, []};
 ghost use Prim.Native.Nat.{_+_, _*_, _-_, _≤_, _<_, min};
 ghost use lib.ListN.{length, take, set};
 ghost use Rattle.lists.specs.Lists.{every};
-ghost use Rattle.syntax.specs.Line.{digitByte, valueOf, tooLarge, fit, unfit, numberIn, isByte, kindIn, setIn, fieldAt, words, malformed, ordered, lineOf};
+ghost use Rattle.syntax.specs.Line.{digitByte, valueOf, tooLarge, fit, unfit, numberIn, isByte, kindIn, setIn, fieldAt, words, malformed, requested, lineOf};
 ghost use Rattle.syntax.specs.Reading.{wordLength, startReading, withWord, withWords, finish};
 ghost use Rattle.syntax.specs.Answer.{lastDigit, decimalIn, decimal, lineNumber, numbersText, refusalText, answerPart, answerText, textOf, put, puts};
 
@@ -29,7 +29,7 @@ const ROOM: usize = 112;
 
 // What a line asks for: kind 0 HIGH or 1 BOUND, set, B, how many coefficients, and the first 8 of them. All is 0 where the line
 // is malformed (`good` is false).
-pub struct Order {
+pub struct Request {
     pub good: bool,
     pub kind: u32,
     pub set: u32,
@@ -272,10 +272,10 @@ fn read_words(line: &[u8]) -> Reading
     reading
 }
 
-fn refuse() -> Order
+fn refuse() -> Request
     ensures { λ r. ⌜ r ≡ malformed ⌝ }
 {
-    Order {
+    Request {
         good: false,
         kind: 0,
         set: 0,
@@ -285,13 +285,13 @@ fn refuse() -> Order
     }
 }
 
-// The order of so many words with these values.
-fn order_of(count: usize, v: [u32; 11]) -> Order
+// The request of so many words with these values.
+fn request_of(count: usize, v: [u32; 11]) -> Request
     requires { ⌜ 3 ≤ count ⌝ }
     requires { ⌜ count ≤ 1025 ⌝ }
-    ensures { λ r. ⌜ r ≡ ordered count v ⌝ }
+    ensures { λ r. ⌜ r ≡ requested count v ⌝ }
 {
-    Order {
+    Request {
         good: true,
         kind: v[0],
         set: v[1],
@@ -301,8 +301,8 @@ fn order_of(count: usize, v: [u32; 11]) -> Order
     }
 }
 
-// The order of a line that has been read.
-fn end_reading(reading: Reading) -> Order
+// The request of a line that has been read.
+fn end_reading(reading: Reading) -> Request
     requires { ⌜ reading .count ≤ 1025 ⌝ }
     ensures { λ r. ⌜ r ≡ finish reading ⌝ }
 {
@@ -311,13 +311,13 @@ fn end_reading(reading: Reading) -> Order
     }
     if reading.good {
         let values = reading.values;
-        return order_of(reading.count, values);
+        return request_of(reading.count, values);
     }
     refuse()
 }
 
 // What a line, without its line end, asks for.
-pub fn read_line(line: &[u8]) -> Order
+pub fn read_line(line: &[u8]) -> Request
     ensures { λ r. ⌜ r ≡ lineOf (now (line .entry)) ⌝ }
 {
     if line.len() > LONGEST {

@@ -317,14 +317,14 @@ fn play_rounds(
 // A side's answer.
 fn answer_line(side: Side, number: u32, out: &mut [u8], at: usize) -> Written {
     let mut places = [0u32; ANSWER_LENGTH];
-    let told = answer(side, &mut places);
-    if told.refused != 0 {
+    let result = answer(side, &mut places);
+    if result.refused != 0 {
         return Written {
-            at: put_refused(out, at, b"answer", number, told.refused),
+            at: put_refused(out, at, b"answer", number, result.refused),
             refused: true,
         };
     }
-    let length = cut(told.length, ANSWER_LENGTH);
+    let length = cut(result.length, ANSWER_LENGTH);
     Written {
         at: put_answer_line(out, at, number, &places[..length]),
         refused: false,

@@ -2,7 +2,7 @@
 use native.Mathlib.Nat.{zero-add}
 use Rattle.book.specs.Book.{maskAt}
 use Rattle.dealer.proofs.Steps.{mask-none, mask-step}
-use Rattle.dealer.specs.Work.{paramsFor, Lent, Wrote}
+use Rattle.dealer.specs.Work.{paramsFor, DealSlices, Wrote}
 use Rattle.dealer.proofs.Work.{wrote-none, wrote-join, wrote-as, still-lent, cursor-as, first-cursor}
 use Prim.Native.Nat.{_≤_, _-_}
 use mathlib.Core.Path.{_≡_, refl, sym}
@@ -13,7 +13,7 @@ use Rattle.dealer.proofs.deal_coefficients.Statement.{statement}
 use Rattle.dealer.proofs.deal_coefficients.Tie as tie
 
 abbrev Inv-loop : tie.InvT-loop
-Inv-loop o draw server₀ phone₀ next₀ c₀ server phone next c = (c ≤ o .shape .n) × Lent o draw server phone × Wrote o draw server₀ phone₀ 0 (maskAt (paramsFor o) c) server phone next
+Inv-loop o draw server₀ phone₀ next₀ c₀ server phone next c = (c ≤ o .shape .n) × DealSlices o draw server phone × Wrote o draw server₀ phone₀ 0 (maskAt (paramsFor o) c) server phone next
 
 abbrev μ-loop : tie.MeasureT-loop
 μ-loop o draw server₀ phone₀ next₀ c₀ server phone next c = o .shape .n - c

@@ -1,7 +1,7 @@
 -- `dealer::deal_triples` meets its contract. Assumes nothing.
 use Rattle.book.specs.Book.{tripleAt}
 use Rattle.dealer.proofs.Steps.{triple-step}
-use Rattle.dealer.specs.Work.{paramsFor, Lent, Wrote}
+use Rattle.dealer.specs.Work.{paramsFor, DealSlices, Wrote}
 use Rattle.dealer.proofs.Work.{wrote-none, wrote-join, wrote-as, still-lent, cursor-as}
 use Prim.Native.Nat.{_≤_, _-_, _*_}
 use mathlib.Core.Path.{_≡_, refl, sym}
@@ -12,7 +12,7 @@ use Rattle.dealer.proofs.deal_triples.Statement.{statement}
 use Rattle.dealer.proofs.deal_triples.Tie as tie
 
 abbrev Inv-loop : tie.InvT-loop
-Inv-loop o draw server₀ phone₀ c at next₀ t₀ server phone next t = (t ≤ 8) × Lent o draw server phone × Wrote o draw server₀ phone₀ (tripleAt (paramsFor o) c 0) (3 * t) server phone next
+Inv-loop o draw server₀ phone₀ c at next₀ t₀ server phone next t = (t ≤ 8) × DealSlices o draw server phone × Wrote o draw server₀ phone₀ (tripleAt (paramsFor o) c 0) (3 * t) server phone next
 
 abbrev μ-loop : tie.MeasureT-loop
 μ-loop o draw server₀ phone₀ c at next₀ t₀ server phone next t = 8 - t

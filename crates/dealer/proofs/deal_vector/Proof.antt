@@ -1,6 +1,6 @@
 -- `dealer::deal_vector` meets its contract. Assumes nothing.
 use Rattle.dealer.proofs.Work.{wrote-as}
-use Rattle.dealer.specs.Work.{Lent, Wrote}
+use Rattle.dealer.specs.Work.{DealSlices, Wrote}
 use Rattle.dealer.proofs.Work.{wrote-none, wrote-join, still-lent, next-vector}
 use Prim.Native.Nat.{_≤_, _-_}
 use mathlib.Core.Path.{_≡_, refl}
@@ -10,7 +10,7 @@ use Rattle.dealer.proofs.deal_vector.Statement.{statement}
 use Rattle.dealer.proofs.deal_vector.Tie as tie
 
 abbrev Inv-loop : tie.InvT-loop
-Inv-loop o draw server₀ phone₀ k at size d next₀ j₀ server phone next j = (j ≤ size) × Lent o draw server phone × Wrote o draw server₀ phone₀ k j server phone next
+Inv-loop o draw server₀ phone₀ k at size d next₀ j₀ server phone next j = (j ≤ size) × DealSlices o draw server phone × Wrote o draw server₀ phone₀ k j server phone next
 
 abbrev μ-loop : tie.MeasureT-loop
 μ-loop o draw server₀ phone₀ k at size d next₀ j₀ server phone next j = size - j

@@ -3,7 +3,7 @@ use Rattle.field.specs.Sums.{sumTo}
 use Rattle.book.specs.Book.{vectorAt}
 use Rattle.settings.specs.Sets.{base}
 use Rattle.dealer.proofs.Steps.{vector-step, sum-step, digit-vector}
-use Rattle.dealer.specs.Work.{paramsFor, Lent, Wrote}
+use Rattle.dealer.specs.Work.{paramsFor, DealSlices, Wrote}
 use Rattle.dealer.proofs.Work.{wrote-none, wrote-join, wrote-as, still-lent, cursor-as}
 use Prim.Native.Nat.{_≤_, _-_}
 use mathlib.Core.Path.{_≡_, refl, sym, _∙_}
@@ -14,7 +14,7 @@ use Rattle.dealer.proofs.deal_vectors.Statement.{statement}
 use Rattle.dealer.proofs.deal_vectors.Tie as tie
 
 abbrev Inv-loop : tie.InvT-loop
-Inv-loop o draw server₀ phone₀ c at r next₀ i₀ server phone next i = (i ≤ 5) × Lent o draw server phone × Wrote o draw server₀ phone₀ (vectorAt (paramsFor o) c 0) (sumTo i (base (paramsFor o .scale))) server phone next
+Inv-loop o draw server₀ phone₀ c at r next₀ i₀ server phone next i = (i ≤ 5) × DealSlices o draw server phone × Wrote o draw server₀ phone₀ (vectorAt (paramsFor o) c 0) (sumTo i (base (paramsFor o .scale))) server phone next
 
 abbrev μ-loop : tie.MeasureT-loop
 μ-loop o draw server₀ phone₀ c at r next₀ i₀ server phone next i = 5 - i

@@ -1,7 +1,7 @@
 -- `lines::server_half` meets its contract.
 use borrow.Author.Needs.{needs}
 use native.Mathlib.Omega.{arith}
-use Rattle.lines.specs.Play.{seatOf}
+use Rattle.lines.specs.Play.{partyOf}
 use Rattle.lines.proofs.Laws.{server-half-is}
 use Rattle.lines.proofs.server_half.Statement.{statement}
 use Rattle.lines.proofs.server_half.Tie as tie
@@ -9,7 +9,7 @@ use Rattle.lines.proofs.server_half.Tie as tie
 returns : tie.Need-returns
 returns c =
     let a = c .before .before .before .before .before .before .before .before .before .args in (
-      server-half-is (seatOf (a .table .server) (a .server .now)) (seatOf (c .before .before .before .before .send-at .result) (a .server .now)) (seatOf (a .table .phone) (a .phone .now)) _ (c .before .before .before .before .send-at .ensures .0) (c .before .before .take-at .ensures .0),
+      server-half-is (partyOf (a .table .server) (a .server .now)) (partyOf (c .before .before .before .before .send-at .result) (a .server .now)) (partyOf (a .table .phone) (a .phone .now)) _ (c .before .before .before .before .send-at .ensures .0) (c .before .before .take-at .ensures .0),
       (c .before .before .before .before .send-at .ensures .1, omega (arith, c .before .before .take-at .ensures .1)),
     )
 

@@ -3,7 +3,7 @@ use Rattle.message.proofs.Form.{length-stop, header-stop, fields-stop, 
 use Rattle.message.proofs.Reading.{header-at}
 use Rattle.message.proofs.Numbers.{Bytes}
 use Rattle.settings.specs.Sizes.{keyCount, messageBits, bytesFor}
-use Rattle.lists.proofs.Questions.{told-yes, told-no}
+use Rattle.lists.proofs.Questions.{answered-yes, answered-no}
 use lib.ListN.{length}
 use native.Mathlib.Omega.{arith}
 use mathlib.Core.Path.{_≡_, sym, _∙_}
@@ -31,7 +31,7 @@ returns-3 c =
     let l : length (a .message .now) ≡ bytesFor (messageBits (c .before .before .before .before .before .before .before .field-count .result)) = omega arith in
     fields-stop keyCount (a .due) (a .message .now) (c .before .before .before .before .before .before .before .field-count .result) (c .before .before .before .before .before .before .before .field-count .ensures .0) l
     (sym (header-at _ (a .message .now) l bytes) ∙ sym (c .before .before .before .before .get-number .ensures) ∙ c .before .before .if2 .left ∙ c .before .before .before .number .ensures)
-    (told-no _ _ (c .before .fields-ok .ensures) (c .if3 .taken))
+    (answered-no _ _ (c .before .fields-ok .ensures) (c .if3 .taken))
 
 returns-4 : tie.Need-returns-4
 returns-4 c =
@@ -40,7 +40,7 @@ returns-4 c =
     let l : length (a .message .now) ≡ bytesFor (messageBits (c .before .before .before .before .before .before .before .field-count .result)) = omega arith in
     form-yes keyCount (a .due) (a .message .now) (c .before .before .before .before .before .before .before .field-count .result) (c .before .before .before .before .before .before .before .field-count .ensures .0) l
     (sym (header-at _ (a .message .now) l bytes) ∙ sym (c .before .before .before .before .get-number .ensures) ∙ c .before .before .if2 .left ∙ c .before .before .before .number .ensures)
-    (told-yes _ _ (c .before .fields-ok .ensures) (c .if3 .left))
+    (answered-yes _ _ (c .before .fields-ok .ensures) (c .if3 .left))
 
 pub form-no-spec : {M : Type 1} → statement M
 form-no-spec =

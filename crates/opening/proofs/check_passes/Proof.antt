@@ -6,7 +6,7 @@ use native.Mathlib.Numerals.{add-one}
 use native.Mathlib.Omega.{arith}
 use Rattle.lists.specs.Lists.{allTo}
 use Rattle.lists.proofs.Every.{allTo-no}
-use Rattle.lists.proofs.Questions.{and-yes, told-yes, told-no}
+use Rattle.lists.proofs.Questions.{and-yes, answered-yes, answered-no}
 use Rattle.settings.specs.Sizes.{keyCount}
 use Rattle.opening.specs.Work.{partAt, checkedAt}
 use Rattle.opening.proofs.check_passes.Statement.{statement}
@@ -24,11 +24,11 @@ loop-holds c = (omega arith, refl)
 
 returns : tie.Need-returns Inv-loop μ-loop
 unfolding checkedAt
-returns c = sym (allTo-no keyCount _ (c .before .before .before .loop .i) (omega arith) (told-no _ _ (c .before .part-passes .ensures) (c .if1 .taken)))
+returns c = sym (allTo-no keyCount _ (c .before .before .before .loop .i) (omega arith) (answered-no _ _ (c .before .part-passes .ensures) (c .if1 .taken)))
 
 loop-again : tie.Need-loop-again Inv-loop μ-loop
 unfolding allTo
-loop-again c = (omega arith, rw (add-one (c .before .before .before .loop .i)) (and-yes _ _ (c .before .before .before .loop .inv .1) (told-yes _ _ (c .before .part-passes .ensures) (c .if1 .left))))
+loop-again c = (omega arith, rw (add-one (c .before .before .before .loop .i)) (and-yes _ _ (c .before .before .before .loop .inv .1) (answered-yes _ _ (c .before .part-passes .ensures) (c .if1 .left))))
 
 returns-2 : tie.Need-returns-2 Inv-loop μ-loop
 unfolding checkedAt

@@ -5,7 +5,7 @@ use borrow.Author.Needs.{needs}
 use lib.ListN.{drop}
 use Rattle.lists.specs.Lists.{every}
 use Rattle.lists.proofs.Every.{every-again, every-stop, every-end}
-use Rattle.lists.proofs.Questions.{told-yes, told-no}
+use Rattle.lists.proofs.Questions.{answered-yes, answered-no}
 use Rattle.settings.specs.Questions.{keyOk, keysOk}
 use Rattle.settings.specs.Sizes.{keyCount}
 use Rattle.settings.proofs.keys_ok.Statement.{statement}
@@ -19,10 +19,10 @@ abbrev μ-loop : tie.MeasureT-loop
 
 returns : tie.Need-returns Inv-loop μ-loop
 unfolding keysOk
-returns c = every-stop keyOk _ (c .before .before .before .loop .i) (search needs) (told-no _ _ (c .before .key-ok .ensures) (c .if1 .taken)) (c .before .before .before .loop .inv .1)
+returns c = every-stop keyOk _ (c .before .before .before .loop .i) (search needs) (answered-no _ _ (c .before .key-ok .ensures) (c .if1 .taken)) (c .before .before .before .loop .inv .1)
 
 loop-again : tie.Need-loop-again Inv-loop μ-loop
-loop-again c = (search needs, every-again keyOk _ (c .before .before .before .loop .i) (search needs) (told-yes _ _ (c .before .key-ok .ensures) (c .if1 .left)) (c .before .before .before .loop .inv .1))
+loop-again c = (search needs, every-again keyOk _ (c .before .before .before .loop .i) (search needs) (answered-yes _ _ (c .before .key-ok .ensures) (c .if1 .left)) (c .before .before .before .loop .inv .1))
 
 returns-2 : tie.Need-returns-2 Inv-loop μ-loop
 unfolding keysOk

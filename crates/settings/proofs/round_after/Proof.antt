@@ -1,7 +1,7 @@
 -- `settings::round_after` meets its contract.
 use borrow.Author.Needs.{needs}
 use borrow.Author.Tests.{lt-ltb, le-ltb}
-use Rattle.settings.specs.Order.{roundAfter}
+use Rattle.settings.specs.Schedule.{roundAfter}
 use Rattle.settings.proofs.round_after.Statement.{statement}
 use Rattle.settings.proofs.round_after.Tie as tie
 

@@ -5,7 +5,7 @@ use native.Mathlib.Omega.{arith}
 use lib.ListN.{length, drop}
 use Rattle.lists.specs.Lists.{every}
 use Rattle.lists.proofs.Every.{every-again, every-stop, every-end}
-use Rattle.lists.proofs.Questions.{told-yes, told-no}
+use Rattle.lists.proofs.Questions.{answered-yes, answered-no}
 use Rattle.syntax.specs.Line.{digitByte}
 use Rattle.syntax.proofs.all_digits.Statement.{statement}
 use Rattle.syntax.proofs.all_digits.Tie as tie
@@ -25,12 +25,12 @@ is-digit-requires c κs = tt
 returns : tie.Need-returns Inv-loop μ-loop
 returns c =
     let loop = c .before .before .before .before .loop in
-    every-stop digitByte _ (loop .i) (omega arith) (told-no _ _ (c .before .is-digit .ensures) (c .if1 .taken)) (loop .inv .1)
+    every-stop digitByte _ (loop .i) (omega arith) (answered-no _ _ (c .before .is-digit .ensures) (c .if1 .taken)) (loop .inv .1)
 
 loop-again : tie.Need-loop-again Inv-loop μ-loop
 loop-again c =
     let loop = c .before .before .before .before .loop in
-    (omega arith, every-again digitByte _ (loop .i) (omega arith) (told-yes _ _ (c .before .is-digit .ensures) (c .if1 .left)) (loop .inv .1))
+    (omega arith, every-again digitByte _ (loop .i) (omega arith) (answered-yes _ _ (c .before .is-digit .ensures) (c .if1 .left)) (loop .inv .1))
 
 returns-2 : tie.Need-returns-2 Inv-loop μ-loop
 returns-2 c =

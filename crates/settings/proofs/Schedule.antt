@@ -5,7 +5,7 @@ use mathlib.Core.Bool.{true, false, cond}
 use native.Mathlib.Omega.{arith}
 use native.Mathlib.Decide.{decLt}
 use borrow.Author.Tests.{eq-eqb, ne-eqb, le-leb, lt-ltb, le-ltb}
-use Rattle.settings.specs.Order.{rounds, steps, roundOk, goesOn, roundAfter, sendsAfter, sendStep, takeStep}
+use Rattle.settings.specs.Schedule.{rounds, steps, roundOk, goesOn, roundAfter, sendsAfter, sendStep, takeStep}
 
 -- a side stands in one of the rounds
 pub round-ok : (m : ℕ) → roundOk (roundAfter m) ≡ true

@@ -1,14 +1,14 @@
 -- `syntax::order_of` meets its contract. Assumes nothing.
 use Rattle.syntax.proofs.Readings.{order-is}
 use borrow.Author.Needs.{needs}
-use Rattle.syntax.proofs.order_of.Statement.{statement}
-use Rattle.syntax.proofs.order_of.Tie as tie
+use Rattle.syntax.proofs.request_of.Statement.{statement}
+use Rattle.syntax.proofs.request_of.Tie as tie
 
 returns : tie.Need-returns
 returns c = order-is (c .args .count) (c .args .t2)
 
-pub order-of-spec : {M : Type 1} → statement M
-order-of-spec =
+pub request-of-spec : {M : Type 1} → statement M
+request-of-spec =
     tie.close
     (tie.spec
     (λ c. search needs)

@@ -1,4 +1,4 @@
--- Two runs with the same opened numbers and the same own hand: the other side sends the same messages, and the worlds look the same.
+-- Two runs with the same opened numbers and the same input of the observer: the other side sends the same messages, and the joint states look the same.
 use mathlib.Core.Path.{_≡_, refl, sym, ap, ap₂, _∙_}
 use mathlib.Core.List.{List, [], _∷_}
 use mathlib.Core.Bool.{cond}
@@ -13,15 +13,15 @@ use Rattle.field.specs.Field.{q}
 use Rattle.field.specs.Forms.{Adds}
 use Rattle.field.proofs.Congruence.{≈-eq, ≈-sym, ≈-trans, ≈-lt, ≈-cancel}
 use Rattle.settings.specs.Sizes.{widthOf, openings}
-use Rattle.settings.specs.Order.{rounds, steps, sentBy}
+use Rattle.settings.specs.Schedule.{rounds, steps, sentBy}
 use Rattle.message.specs.Message.{messageOf, headerNumber, headerWith}
-use Rattle.column.specs.Theorems.{T1Work}
+use Rattle.column.specs.Theorems.{SlicesJoin}
 use Rattle.opening.specs.Opening.{partColumn}
 use Rattle.settings.specs.declared.Settings.{Settings}
 use Rattle.settings.specs.Settings.{paramsIn}
-use Rattle.runs.specs.Records.{Hand, Seat, World, Move, worldAfter, events}
-use Rattle.runs.specs.Progress.{messageAt, seatAt, seatFrom, none, countsAfter, worldAt}
-use Rattle.runs.proofs.Seats.{which-below}
+use Rattle.runs.specs.Records.{PartyInput, PartyState, JointState, ScheduledCall, jointAfter, observations}
+use Rattle.runs.specs.Progress.{messageAt, partyAt, partyFrom, none, countsAfter, jointAt}
+use Rattle.runs.proofs.PartyStates.{which-below}
 use Rattle.runs.proofs.Both.{start-pace, pace-after}
 use Rattle.runs.proofs.Sharing.{join-cong, sharing, sharing-below, fieldsAt, part-inside, message-is}
 use Rattle.runs.proofs.Opens.{Facing}
@@ -35,8 +35,8 @@ missing-same m f a b b′ v h h′ l l′ =
     (≈-cancel a (≈-trans (≈-eq (add-comm b a)) (≈-trans (h .total) (≈-trans (≈-sym (h′ .total)) (≈-eq (add-comm a b′))))))
     l l′
 
-module _ (t1 : T1Work) (k : ℕ) (s : Settings) (serial : ℕ) (factors : List ℕ)
-    (N N′ : ℕ → List ℕ) (same : SameNumbers N N′) (plain plain′ : ℕ → ℕ → ℕ) (h o o′ : Hand)
+module _ (joins : SlicesJoin) (k : ℕ) (s : Settings) (serial : ℕ) (factors : List ℕ)
+    (N N′ : ℕ → List ℕ) (same : SameNumbers N N′) (plain plain′ : ℕ → ℕ → ℕ) (h o o′ : PartyInput)
     (v : Facing k s serial N factors plain h o) (v′ : Facing k s serial N′ factors plain′ h o′) where
   faces : o .number ≡ o′ .number
   faces = v .faces ∙ sym (v′ .faces)
@@ -55,7 +55,7 @@ module _ (t1 : T1Work) (k : ℕ) (s : Settings) (serial : ℕ) (factors : List �
   share-same R c j l b m =
       missing-same q (getD factors c 0) (sharing k s serial N h R c j) (sharing k s serial N o R c j) (sharing k s serial N′ o′ R c j) (plain R j)
       (v .adds R c j b) (rw (own-same-share R c j l, plain-same R j l m) (v′ .adds R c j b))
-      (sharing-below k s serial N t1 o (v .other) R c j b m) (sharing-below k s serial N′ t1 o′ (v′ .other) R c j b m)
+      (sharing-below k s serial N joins o (v .peer) R c j b m) (sharing-below k s serial N′ joins o′ (v′ .peer) R c j b m)
 
   -- its fields
   fields-same : (R : ℕ) → R < rounds → fieldsAt k s serial N o R ≡ fieldsAt k s serial N′ o′ R
@@ -64,40 +64,40 @@ module _ (t1 : T1Work) (k : ℕ) (s : Settings) (serial : ℕ) (factors : List �
       join-cong 0 (openings (paramsIn s) (suc R)) _ _ (λ j m.
       ap₂ _∷_ (share-same R 0 (0 + j) l (omega arith) (omega arith))
       (listTo-cong k _ _ (λ i b.
-      share-same R (partColumn k (1 - o .number) i) (0 + j) l (part-inside k s serial N o (v .other .which) i b) (omega arith)
+      share-same R (partColumn k (1 - o .number) i) (0 + j) l (part-inside k s serial N o (v .peer .which) i b) (omega arith)
       ∙ ap (λ (number : ℕ). sharing k s serial N′ o′ R (partColumn k (1 - number) i) (0 + j)) faces)))
 
   message-same : (R : ℕ) → R < rounds → messageAt k s serial N o (suc R) ≡ messageAt k s serial N′ o′ (suc R)
   message-same R l =
-      message-is k s serial N t1 o (v .other) R l
+      message-is k s serial N joins o (v .peer) R l
       ∙ ap₂ (λ (number : ℕ) (fields : List ℕ). messageOf (headerNumber (headerWith number s (suc R) serial)) fields) faces (fields-same R l)
-      ∙ sym (message-is k s serial N′ t1 o′ (v′ .other) R l)
+      ∙ sym (message-is k s serial N′ joins o′ (v′ .peer) R l)
 
   latest-by : (sends : ℕ) → sends ≤ rounds → cond (eqb sends 0) [] (messageAt k s serial N o sends) ≡ cond (eqb sends 0) [] (messageAt k s serial N′ o′ sends)
   latest-by zero l = refl
   latest-by (suc R) l = rw (message-same R (omega arith))
 
-  latest-after : (m : ℕ) → m ≤ steps → seatAt k s serial N o m .latest ≡ seatAt k s serial N′ o′ m .latest
-  unfolding seatAt
+  latest-after : (m : ℕ) → m ≤ steps → partyAt k s serial N o m .latest ≡ partyAt k s serial N′ o′ m .latest
+  unfolding partyAt
   latest-after m l =
-      let u : o .number < 2 = which-below o (v .other .which) in
+      let u : o .number < 2 = which-below o (v .peer .which) in
       latest-by (sentBy (o .number) m) (omega arith)
       ∙ ap (λ (n : ℕ). cond (eqb (sentBy n m) 0) [] (messageAt k s serial N′ o′ (sentBy n m))) faces
 
   -- its latest message, before it begins the one that it started with
-  latest-same : (x : Seat) (c : ℕ) → c ≤ suc steps → seatFrom k s serial N o x c .latest ≡ seatFrom k s serial N′ o′ x c .latest
+  latest-same : (x : PartyState) (c : ℕ) → c ≤ suc steps → partyFrom k s serial N o x c .latest ≡ partyFrom k s serial N′ o′ x c .latest
   latest-same x zero l = refl
   latest-same x (suc m) l = latest-after m (omega arith)
 
-  module _ (own : h .number < 2) (w : World)
-      (runs : (calls : List Move) → worldAfter k s serial h o w calls ≡ worldAt k s serial N h o w (countsAfter k s (h .number) none calls))
-      (runs′ : (calls : List Move) → worldAfter k s serial h o′ w calls ≡ worldAt k s serial N′ h o′ w (countsAfter k s (h .number) none calls)) where
-    alike-at : (past : List Move) → Alike (worldAt k s serial N h o w (countsAfter k s (h .number) none past)) (worldAt k s serial N′ h o′ w (countsAfter k s (h .number) none past))
-    unfolding worldAt
+  module _ (own : h .number < 2) (w : JointState)
+      (runs : (calls : List ScheduledCall) → jointAfter k s serial h o w calls ≡ jointAt k s serial N h o w (countsAfter k s (h .number) none calls))
+      (runs′ : (calls : List ScheduledCall) → jointAfter k s serial h o′ w calls ≡ jointAt k s serial N′ h o′ w (countsAfter k s (h .number) none calls)) where
+    alike-at : (past : List ScheduledCall) → Alike (jointAt k s serial N h o w (countsAfter k s (h .number) none past)) (jointAt k s serial N′ h o′ w (countsAfter k s (h .number) none past))
+    unfolding jointAt
     alike-at past =
         let c = countsAfter k s (h .number) none past in
         let p = pace-after k s (h .number) own past none (start-pace (h .number)) in
-        record { own = own-same k s serial N N′ same h own (w .own) (c .own) (p .own-most); heard = latest-same (w .other) (c .other) (p .other-most) }
+        record { observer = own-same k s serial N N′ same h own (w .observer) (c .observer) (p .own-most); heard = latest-same (w .peer) (c .peer) (p .other-most) }
 
-    pub log-same : (calls : List Move) → events k s serial h o w calls ≡ events k s serial h o′ w calls
+    pub log-same : (calls : List ScheduledCall) → observations k s serial h o w calls ≡ observations k s serial h o′ w calls
     log-same calls = events-same k s serial h o o′ w w (λ past. rw (runs past, runs′ past) (alike-at past)) calls
