@@ -110,12 +110,12 @@ drawIn a numbers = drop (inputSize a) (drop (inputSize a) numbers)
 abbrev pub serverInput : RunTerms → List ℕ → PartyInput
 serverInput t numbers =
     let a = t .settings .shape in
-    partyInput keyCount (t .settings) 0 (t .server_keys) (t .phone_keys) (drawIn a numbers) (serverInputs a numbers)
+    partyInput keyCount (t .settings) 0 (t .keys0) (t .keys1) (drawIn a numbers) (serverInputs a numbers)
 
 abbrev pub phoneInput : RunTerms → List ℕ → PartyInput
 phoneInput t numbers =
     let a = t .settings .shape in
-    partyInput keyCount (t .settings) 1 (t .server_keys) (t .phone_keys) (drawIn a numbers) (phoneInputs a numbers)
+    partyInput keyCount (t .settings) 1 (t .keys0) (t .keys1) (drawIn a numbers) (phoneInputs a numbers)
 
 -- a fresh side that has sent nothing
 abbrev pub freshParty : List ℕ → PartyState
@@ -130,7 +130,7 @@ notCarried refusal serverWork phoneWork =
 abbrev pub dealNoOf : RunTerms → List ℕ → ℕ
 dealNoOf t numbers =
     let a = t .settings .shape in
-    dealNo keyCount a (t .server_keys) (t .phone_keys) (drawIn a numbers) (replicate (bookSize a) 0) (replicate (bookSize a) 0)
+    dealNo keyCount a (t .keys0) (t .keys1) (drawIn a numbers) (replicate (bookSize a) 0) (replicate (bookSize a) 0)
 
 -- dealt, begun by both, the server first, and played round by round
 unfoldable pub executed : RunTerms → List ℕ → List ℕ → List ℕ → Carried

@@ -34,15 +34,15 @@ abbrev pub carriedOf : Execution → List ℕ → List ℕ → List ℕ → Carr
 carriedOf x serverWork phoneWork bytes =
     record { refusal = x .refusal; parties = jointOf x serverWork phoneWork bytes; messages = take (x .length) bytes }
 
--- the latest message stands in front of `length`
-pub record Stands (e : Endpoint) (length : ℕ) : Type 0 where
-  pub begins : e .from ≤ e .to
-  pub ends : e .to ≤ length
+-- a message stands in front of `length`
+pub record Stands (from to length : ℕ) : Type 0 where
+  pub begins : from ≤ to
+  pub ends : to ≤ length
 
 -- both stand, and so many messages more have room
 pub record Fits (x : Execution) (bytes : List ℕ) (more : ℕ) : Type 0 where
-  pub server : Stands (x .server) (x .length)
-  pub phone : Stands (x .phone) (x .length)
+  pub server : Stands (x .server .from) (x .server .to) (x .length)
+  pub phone : Stands (x .phone .from) (x .phone .to) (x .length)
   pub room : x .length + more * mostBytes keyCount ≤ length bytes
 
 -- the bytes of all messages of a run, at most
@@ -54,7 +54,7 @@ runBytes = 2 * rounds * mostBytes keyCount
 -- the run that side `number` begins
 abbrev pub runAt : RunTerms → ℕ → Run
 runAt t number =
-    record { number = number; settings = t .settings; keys = cond (eqb number 0) (t .server_keys) (t .phone_keys); serial = t .serial }
+    record { number = number; settings = t .settings; keys = cond (eqb number 0) (t .keys0) (t .keys1); serial = t .serial }
 
 -- a side that has sent nothing
 abbrev pub silentEndpoint : Side → Endpoint
@@ -97,7 +97,7 @@ pub record SendsAt (e : Endpoint) (work before : List ℕ) (at : ℕ) (r : SendS
   pub messages-are : take (r .length) after ≡ take at before ++ messageSent (e .side) work
   pub front : take at after ≡ take at before
   pub size : length after ≡ length before
-  pub stands : Stands (r .endpoint) (r .length)
+  pub stands : Stands (r .endpoint .from) (r .endpoint .to) (r .length)
   pub grows : at ≤ r .length
   pub most : r .length ≤ at + mostBytes keyCount
 
@@ -105,11 +105,13 @@ pub record ServerSends (x : Execution) (work before : List ℕ) (r : Execution) 
   pub is : (s : Settings) (serial : ℕ) (h o : PartyInput) (phoneWork : List ℕ)
       → carriedOf r work phoneWork after ≡ carry s serial h o (carriedOf x work phoneWork before) observer (send messageRoom)
   pub fits : (more : ℕ) → Fits x before (1 + more) → Fits r after more
+  pub size : length after ≡ length before
 
 pub record PhoneSends (x : Execution) (work before : List ℕ) (r : Execution) (after : List ℕ) : Type 0 where
   pub is : (s : Settings) (serial : ℕ) (h o : PartyInput) (serverWork : List ℕ)
       → carriedOf r serverWork work after ≡ carry s serial h o (carriedOf x serverWork work before) peer (send messageRoom)
   pub fits : (more : ℕ) → Fits x before (1 + more) → Fits r after more
+  pub size : length after ≡ length before
 
 -- one side's take: its working slice goes from `before` to `after`
 pub record PhoneTakes (x : Execution) (before bytes : List ℕ) (r : Execution) (after : List ℕ) : Type 0 where
@@ -127,3 +129,4 @@ pub record Played (n : ℕ) (x : Execution) (serverWork phoneWork bytes : List �
   pub is : (s : Settings) (serial : ℕ) (h o : PartyInput)
       → carriedOf r serverAfter phoneAfter bytesAfter ≡ carryAll s serial h o (carriedOf x serverWork phoneWork bytes) (roundCalls n)
   pub fits : (more : ℕ) → Fits x bytes (2 * n + more) → Fits r bytesAfter more
+  pub size : length bytesAfter ≡ length bytes

@@ -25,8 +25,8 @@ pub const RUN_BYTES: usize = 2 * ROUNDS as usize * MOST_BYTES;
 pub struct RunTerms {
     pub settings: Settings,
     pub serial: u32,
-    pub server_keys: [u32; KEYS],
-    pub phone_keys: [u32; KEYS],
+    pub keys0: [u32; KEYS],
+    pub keys1: [u32; KEYS],
 }
 
 // The calls that can refuse.
@@ -93,9 +93,9 @@ fn run_at(terms: RunTerms, number: u32) -> Run
     ensures { λ r. ⌜ r ≡ runAt terms number ⌝ }
 {
     let settings = terms.settings;
-    let mut keys = terms.server_keys;
+    let mut keys = terms.keys0;
     if number != 0 {
-        keys = terms.phone_keys;
+        keys = terms.keys1;
     }
     Run {
         number,
@@ -201,7 +201,7 @@ struct SendStep {
 
 // One side sends, behind the first `at` bytes of the messages.
 fn send_at(e: Endpoint, work: &[u32], messages: &mut [u8], at: usize) -> SendStep
-    requires { ⌜ Stands e at × (at + mostBytes keyCount ≤ length (now messages)) ⌝ }
+    requires { ⌜ Stands (e .from) (e .to) at × (at + mostBytes keyCount ≤ length (now messages)) ⌝ }
     ensures { λ r. ⌜ SendsAt e (now (work .entry)) (now (messages .entry)) at r (now (messages .exit)) ⌝ }
 {
     let before = e.side;
@@ -327,33 +327,33 @@ fn server_take(x: Execution, work: &mut [u32], messages: &[u8]) -> Execution
 // One round: the server sends and the phone takes, then the phone sends and the server takes.
 fn play_round(
     x: Execution,
-    server_work: &mut [u32],
-    phone_work: &mut [u32],
+    server: &mut [u32],
+    phone: &mut [u32],
     messages: &mut [u8],
 ) -> Execution
     requires { ⌜ Fits x (now messages) 2 ⌝ }
-    ensures { λ r. ⌜ Played 1 x (now (server_work .entry)) (now (phone_work .entry)) (now (messages .entry)) r (now (server_work .exit)) (now (phone_work .exit)) (now (messages .exit)) ⌝ }
+    ensures { λ r. ⌜ Played 1 x (now (server .entry)) (now (phone .entry)) (now (messages .entry)) r (now (server .exit)) (now (phone .exit)) (now (messages .exit)) ⌝ }
 {
-    let sent = server_send(x, server_work, messages);
-    let taken = phone_take(sent, phone_work, messages);
-    let answered = phone_send(taken, phone_work, messages);
-    server_take(answered, server_work, messages)
+    let sent = server_send(x, server, messages);
+    let taken = phone_take(sent, phone, messages);
+    let answered = phone_send(taken, phone, messages);
+    server_take(answered, server, messages)
 }
 
 // The seven rounds.
 fn play_rounds(
     x: Execution,
-    server_work: &mut [u32],
-    phone_work: &mut [u32],
+    server: &mut [u32],
+    phone: &mut [u32],
     messages: &mut [u8],
 ) -> Execution
     requires { ⌜ Fits x (now messages) (2 * rounds) ⌝ }
-    ensures { λ r. ⌜ Played rounds x (now (server_work .entry)) (now (phone_work .entry)) (now (messages .entry)) r (now (server_work .exit)) (now (phone_work .exit)) (now (messages .exit)) ⌝ }
+    ensures { λ r. ⌜ Played rounds x (now (server .entry)) (now (phone .entry)) (now (messages .entry)) r (now (server .exit)) (now (phone .exit)) (now (messages .exit)) ⌝ }
 {
     let mut at = x;
     let mut round: u32 = 0;
     while round < ROUNDS {
-        at = play_round(at, server_work, phone_work, messages);
+        at = play_round(at, server, phone, messages);
         round += 1;
     }
     at

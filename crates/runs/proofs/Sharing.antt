@@ -65,7 +65,7 @@ module _ (k : ℕ) (s : Settings) (serial : ℕ) (numbers : ℕ → List ℕ) wh
     outgoing-is _ (server {keys} {inputs} {book}) v R r c j l m = rw (add-zero R, at-send k s serial numbers (inputAs 0 keys inputs book) R server r .round)
     outgoing-is _ (phone {keys} {inputs} {book}) v R r c j l m =
         rw (add-one R)
-        (t .observer (termsOf s) (suc R) _ (weights k 1 keys) (workAt k s serial numbers (inputAs 1 keys inputs book) R) (v .most) (v .some)
+        (t .own (termsOf s) (suc R) _ (weights k 1 keys) (workAt k s serial numbers (inputAs 1 keys inputs book) R) (v .most) (v .some)
         (v .exact R ∙ ap (λ (x : ℕ). x * places) (sym (v .sized))) c j (omega (arith, v .sized)) m)
 
   pub sharing-below : SlicesJoin → (h : PartyInput) → Fair k s serial numbers h → (R c j : ℕ) → c < 1 + 2 * k → j < openings (paramsIn s) (suc R) → sharing h R c j < q
