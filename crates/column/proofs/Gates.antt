@@ -40,7 +40,7 @@ pub record Held (p : Params) (v : Registers) (d : ℕ → ℕ) : Type 0 where
   pub marks : (g j : ℕ) → g < groups p → j < groupK p + 2 → v (groupAt p g + 1 + j) ≡ bit (eqb j (d (groupAt p g) / groupGap p))
 
 -- so does every column with the book's values in front
-pub held : (p : Params) (width : ℕ) (draw : List ℕ) (v : Registers) → ((k : ℕ) → k < shared p → v k ≡ Book.value p width draw k)
+pub held : (p : Params) (width : ℕ) (draw : List ℕ) (v : Registers) → ((k : ℕ) → k < shared p → v k ≡ Book.bookValue p width draw k)
     → Held p v (drawn p width draw)
 held p width draw v same =
     let at = places p in

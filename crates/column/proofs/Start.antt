@@ -121,7 +121,7 @@ module _ {T : Terms} {k : ℕ} {draw secret : List ℕ} (s : Sound T k draw secr
       held (T .params) (widthOf k) draw (regs t)
       (λ i h. regs-stay t i (omega arith)
       ∙ begun-book (T .params) secret (plainBook T (widthOf k) draw secret) (s .room) i h
-      ∙ getD-listTo (shared (T .params)) (Book.value (T .params) (widthOf k) draw) i 0 h)
+      ∙ getD-listTo (shared (T .params)) (Book.bookValue (T .params) (widthOf k) draw) i 0 h)
 
   pub input-held : (c : ℕ) → c < T .params .n → regs 0 (inputAt c) ≡ getD secret c 0
   unfolding plainAfter plainStart

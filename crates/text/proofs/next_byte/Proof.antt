@@ -1,28 +1,28 @@
--- `text::next` meets its contract. Assumes nothing.
+-- `text::next_byte` meets its contract.
 use Rattle.lists.proofs.Choices.{choices}
-use Rattle.text.specs.Numbers.{step}
+use Rattle.text.specs.Numbers.{afterByte}
 use borrow.Author.Needs.{needs}
-use Rattle.text.proofs.next.Statement.{statement}
-use Rattle.text.proofs.next.Tie as tie
+use Rattle.text.proofs.next_byte.Statement.{statement}
+use Rattle.text.proofs.next_byte.Tie as tie
 
 returns : tie.Need-returns
-unfolding step
+unfolding afterByte
 returns c = search choices
 
 returns-2 : tie.Need-returns-2
-unfolding step
+unfolding afterByte
 returns-2 c = search choices
 
 returns-3 : tie.Need-returns-3
-unfolding step
+unfolding afterByte
 returns-3 c = search choices
 
 returns-4 : tie.Need-returns-4
-unfolding step
+unfolding afterByte
 returns-4 c = search choices
 
-pub next-spec : {M : Type 1} → statement M
-next-spec =
+pub next-byte-spec : {M : Type 1} → statement M
+next-byte-spec =
     tie.close
     (tie.spec
     returns
