@@ -1,9 +1,9 @@
--- `syntax::end_reading` meets its contract. Assumes nothing.
+-- `syntax::end_words` meets its contract.
 use Rattle.lists.proofs.Choices.{choices}
 use Rattle.syntax.specs.Reading.{finish}
 use borrow.Author.Needs.{needs}
-use Rattle.syntax.proofs.end_reading.Statement.{statement}
-use Rattle.syntax.proofs.end_reading.Tie as tie
+use Rattle.syntax.proofs.end_words.Statement.{statement}
+use Rattle.syntax.proofs.end_words.Tie as tie
 
 returns : tie.Need-returns
 unfolding finish
@@ -17,7 +17,7 @@ returns-3 : tie.Need-returns-3
 unfolding finish
 returns-3 c = search choices
 
-pub end-reading-spec : {M : Type 1} → statement M
-end-reading-spec =
+pub end-words-spec : {M : Type 1} → statement M
+end-words-spec =
     tie.close
     (tie.spec (λ c κs. search needs) returns (λ c κs. search needs) returns-2 (λ c κs. search needs) returns-3)
