@@ -17,8 +17,8 @@ use text::put_numbers;
 // The most bytes of an input line, without its line end.
 pub const LONGEST_INPUT_LINE: usize = 1024;
 
-// Kind, set, B and the eight coefficients that are kept.
-const FIELDS: usize = 11;
+// The words whose numbers are kept: kind, set, B and eight coefficients.
+const WORDS_KEPT: usize = 11;
 
 // What a line asks for: kind 0 HIGH or 1 BOUND, set, B, how many coefficients, and the first 8 of them. All is 0 where the line
 // is malformed (`good` is false).
@@ -112,7 +112,7 @@ fn place(values: [u32; 11], at: usize, value: u32) -> [u32; 11]
     ensures { λ r. ⌜ r ≡ set values at value ⌝ }
 {
     let mut placed = values;
-    if at < FIELDS {
+    if at < WORDS_KEPT {
         placed[at] = value;
         return placed;
     }

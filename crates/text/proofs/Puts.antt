@@ -5,8 +5,9 @@ use mathlib.Core.Bool.{Bool, true, false, cond}
 use mathlib.Core.List.{List, [], _∷_, _++_, append-nil, append-assoc}
 use native.Mathlib.Numerals.{add-one}
 use native.Mathlib.Omega.{arith}
+use native.Mathlib.Decide.{decLt}
 use lib.Dec.{ltb}
-use borrow.Author.Tests.{lt-ltb}
+use borrow.Author.Tests.{lt-ltb, le-ltb}
 use lib.ListN.{length, getD, set, take, drop, length-set, drop-of-length-le}
 use lib.Seq.{drop-cons, take-suc-set}
 use Rattle.text.specs.Text.{Text, textAt, put, puts, decimal, numbersText, hexByte, hexBytes}
@@ -31,6 +32,22 @@ pub puts-length : (t : Text) (bs : List ℕ) → length (puts t bs .bytes) ≡ l
 unfolding puts
 puts-length t [] = refl
 puts-length t (b ∷ bs) = puts-length (put t b) bs ∙ put-length t b
+
+put-within : (t : Text) (b : ℕ) → t .at ≤ length (t .bytes) → put t b .at ≤ length (t .bytes)
+unfolding put
+put-within t b h = go (decLt (t .at) (length (t .bytes)))
+  where
+    go : Dec (t .at < length (t .bytes)) → put t b .at ≤ length (t .bytes)
+    go (yes l) = rw (lt-ltb (t .at) (length (t .bytes)) l) (omega (arith, l))
+    go (no l) = rw (le-ltb (t .at) (length (t .bytes)) (omega (arith, l))) h
+
+-- the next place stays within it, or at its end
+pub puts-within : (t : Text) (bs : List ℕ) → t .at ≤ length (t .bytes) → puts t bs .at ≤ length (t .bytes)
+unfolding puts
+puts-within t [] h = h
+puts-within t (b ∷ bs) h =
+    let w : put t b .at ≤ length (t .bytes) = put-within t b h in
+    rw (put-length t b) at (puts-within (put t b) bs (rw (put-length t b) w))
 
 put-room : (out : List ℕ) (at b : ℕ) → at < length out → put (textAt out at) b ≡ textAt (set out at b) (suc at)
 unfolding put
@@ -61,6 +78,9 @@ puts-front out at (b ∷ bs) h =
 module _ (out : List ℕ) (at : ℕ) (bs now : List ℕ) (r : ℕ) (e : textAt now r ≡ puts (textAt out at) bs) where
   pub length-put : length now ≡ length out
   length-put = ap (λ (t : Text). length (t .bytes)) e ∙ puts-length (textAt out at) bs
+
+  pub within-put : at ≤ length out → r ≤ length now
+  within-put h = omega (arith, length-put, ap (λ (t : Text). t .at) e, puts-within (textAt out at) bs h)
 
   pub at-put : at + length bs ≤ length out → r ≡ at + length bs
   at-put h = ap (λ (t : Text). t .at) e ∙ puts-at out at bs h
