@@ -1,10 +1,11 @@
 -- Each call of a run: what the working functions leave is the run carried one call further.
-use Prim.Native.Nat.{ℕ, zero, suc, _+_, _*_, _≤_}
+use Prim.Native.Nat.{ℕ, zero, suc, _+_, _*_, _-_, _≤_}
 use mathlib.Core.Path.{_≡_, refl, sym, ap, _∙_}
 use mathlib.Core.List.{List, [], _∷_, _++_, append-nil}
 use native.Mathlib.Numerals.{add-one}
 use native.Mathlib.Omega.{arith}
 use lib.ListN.{length, take, drop}
+use lib.Seq.{drop-drop}
 use borrow.Author.Tests.{eq-eqb, ne-eqb}
 use Rattle.settings.specs.declared.Settings.{Settings}
 use Rattle.settings.specs.Sizes.{keyCount, mostBytes}
@@ -31,7 +32,7 @@ carried-is : {f f′ : Refusal} {x x′ y y′ : PartyState} {m m′ : List ℕ}
 carried-is e a b l = rw (e, a, b, l)
 
 -- after a refusal nothing is carried further
-stopped : (s : Settings) (serial : ℕ) (h o : PartyInput) (x : Carried) (party : Party) (call : Call) → (x .refusal .number ≡ 0 → ⊥) → x ≡ carry s serial h o x party call
+pub stopped : (s : Settings) (serial : ℕ) (h o : PartyInput) (x : Carried) (party : Party) (call : Call) → (x .refusal .number ≡ 0 → ⊥) → x ≡ carry s serial h o x party call
 unfolding carry
 stopped s serial h o x party call z = rw (ne-eqb (x .refusal .number) 0 z)
 
@@ -50,11 +51,11 @@ withPhone x f s = record { refusal = f; server = x .server; phone = record { sid
 module _ (x : Execution) (run : Run) (inputs book before : List ℕ) where
   pub server-not-begun : (x .refusal .number ≡ 0 → ⊥) → ServerBegins x run inputs book before x before
   server-not-begun z =
-      record { is = λ h o a b d phoneWork bytes. stopped _ _ h o (carriedOf x before phoneWork bytes) observer begin z; fits = λ bytes more f. f }
+      record { is = λ h o a b d phoneWork bytes. stopped _ _ h o (carriedOf x before phoneWork bytes) observer begin z; fits = λ bytes more f. f; same = refl }
 
   pub phone-not-begun : (x .refusal .number ≡ 0 → ⊥) → PhoneBegins x run inputs book before x before
   phone-not-begun z =
-      record { is = λ h o a b d serverWork bytes. stopped _ _ h o (carriedOf x serverWork before bytes) peer begin z; fits = λ bytes more f. f }
+      record { is = λ h o a b d serverWork bytes. stopped _ _ h o (carriedOf x serverWork before bytes) peer begin z; fits = λ bytes more f. f; same = refl }
 
   module _ (z : x .refusal .number ≡ 0) (d : Done) (f : Refusal) (after : List ℕ) where
     module _ (call : _≡_ {A = After} (record { done = d; work = after }) (beginCall keyCount (x .server .side) run inputs book before)) (e : f ≡ refusalOf Begin 0 (d .refused)) where
@@ -70,7 +71,7 @@ module _ (x : Execution) (run : Run) (inputs book before : List ℕ) where
           refl (sym (append-nil _)))
 
       pub server-begins : ServerBegins x run inputs book before (withServer x f (d .side)) after
-      server-begins = record { is = server-same; fits = λ bytes more f. record { server = f .server; phone = f .phone; room = f .room } }
+      server-begins = record { is = server-same; fits = λ bytes more f. record { server = f .server; phone = f .phone; room = f .room }; same = refl }
 
     module _ (call : _≡_ {A = After} (record { done = d; work = after }) (beginCall keyCount (x .phone .side) run inputs book before)) (e : f ≡ refusalOf Begin 1 (d .refused)) where
       phone-same : (h o : PartyInput) → runOf (run .settings) (run .serial) o ≡ run → o .inputs ≡ inputs → o .book ≡ book
@@ -85,18 +86,18 @@ module _ (x : Execution) (run : Run) (inputs book before : List ℕ) where
           (sym (append-nil _)))
 
       pub phone-begins : PhoneBegins x run inputs book before (withPhone x f (d .side)) after
-      phone-begins = record { is = phone-same; fits = λ bytes more f. record { server = f .server; phone = f .phone; room = f .room } }
+      phone-begins = record { is = phone-same; fits = λ bytes more f. record { server = f .server; phone = f .phone; room = f .room }; same = refl }
 
 -- ---- Take
 
 module _ (x : Execution) (before bytes : List ℕ) where
   pub server-not-taken : (x .refusal .number ≡ 0 → ⊥) → ServerTakes x before bytes x before
   server-not-taken z =
-      record { is = λ s serial h o phoneWork. stopped s serial h o (carriedOf x before phoneWork bytes) observer takeLatest z; fits = λ more f. f }
+      record { is = λ s serial h o phoneWork. stopped s serial h o (carriedOf x before phoneWork bytes) observer takeLatest z; fits = λ more f. f; same = refl }
 
   pub phone-not-taken : (x .refusal .number ≡ 0 → ⊥) → PhoneTakes x before bytes x before
   phone-not-taken z =
-      record { is = λ s serial h o serverWork. stopped s serial h o (carriedOf x serverWork before bytes) peer takeLatest z; fits = λ more f. f }
+      record { is = λ s serial h o serverWork. stopped s serial h o (carriedOf x serverWork before bytes) peer takeLatest z; fits = λ more f. f; same = refl }
 
   module _ (z : x .refusal .number ≡ 0) (d : Done) (f : Refusal) (after : List ℕ) where
     module _ (call : _≡_ {A = After} (record { done = d; work = after }) (takeCall keyCount (x .server .side) before (partyOf (x .phone) [] bytes .latest)))
@@ -111,7 +112,7 @@ module _ (x : Execution) (before bytes : List ℕ) where
           refl (sym (append-nil _)))
 
       pub server-takes : ServerTakes x before bytes (withServer x f (d .side)) after
-      server-takes = record { is = server-took; fits = λ more f. record { server = f .server; phone = f .phone; room = f .room } }
+      server-takes = record { is = server-took; fits = λ more f. record { server = f .server; phone = f .phone; room = f .room }; same = refl }
 
     module _ (call : _≡_ {A = After} (record { done = d; work = after }) (takeCall keyCount (x .phone .side) before (partyOf (x .server) [] bytes .latest)))
         (e : f ≡ refusalOf Take 1 (d .refused)) where
@@ -125,7 +126,7 @@ module _ (x : Execution) (before bytes : List ℕ) where
           (sym (append-nil _)))
 
       pub phone-takes : PhoneTakes x before bytes (withPhone x f (d .side)) after
-      phone-takes = record { is = phone-took; fits = λ more f. record { server = f .server; phone = f .phone; room = f .room } }
+      phone-takes = record { is = phone-took; fits = λ more f. record { server = f .server; phone = f .phone; room = f .room }; same = refl }
 
 -- ---- Send
 
@@ -139,6 +140,8 @@ module _ (x : Execution) (work before : List ℕ) where
         is = λ s serial h o phoneWork. stopped s serial h o (carriedOf x work phoneWork before) observer (send messageRoom) z;
         fits = λ more f. fits-less x before more f;
         size = refl;
+        behind = refl;
+        grows = omega arith;
       }
 
   pub phone-not-sent : (x .refusal .number ≡ 0 → ⊥) → PhoneSends x work before x before
@@ -147,6 +150,8 @@ module _ (x : Execution) (work before : List ℕ) where
         is = λ s serial h o serverWork. stopped s serial h o (carriedOf x serverWork work before) peer (send messageRoom) z;
         fits = λ more f. fits-less x before more f;
         size = refl;
+        behind = refl;
+        grows = omega arith;
       }
 
   module _ (z : x .refusal .number ≡ 0) (fit : Fits x before 1) (r : SendStep) (after : List ℕ) (f : Refusal) where
@@ -169,6 +174,8 @@ module _ (x : Execution) (work before : List ℕ) where
             is = server-sent;
             fits = λ more g. record { server = sends .stands; phone = later (x .phone) (x .length) (r .length) (sends .grows) (g .phone); room = omega (arith, g .room, sends .most, sends .size) };
             size = sends .size;
+            behind = sends .behind;
+            grows = sends .grows;
           }
 
     module _ (sends : SendsAt (x .phone) work before (x .length) r after) (e : f ≡ refusalOf Send 1 (r .refused)) where
@@ -191,9 +198,17 @@ module _ (x : Execution) (work before : List ℕ) where
             is = phone-sent;
             fits = λ more g. record { server = later (x .server) (x .length) (r .length) (sends .grows) (g .server); phone = sends .stands; room = omega (arith, g .room, sends .most, sends .size) };
             size = sends .size;
+            behind = sends .behind;
+            grows = sends .grows;
           }
 
 -- ---- Rounds
+
+-- what is the same behind a place is so behind a later one
+drop-later : (m n : ℕ) (l k : List ℕ) → m ≤ n → drop m l ≡ drop m k → drop n l ≡ drop n k
+drop-later m n l k h e =
+    let f : m + (n - m) ≡ n = omega arith in
+    rw (← f, ← drop-drop (n - m) m l, ← drop-drop (n - m) m k, e)
 
 -- a round from its four calls
 pub round-played : (x a b c r : Execution) (server phone bytes phone′ bytes′ bytes″ server′ : List ℕ)
@@ -206,6 +221,8 @@ round-played x a b c r server phone bytes phone′ bytes′ bytes″ server′ o
       is = same;
       fits = λ more f. rw e (four .fits more (three .fits more (two .fits (1 + more) (one .fits (1 + more) (record { server = f .server; phone = f .phone; room = omega (arith, f .room) })))));
       size = rw e (three .size ∙ one .size);
+      behind = rw (e, four .same) (three .behind ∙ drop-later (a .length) (c .length) bytes′ bytes (omega (arith, two .same, three .grows)) (one .behind));
+      grows = omega (arith, one .grows, two .same, three .grows, four .same);
     }
   where
     same : (s : Settings) (serial : ℕ) (h o : PartyInput)
@@ -215,7 +232,7 @@ round-played x a b c r server phone bytes phone′ bytes′ bytes″ server′ o
 
 pub no-round : (x : Execution) (server phone bytes : List ℕ) → Played 0 x server phone bytes x server phone bytes
 unfolding carryAll
-no-round x server phone bytes = record { is = same; fits = λ more f. record { server = f .server; phone = f .phone; room = omega (arith, f .room) }; size = refl }
+no-round x server phone bytes = record { is = same; fits = λ more f. record { server = f .server; phone = f .phone; room = omega (arith, f .room) }; size = refl; behind = refl; grows = omega arith }
   where
     same : (s : Settings) (serial : ℕ) (h o : PartyInput) → carriedOf x server phone bytes ≡ carryAll s serial h o (carriedOf x server phone bytes) (roundCalls 0)
     same s serial h o = refl
@@ -236,4 +253,6 @@ round-more n x y r server phone bytes server′ phone′ bytes′ server″ phon
       is = λ s serial h o. b .is s serial h o ∙ ap (λ (z : Carried). carryAll s serial h o z (roundCalls 1)) (a .is s serial h o) ∙ last-round s serial h o n _;
       fits = λ more f. b .fits more (a .fits (2 + more) (record { server = f .server; phone = f .phone; room = omega (arith, f .room) }));
       size = b .size ∙ a .size;
+      behind = b .behind ∙ drop-later (y .length) (r .length) bytes′ bytes (b .grows) (a .behind);
+      grows = omega (arith, a .grows, b .grows);
     })

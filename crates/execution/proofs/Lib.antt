@@ -2,4 +2,5 @@
 pub mod Messages
 pub mod Sends
 pub mod Calls
+pub mod Whole
 pub mod Honest

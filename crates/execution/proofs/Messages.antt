@@ -6,7 +6,7 @@ use mathlib.Core.List.{List, [], _∷_, _++_, append-assoc}
 use native.Mathlib.Omega.{arith}
 use lib.Dec.{eqb}
 use lib.ListN.{length, take, drop, length-take, length-drop, length-append}
-use lib.Seq.{length-take-le, take-all, take-take, take-at, drop-at, take-append-le, take-append-add}
+use lib.Seq.{length-take-le, take-all, take-take, take-at, drop-at, take-append-add, drop-append-add}
 use Rattle.execution.specs.declared.Endpoint.{Endpoint}
 use Rattle.execution.specs.Held.{Stands}
 
@@ -50,3 +50,9 @@ module _ (before : List ℕ) (at : ℕ) (message : List ℕ) (rest : List ℕ) (
   message-stands n e =
       let d : at + n - at ≡ n = omega arith in
       rw (d, drop-at (take at before) (message ++ rest) at at-long) (take-at message rest n e)
+
+  pub message-end : drop (at + length message) after ≡ rest
+  message-end =
+      ap (λ (m : ℕ). drop (m + length message) after) (sym at-long)
+      ∙ drop-append-add (take at before) (message ++ rest) (length message)
+      ∙ drop-at message rest (length message) refl

@@ -5,8 +5,8 @@ use mathlib.Core.Bool.{Bool, true, false, cond}
 use mathlib.Core.List.{List, [], _++_, append-nil, append-assoc}
 use native.Mathlib.Omega.{arith}
 use lib.Dec.{eqb, leb}
-use lib.ListN.{length, take, drop, replicate, length-replicate, length-append, length-drop}
-use lib.Seq.{take-at, length-take-le, length-front}
+use lib.ListN.{length, take, drop, replicate, length-replicate, length-drop, drop-of-length-le}
+use lib.Seq.{take-at, take-all, drop-drop, length-take-le, length-front}
 use borrow.Author.Tests.{le-leb, eq-eqb, ne-eqb, eqb-true}
 use borrow.Rule.Slice.PartMut.{midOf, postOf, putMid, put-same, same-len-mid}
 use Rattle.lists.specs.Answers.{ask}
@@ -27,7 +27,7 @@ use Rattle.execution.specs.declared.Endpoint.{Endpoint}
 use Rattle.execution.specs.declared.SendStep.{SendStep}
 use Rattle.execution.specs.Execution.{messageRoom}
 use Rattle.execution.specs.Held.{partyOf, Stands, sendOf, messageSent, sentParty, SendsAt}
-use Rattle.execution.proofs.Messages.{latest-kept, front-stays, message-behind, message-stands}
+use Rattle.execution.proofs.Messages.{front-stays, message-behind, message-stands, message-end}
 
 -- every message fits
 pub message-fits : (p : Params) (round : ℕ) → p .n ≤ 8 → messageLength keyCount p round ≤ mostBytes keyCount
@@ -49,8 +49,10 @@ same-no s work out h = by (sendDue s) refl
     by : (d : Bool) → sendDue s ≡ d → ask d 8 (rest out) ≡ ask d 8 (rest messageRoom)
     by true e =
         let fits = message-fits (paramsIn (s .settings)) (s .round) (send-whole s e .ready .most) in
-        rw (le-leb (messageLength keyCount (paramsIn (s .settings)) (s .round)) (length out) (omega (arith, fits)),
-        le-leb (messageLength keyCount (paramsIn (s .settings)) (s .round)) (length messageRoom) (omega (arith, fits, length-replicate {A = ℕ} (mostBytes keyCount) 0)))
+        rw (
+          le-leb (messageLength keyCount (paramsIn (s .settings)) (s .round)) (length out) (omega (arith, fits)),
+          le-leb (messageLength keyCount (paramsIn (s .settings)) (s .round)) (length messageRoom) (omega (arith, fits, length-replicate {A = ℕ} (mostBytes keyCount) 0)),
+        )
     by false e = refl
 
 -- the two ends of a send, as it is in an output
@@ -96,6 +98,14 @@ module _ (e : Endpoint) (work before : List ℕ) (at : ℕ) (stands : Stands (e 
   no-is : r .refused ≡ sendNo keyCount (e .side) work messageRoom
   no-is = ap (λ (a : AfterSend). a .sent .refused) call ∙ refused-no (e .side) work part ∙ same-no (e .side) work part part-long
 
+  -- what stands behind a message was there before
+  tail-is : (m : List ℕ) (n : ℕ) → length m ≡ n → drop (length m) part ++ postOf at (length before - at) before ≡ drop (at + n) before
+  tail-is m n f =
+      let long : length (drop at before) ≡ length before - at = length-drop at before in
+      let all : part ≡ drop at before = take-all (length before - at) (drop at before) (omega (arith, long)) in
+      let none : postOf at (length before - at) before ≡ [] = drop-of-length-le (drop at before) {i = length before - at} (omega (arith, long)) in
+      rw (all, none, f) (append-nil (drop n (drop at before)) ∙ drop-drop n at before)
+
   -- the latest message that a party has after its send
   abbrev latestAfter : List ℕ
   latestAfter = sentParty (partyOf e work before) .latest
@@ -128,10 +138,11 @@ module _ (e : Endpoint) (work before : List ℕ) (at : ℕ) (stands : Stands (e 
       record {
         refused-is = rw there refl;
         party-is = ap₂ (λ (s : Side) (l : List ℕ). record { side = s; work = work; latest = l })
-        (side-is ∙ sym (ap (λ (a : AfterSend). a .sent .side) there))
-        (rw after-is (message-stands before at (message keyCount (e .side) work) tail (omega arith) (r .length) (sized ∙ sym length-is)) ∙ sym (latest-sent there said));
+            (side-is ∙ sym (ap (λ (a : AfterSend). a .sent .side) there))
+            (rw after-is (message-stands before at (message keyCount (e .side) work) tail (omega arith) (r .length) (sized ∙ sym length-is)) ∙ sym (latest-sent there said));
         messages-are = rw (after-is, said) (message-behind before at (message keyCount (e .side) work) tail (omega arith) (r .length) (sized ∙ sym length-is));
         front = rw after-is (front-stays before at (message keyCount (e .side) work) tail (omega arith));
+        behind = rw after-is (ap (λ (n : ℕ). drop (at + n) (take at before ++ (message keyCount (e .side) work ++ tail))) (length-is ∙ sym sized) ∙ message-end before at (message keyCount (e .side) work) tail (omega arith)) ∙ tail-is (message keyCount (e .side) work) (r .length) (sized ∙ sym length-is);
         size = same-len-mid at (length before - at) before out (rw out-is (length-front part (message keyCount (e .side) work) (length (message keyCount (e .side) work)) (sym (length-take-le (length (message keyCount (e .side) work)) part (omega (arith, sized, fits, part-long))))));
         stands = record { begins = omega arith; ends = omega arith };
         grows = omega arith;
@@ -151,10 +162,11 @@ module _ (e : Endpoint) (work before : List ℕ) (at : ℕ) (stands : Stands (e 
       record {
         refused-is = no-is ∙ sym (refused-no (e .side) work messageRoom);
         party-is = ap₂ (λ (s : Side) (l : List ℕ). record { side = s; work = work; latest = l })
-        (side-is ∙ sym (ap (λ (a : AfterSend). a .sent .side) there))
-        (rw after-is refl ∙ sym (latest-stays there no));
+            (side-is ∙ sym (ap (λ (a : AfterSend). a .sent .side) there))
+            (rw after-is refl ∙ sym (latest-stays there no));
         messages-are = rw (after-is, there) (sym (append-nil (take at before)));
         front = rw after-is refl;
+        behind = rw after-is refl;
         size = rw after-is refl;
         stands = stands;
         grows = omega arith;

@@ -6,8 +6,7 @@ use lib.Dec.{eqb}
 use lib.ListN.{take, drop, replicate}
 use Rattle.settings.specs.declared.Shape.{Shape}
 use Rattle.settings.specs.declared.Settings.{Settings}
-use Rattle.settings.specs.Settings.{paramsOf}
-use Rattle.settings.specs.Sizes.{keyCount, mostBytes, bookSize, inputSize}
+use Rattle.settings.specs.Sizes.{keyCount, mostBytes, bookSize, inputSize, workLength}
 use Rattle.settings.specs.Schedule.{rounds}
 use Rattle.book.specs.Deal.{dealNo}
 use Rattle.state.specs.State.{freshSide}
@@ -117,14 +116,17 @@ phoneInput t numbers =
     let a = t .settings .shape in
     partyInput keyCount (t .settings) 1 (t .keys0) (t .keys1) (drawIn a numbers) (phoneInputs a numbers)
 
--- a fresh side that has sent nothing
-abbrev pub freshParty : List ℕ → PartyState
-freshParty work = record { side = freshSide; work = work; latest = [] }
+-- the working slices before a run
+abbrev pub zeroWork : List ℕ
+zeroWork = replicate (workLength keyCount) 0
 
--- before the first call, with these working slices
-abbrev pub notCarried : Refusal → List ℕ → List ℕ → Carried
-notCarried refusal serverWork phoneWork =
-    record { refusal = refusal; parties = record { observer = freshParty serverWork; peer = freshParty phoneWork }; messages = [] }
+-- a fresh side that has sent nothing
+abbrev pub freshParty : PartyState
+freshParty = record { side = freshSide; work = zeroWork; latest = [] }
+
+-- after a deal, before the first begin
+abbrev pub notBegun : Refusal → Carried
+notBegun refusal = record { refusal = refusal; parties = record { observer = freshParty; peer = freshParty }; messages = [] }
 
 -- the first no of the deal, whose lent books have the size that the shape asks for
 abbrev pub dealNoOf : RunTerms → List ℕ → ℕ
@@ -133,8 +135,7 @@ dealNoOf t numbers =
     dealNo keyCount a (t .keys0) (t .keys1) (drawIn a numbers) (replicate (bookSize a) 0) (replicate (bookSize a) 0)
 
 -- dealt, begun by both, the server first, and played round by round
-unfoldable pub executed : RunTerms → List ℕ → List ℕ → List ℕ → Carried
-executed t numbers serverWork phoneWork =
-    let refusal = refusalOf Deal 0 (dealNoOf t numbers) in
+unfoldable pub executed : RunTerms → List ℕ → Carried
+executed t numbers =
     carryAll (t .settings) (t .serial) (serverInput t numbers) (phoneInput t numbers)
-    (notCarried refusal serverWork phoneWork) runCalls
+    (notBegun (refusalOf Deal 0 (dealNoOf t numbers))) runCalls

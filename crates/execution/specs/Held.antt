@@ -1,12 +1,14 @@
 -- What the code holds of a run under way, as the run carried so far.
-use Prim.Native.Nat.{ℕ, suc, _+_, _*_, _-_, _≤_}
+use Prim.Native.Nat.{ℕ, suc, _+_, _*_, _-_, _≤_, min}
 use mathlib.Core.Path.{_≡_}
 use mathlib.Core.Bool.{cond}
 use mathlib.Core.List.{List, _++_}
 use lib.Dec.{eqb}
 use lib.ListN.{length, take, drop}
+use Rattle.lists.specs.Lists.{inFront}
+use Rattle.settings.specs.declared.Shape.{Shape}
 use Rattle.settings.specs.declared.Settings.{Settings}
-use Rattle.settings.specs.Sizes.{keyCount, mostBytes}
+use Rattle.settings.specs.Sizes.{keyCount, mostBytes, inputSize}
 use Rattle.settings.specs.Schedule.{rounds}
 use Rattle.state.specs.declared.Side.{Side}
 use Rattle.state.specs.State.{freshSide}
@@ -19,8 +21,9 @@ use Rattle.execution.specs.declared.RunTerms.{RunTerms}
 use Rattle.execution.specs.declared.Endpoint.{Endpoint}
 use Rattle.execution.specs.declared.Execution.{Execution}
 use Rattle.execution.specs.declared.SendStep.{SendStep}
+use Rattle.execution.specs.declared.Cuts.{Cuts}
 use Rattle.execution.specs.declared.CallKind.the-variants.{Deal}
-use Rattle.execution.specs.Execution.{messageRoom, refusalOf, Carried, carry, carryAll, roundCalls}
+use Rattle.execution.specs.Execution.{messageRoom, refusalOf, Carried, carry, carryAll, roundCalls, runCalls, serverInputs, phoneInputs, zeroWork}
 
 -- a party: its side, its working slice, and its latest message, which stands among the messages
 abbrev pub partyOf : Endpoint → List ℕ → List ℕ → PartyState
@@ -71,12 +74,14 @@ pub record ServerBegins (x : Execution) (run : Run) (inputs book before : List �
       → (phoneWork bytes : List ℕ)
       → carriedOf r after phoneWork bytes ≡ carry (run .settings) (run .serial) h o (carriedOf x before phoneWork bytes) observer begin
   pub fits : (bytes : List ℕ) (more : ℕ) → Fits x bytes more → Fits r bytes more
+  pub same : r .length ≡ x .length
 
 pub record PhoneBegins (x : Execution) (run : Run) (inputs book before : List ℕ) (r : Execution) (after : List ℕ) : Type 0 where
   pub is : (h o : PartyInput) → runOf (run .settings) (run .serial) o ≡ run → o .inputs ≡ inputs → o .book ≡ book
       → (serverWork bytes : List ℕ)
       → carriedOf r serverWork after bytes ≡ carry (run .settings) (run .serial) h o (carriedOf x serverWork before bytes) peer begin
   pub fits : (bytes : List ℕ) (more : ℕ) → Fits x bytes more → Fits r bytes more
+  pub same : r .length ≡ x .length
 
 -- what a send with room for any message leaves
 abbrev pub sendOf : Side → List ℕ → AfterSend
@@ -96,6 +101,7 @@ pub record SendsAt (e : Endpoint) (work before : List ℕ) (at : ℕ) (r : SendS
   pub party-is : partyOf (r .endpoint) work after ≡ sentParty (partyOf e work before)
   pub messages-are : take (r .length) after ≡ take at before ++ messageSent (e .side) work
   pub front : take at after ≡ take at before
+  pub behind : drop (r .length) after ≡ drop (r .length) before
   pub size : length after ≡ length before
   pub stands : Stands (r .endpoint .from) (r .endpoint .to) (r .length)
   pub grows : at ≤ r .length
@@ -106,23 +112,29 @@ pub record ServerSends (x : Execution) (work before : List ℕ) (r : Execution) 
       → carriedOf r work phoneWork after ≡ carry s serial h o (carriedOf x work phoneWork before) observer (send messageRoom)
   pub fits : (more : ℕ) → Fits x before (1 + more) → Fits r after more
   pub size : length after ≡ length before
+  pub behind : drop (r .length) after ≡ drop (r .length) before
+  pub grows : x .length ≤ r .length
 
 pub record PhoneSends (x : Execution) (work before : List ℕ) (r : Execution) (after : List ℕ) : Type 0 where
   pub is : (s : Settings) (serial : ℕ) (h o : PartyInput) (serverWork : List ℕ)
       → carriedOf r serverWork work after ≡ carry s serial h o (carriedOf x serverWork work before) peer (send messageRoom)
   pub fits : (more : ℕ) → Fits x before (1 + more) → Fits r after more
   pub size : length after ≡ length before
+  pub behind : drop (r .length) after ≡ drop (r .length) before
+  pub grows : x .length ≤ r .length
 
 -- one side's take: its working slice goes from `before` to `after`
 pub record PhoneTakes (x : Execution) (before bytes : List ℕ) (r : Execution) (after : List ℕ) : Type 0 where
   pub is : (s : Settings) (serial : ℕ) (h o : PartyInput) (serverWork : List ℕ)
       → carriedOf r serverWork after bytes ≡ carry s serial h o (carriedOf x serverWork before bytes) peer takeLatest
   pub fits : (more : ℕ) → Fits x bytes more → Fits r bytes more
+  pub same : r .length ≡ x .length
 
 pub record ServerTakes (x : Execution) (before bytes : List ℕ) (r : Execution) (after : List ℕ) : Type 0 where
   pub is : (s : Settings) (serial : ℕ) (h o : PartyInput) (phoneWork : List ℕ)
       → carriedOf r after phoneWork bytes ≡ carry s serial h o (carriedOf x before phoneWork bytes) observer takeLatest
   pub fits : (more : ℕ) → Fits x bytes more → Fits r bytes more
+  pub same : r .length ≡ x .length
 
 -- n rounds: both working slices and the messages go from the first three lists to the last three
 pub record Played (n : ℕ) (x : Execution) (serverWork phoneWork bytes : List ℕ) (r : Execution) (serverAfter phoneAfter bytesAfter : List ℕ) : Type 0 where
@@ -130,3 +142,29 @@ pub record Played (n : ℕ) (x : Execution) (serverWork phoneWork bytes : List �
       → carriedOf r serverAfter phoneAfter bytesAfter ≡ carryAll s serial h o (carriedOf x serverWork phoneWork bytes) (roundCalls n)
   pub fits : (more : ℕ) → Fits x bytes (2 * n + more) → Fits r bytesAfter more
   pub size : length bytesAfter ≡ length bytes
+  pub behind : drop (r .length) bytesAfter ≡ drop (r .length) bytes
+  pub grows : x .length ≤ r .length
+
+-- ---- The whole run
+
+-- where the phone's inputs and the draw begin among so many numbers
+pub record CutsAt (a : Shape) (count : ℕ) (r : Cuts) : Type 0 where
+  pub phone-is : r .phone ≡ min (inputSize a) count
+  pub draw-is : r .draw ≡ r .phone + min (inputSize a) (count - r .phone)
+  pub within : r .draw ≤ count
+
+-- what is given back of a run x: refusal, sides, and the messages in front of the lent slice
+pub record Executes (x : Carried) (r : Execution) (before after : List ℕ) : Type 0 where
+  pub refusal-is : r .refusal ≡ x .refusal
+  pub server-is : r .server .side ≡ x .parties .observer .side
+  pub phone-is : r .phone .side ≡ x .parties .peer .side
+  pub length-is : r .length ≡ length (x .messages)
+  pub messages-are : after ≡ inFront (x .messages) before
+  pub fits : length (x .messages) ≤ length before
+
+-- both begins and the rounds, from an execution x that has not begun; h and o: what the begins are handed, which count where nothing was refused
+pub record PlaysFrom (x : Execution) (t : RunTerms) (numbers book0 book1 : List ℕ) (r : Execution) (before after : List ℕ) : Type 0 where
+  pub is : (h o : PartyInput)
+      → runOf (t .settings) (t .serial) h ≡ runAt t 0 → h .inputs ≡ serverInputs (t .settings .shape) numbers → (x .refusal .number ≡ 0 → h .book ≡ book0)
+      → runOf (t .settings) (t .serial) o ≡ runAt t 1 → o .inputs ≡ phoneInputs (t .settings .shape) numbers → (x .refusal .number ≡ 0 → o .book ≡ book1)
+      → Executes (carryAll (t .settings) (t .serial) h o (carriedOf x zeroWork zeroWork before) runCalls) r before after

@@ -3,14 +3,21 @@
 ghost use mathlib.Core.Path.{_≡_};
 ghost use Prim.Native.Nat.{_+_, _*_, _≤_};
 ghost use lib.ListN.{length};
-ghost use Rattle.settings.specs.Sizes.{keyCount, mostBytes};
+ghost use Rattle.settings.specs.Sizes.{keyCount, mostBytes, bookSize};
 ghost use Rattle.settings.specs.Schedule.{rounds};
-ghost use Rattle.execution.specs.Execution.{noRefusal, refusalOf};
-ghost use Rattle.execution.specs.Held.{Stands, Fits, runAt, silentEndpoint, startOf, ServerBegins, PhoneBegins, SendsAt, ServerSends, PhoneSends, PhoneTakes, ServerTakes, Played};
+ghost use Rattle.execution.specs.Execution.{noRefusal, refusalOf, executed};
+ghost use Rattle.execution.specs.Held.{Stands, Fits, runAt, silentEndpoint, startOf, ServerBegins, PhoneBegins, SendsAt, ServerSends, PhoneSends, PhoneTakes, ServerTakes, Played, runBytes, CutsAt, Executes, PlaysFrom};
+use dealer::deal;
+use lists::least;
 use settings::KEYS;
 use settings::MOST_BYTES;
 use settings::ROUNDS;
 use settings::Settings;
+use settings::Shape;
+use settings::WIDTH;
+use settings::WORK_LENGTH;
+use settings::book_size;
+use settings::input_size;
 use side::Run;
 use side::begin;
 use side::send;
@@ -18,8 +25,10 @@ use side::take;
 use state::Side;
 use state::fresh;
 
-// The bytes of all messages of a run, at most.
+// The bytes of all messages of a run, at most; and the most numbers of a book.
 pub const RUN_BYTES: usize = 2 * ROUNDS as usize * MOST_BYTES;
+
+const BOOK_LENGTH: usize = 1320 * WIDTH;
 
 // What both sides and the dealer agree on before a run.
 pub struct RunTerms {
@@ -131,13 +140,7 @@ fn start(refused: u32) -> Execution
 }
 
 // The server begins.
-fn begin_server(
-    x: Execution,
-    run: Run,
-    inputs: &[u32],
-    book: &[u32],
-    work: &mut [u32],
-) -> Execution
+fn begin_server(x: Execution, run: Run, inputs: &[u32], book: &[u32], work: &mut [u32]) -> Execution
     ensures { λ r. ⌜ ServerBegins x run (now (inputs .entry)) (now (book .entry)) (now (work .entry)) r (now (work .exit)) ⌝ }
 {
     if x.refusal.number != 0 {
@@ -161,13 +164,7 @@ fn begin_server(
 }
 
 // The phone begins.
-fn begin_phone(
-    x: Execution,
-    run: Run,
-    inputs: &[u32],
-    book: &[u32],
-    work: &mut [u32],
-) -> Execution
+fn begin_phone(x: Execution, run: Run, inputs: &[u32], book: &[u32], work: &mut [u32]) -> Execution
     ensures { λ r. ⌜ PhoneBegins x run (now (inputs .entry)) (now (book .entry)) (now (work .entry)) r (now (work .exit)) ⌝ }
 {
     if x.refusal.number != 0 {
@@ -325,12 +322,7 @@ fn server_take(x: Execution, work: &mut [u32], messages: &[u8]) -> Execution
 }
 
 // One round: the server sends and the phone takes, then the phone sends and the server takes.
-fn play_round(
-    x: Execution,
-    server: &mut [u32],
-    phone: &mut [u32],
-    messages: &mut [u8],
-) -> Execution
+fn play_round(x: Execution, server: &mut [u32], phone: &mut [u32], messages: &mut [u8]) -> Execution
     requires { ⌜ Fits x (now messages) 2 ⌝ }
     ensures { λ r. ⌜ Played 1 x (now (server .entry)) (now (phone .entry)) (now (messages .entry)) r (now (server .exit)) (now (phone .exit)) (now (messages .exit)) ⌝ }
 {
@@ -357,4 +349,86 @@ fn play_rounds(
         round += 1;
     }
     at
+}
+
+// ---- The whole run
+
+// Where the phone's inputs begin among the numbers, and where the draw does.
+struct Cuts {
+    phone: usize,
+    draw: usize,
+}
+
+// The server's inputs come first, then the phone's, then the draw, as far as there are so many numbers.
+fn cuts_of(shape: Shape, count: usize) -> Cuts
+    ensures { λ r. ⌜ CutsAt shape count r ⌝ }
+{
+    let size = input_size(shape);
+    let phone = least(size, count);
+    Cuts {
+        phone,
+        draw: phone + least(size, count - phone),
+    }
+}
+
+// Both sides begin with their parts of the numbers and their books, unless the deal was refused, and play the rounds.
+fn begin_and_play(
+    dealt: Execution,
+    terms: RunTerms,
+    numbers: &[u32],
+    book0: &[u32],
+    book1: &[u32],
+    messages: &mut [u8],
+) -> Execution
+    requires { ⌜ Fits dealt (now messages) (2 * rounds) ⌝ }
+    ensures { λ r. ⌜ PlaysFrom dealt terms (now (numbers .entry)) (now (book0 .entry)) (now (book1 .entry)) r (now (messages .entry)) (now (messages .exit)) ⌝ }
+{
+    let mut server = [0u32; WORK_LENGTH];
+    let mut phone = [0u32; WORK_LENGTH];
+    let cuts = cuts_of(terms.settings.shape, numbers.len());
+    let first = cuts.phone;
+    let second = cuts.draw;
+    let run0 = run_at(terms, 0);
+    let run1 = run_at(terms, 1);
+    let one = begin_server(dealt, run0, &numbers[..first], book0, &mut server);
+    let both = begin_phone(one, run1, &numbers[first..second], book1, &mut phone);
+    play_rounds(both, &mut server, &mut phone, messages)
+}
+
+// The run with lent books of the size that the shape asks for.
+fn execute_in(
+    terms: RunTerms,
+    numbers: &[u32],
+    book0: &mut [u32],
+    book1: &mut [u32],
+    messages: &mut [u8],
+) -> Execution
+    requires { ⌜ (length (now book0) ≡ bookSize (terms .settings .shape)) × (length (now book1) ≡ bookSize (terms .settings .shape)) × (runBytes ≤ length (now messages)) ⌝ }
+    ensures { λ r. ⌜ Executes (executed terms (now (numbers .entry))) r (now (messages .entry)) (now (messages .exit)) ⌝ }
+{
+    let shape = terms.settings.shape;
+    let keys0 = terms.keys0;
+    let keys1 = terms.keys1;
+    let cuts = cuts_of(shape, numbers.len());
+    let second = cuts.draw;
+    let refused = deal(shape, keys0, keys1, &numbers[second..], book0, book1);
+    begin_and_play(start(refused), terms, numbers, book0, book1, messages)
+}
+
+// The run of these terms. The numbers are the server's inputs, the phone's inputs and the draw; where some are missing, the calls are
+// handed what there is. At the end all messages stand in front of `messages`, one behind the other; the caller lends RUN_BYTES bytes.
+pub fn execute(terms: RunTerms, numbers: &[u32], messages: &mut [u8]) -> Execution
+    requires { ⌜ runBytes ≤ length (now messages) ⌝ }
+    ensures { λ r. ⌜ Executes (executed terms (now (numbers .entry))) r (now (messages .entry)) (now (messages .exit)) ⌝ }
+{
+    let size = book_size(terms.settings.shape);
+    let mut book0 = [0u32; BOOK_LENGTH];
+    let mut book1 = [0u32; BOOK_LENGTH];
+    execute_in(
+        terms,
+        numbers,
+        &mut book0[..size],
+        &mut book1[..size],
+        messages,
+    )
 }
