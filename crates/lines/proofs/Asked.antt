@@ -5,7 +5,7 @@ use mathlib.Core.Bool.{Bool, true, false, cond, _&&_}
 use mathlib.Core.List.{List}
 use native.Mathlib.Omega.{arith}
 use lib.Dec.{eqb, ltb}
-use lib.ListN.{length, getD, length-replicate}
+use lib.ListN.{length, getD, replicate, length-replicate}
 use borrow.Author.Tests.{lt-ltb, eq-eqb, ne-eqb}
 use Rattle.lists.specs.Answers.{ask}
 use Rattle.lists.specs.Lists.{allBelow, listTo}
@@ -13,7 +13,7 @@ use Rattle.lists.proofs.Lists.{getD-listTo, listTo-getD}
 use Rattle.lists.proofs.Every.{below-at, every-listTo}
 use Rattle.lists.proofs.Questions.{and-true, passed}
 use Rattle.field.specs.Field.{q}
-use Rattle.settings.specs.Sizes.{keyCount, shared, workLength}
+use Rattle.settings.specs.Sizes.{keyCount, shared, drawLength, workLength}
 use Rattle.settings.specs.Questions.{askShape, isBit, countOk, boundOk, askSettings}
 use Rattle.settings.proofs.Ready.{count-ready}
 use Rattle.settings.specs.Settings.{paramsIn}
@@ -22,9 +22,22 @@ use Rattle.state.specs.State.{freshSide, whole, sendDue, takeDue, underWay}
 use Rattle.side.specs.Side.{handedNo, beginNo}
 use Rattle.syntax.specs.declared.Request.{Request}
 use Rattle.lines.specs.Plain.{secretOf, requestNo, settingsOf}
-use Rattle.lines.specs.Play.{width, ones, inColumns, Lent, runFor}
-use Rattle.lines.proofs.Laws.{length-front}
-use Rattle.lines.proofs.Handed.{ones-ok, columns-long, columns-below, zeros-below}
+use Rattle.side.specs.declared.Run.{Run}
+use Rattle.lines.specs.Run.{width, ones, inColumns}
+use Rattle.lines.proofs.Handed.{ones-ok, columns-long, columns-below, zeros-below, length-front}
+
+-- what a begin is handed: "keys 1, serial = line number"
+abbrev pub runFor : ℕ → Request → ℕ → Run
+runFor serial o number = record { number = number; settings = settingsOf o; keys = ones; serial = serial }
+
+-- lent slices of the lengths that a request asks for; a draw of numbers below q
+pub record LentSlices (o : Request) (draw serverInputs phoneInputs serverBook phoneBook : List ℕ) : Type 0 where
+  pub draw-long : length draw ≡ drawLength (paramsIn (settingsOf o)) width
+  pub draw-below : allBelow q draw ≡ true
+  pub inputs-long : length serverInputs ≡ o .count * width
+  pub zeros : phoneInputs ≡ replicate (o .count * width) 0
+  pub server-long : length serverBook ≡ shared (paramsIn (settingsOf o)) * width
+  pub phone-long : length phoneBook ≡ shared (paramsIn (settingsOf o)) * width
 
 -- the first no of two calls, one after the other
 abbrev pub firstNo : ℕ → ℕ → ℕ
@@ -75,7 +88,7 @@ in-turn true false d r s t e f = refl
 in-turn true true false r s t e f = refl
 in-turn true true true r s t e f = e refl ∙ no-more s t (f refl)
 
-module _ (serial : ℕ) (o : Request) (eight : length (o .numbers) ≡ 8) (draw inputs zeros a b work : List ℕ) (l : Lent o draw inputs zeros a b) (work-long : length work ≡ workLength keyCount) where
+module _ (serial : ℕ) (o : Request) (eight : length (o .numbers) ≡ 8) (draw inputs zeros a b work : List ℕ) (l : LentSlices o draw inputs zeros a b) (work-long : length work ≡ workLength keyCount) where
   deal-asks : dealNo keyCount (settingsOf o .shape) ones ones draw a b ≡ ask (isBit (o .set) && isBit (o .kind)) 1 (ask (countOk (o .count)) 2 0)
   unfolding dealNo askShape ask
   deal-asks = rw (ones-ok, eq-eqb _ _ (l .draw-long), eq-eqb _ _ (l .server-long), eq-eqb _ _ (l .phone-long), l .draw-below)

@@ -1,41 +1,41 @@
--- A play ends with the answer by the plain meaning.
-use Prim.Native.Nat.{ℕ, _*_, _≤_, _<_}
+-- The run of a line ends with the answer by the plain meaning.
+use Prim.Native.Nat.{ℕ, _+_, _*_, _≤_, _<_}
 use mathlib.Core.Path.{_≡_, refl, sym, ap, ap₂, _∙_}
 use mathlib.Core.Bool.{true, _&&_}
-use mathlib.Core.List.{List, []}
+use mathlib.Core.List.{List, [], _++_}
 use native.Mathlib.Omega.{arith}
 use lib.Dec.{ltb}
-use lib.ListN.{length, getD, take, replicate, length-replicate}
+use lib.ListN.{length, getD, take, drop, replicate, length-replicate}
+use lib.Seq.{take-at, drop-at}
 use borrow.Author.Tests.{le-leb, ltb-true, eq-eqb}
 use Rattle.lists.specs.Answers.{ask}
 use Rattle.lists.specs.Lists.{allBelow, inFront}
 use Rattle.lists.proofs.Lists.{length-listFrom}
 use Rattle.lists.proofs.Questions.{passed, both-yes}
 use Rattle.field.specs.Field.{q}
-use Rattle.settings.specs.Sizes.{keyCount, shared, drawLength, workLength}
-use Rattle.settings.specs.Questions.{askShape, isBit, countOk, boundOk, askSettings, Ready}
-use Rattle.settings.proofs.Ready.{settings-ready, settings-rest}
-use Rattle.settings.specs.Schedule.{rounds}
-use Rattle.book.specs.Deal.{multipliers, serverBook, phoneBook, Dealt, dealNo, dealCall}
-use Rattle.state.specs.declared.Side.{Side}
-use Rattle.state.specs.State.{freshSide, whole, sendDue, takeDue, underWay, finished, placesOf, heldAnswer, answerNo, answerCall}
-use Rattle.state.proofs.States.{finished-whole, places-most}
 use Rattle.settings.specs.declared.Settings.{Settings}
 use Rattle.settings.specs.Settings.{paramsIn}
-use Rattle.runs.specs.Records.{answerOf, missingShares, PartyInput, PartyState, JointState, outcome, step, jointAfter}
-use Rattle.runs.specs.Demands.{Fixed, Idle, observerInput, peerInput, Ended}
-use Rattle.runs.proofs.Theorem.{every-run-ends}
+use Rattle.settings.specs.Sizes.{keyCount, shared, drawLength, workLength, bookSize, inputSize}
+use Rattle.settings.specs.Questions.{askShape, isBit, countOk, boundOk, askSettings, shapeOk, Ready}
+use Rattle.settings.proofs.Ready.{settings-ready, settings-rest}
+use Rattle.book.specs.Deal.{multipliers, dealNo}
+use Rattle.state.specs.declared.Side.{Side}
+use Rattle.state.specs.State.{whole, sendDue, takeDue, underWay, finished, placesOf, heldAnswer, answerNo, answerCall}
+use Rattle.state.proofs.States.{finished-whole, places-most}
+use Rattle.runs.specs.Records.{answerOf, missingShares, JointState}
+use Rattle.runs.specs.Demands.{Fixed, Idle, observerInput, peerInput}
 use Rattle.syntax.specs.declared.Request.{Request}
-use Rattle.lines.specs.declared.Outcome.{Outcome}
-use Rattle.lines.specs.Plain.{settingsOf, secretOf, requestNo, outcomeOf}
-use Rattle.lines.specs.Play.{mostDraw, mostBook, mostInputs, width, roundsPlayed, ones, inColumns, begunAt, zeroWork, toldBy, playedWith, Lent}
-use Rattle.lines.proofs.Laws.{length-front}
-use Rattle.lines.proofs.Rounds.{playCalls, roundCalls, rounds-are, carried}
-use Rattle.lines.proofs.Handed.{settings-pass-all, ones-ok, columns-long, columns-below, missing-none, front-zeros, zeros-below, zeros-long}
+use Rattle.execution.specs.Execution.{Carried, noRefusal, refusalOf, carryAll, runCalls, serverInputs, phoneInputs, drawIn, freshParty, notBegun, dealNoOf, executed}
+use Rattle.execution.specs.Theorems.{GoesThrough}
+use Rattle.execution.proofs.Honest.{honest-run-goes-through}
+use Rattle.lines.specs.declared.LineResult.{LineResult}
+use Rattle.lines.specs.Plain.{settingsOf, secretOf, requestNo, resultFor}
+use Rattle.lines.specs.Run.{width, ones, termsFor, inColumns, zerosFor, numbersFor, answeredBy}
+use Rattle.lines.proofs.Handed.{settings-pass-all, ones-ok, columns-long, columns-below, missing-none, front-zeros, behind-zeros, zeros-below, length-front}
 
 -- ---- The answer of a side that has ended
 
-abbrev given : ℕ → List ℕ → Outcome
+abbrev given : ℕ → List ℕ → LineResult
 given count numbers = record { refused = 0; length = count; numbers = inFront numbers (replicate 8 0) }
 
 module _ (s : Settings) (secret : List ℕ) (x : Side) (done : finished x ≡ true) (held : heldAnswer x ≡ answerOf s secret) where
@@ -46,16 +46,16 @@ module _ (s : Settings) (secret : List ℕ) (x : Side) (done : finished x ≡ tr
   unfolding answerNo ask
   asked = rw (done, le-leb (placesOf x) 8 (places-most x (finished-whole x done)))
 
-  told-is : toldBy x ≡ given (length (answerOf s secret)) (answerOf s secret)
-  unfolding toldBy answerCall
-  told-is = rw asked (ap₂ given places held)
+  answered-is : answeredBy x ≡ given (length (answerOf s secret)) (answerOf s secret)
+  unfolding answeredBy answerCall
+  answered-is = rw asked (ap₂ given places held)
 
--- ---- The play
+-- ---- The run
 
 -- what a request that no question refuses has passed
-pub order-ready : (serial : ℕ) (o : Request) → requestNo serial o ≡ 0 → Ready (settingsOf o)
+pub request-ready : (serial : ℕ) (o : Request) → requestNo serial o ≡ 0 → Ready (settingsOf o)
 unfolding requestNo
-order-ready serial o e = settings-ready 0 (settingsOf o) _ e .1
+request-ready serial o e = settings-ready 0 (settingsOf o) _ e .1
 
 module _ (serial : ℕ) (o : Request) (ok : requestNo serial o ≡ 0) (fits : serial < 4294967296) (room : o .count ≤ length (o .numbers)) where
   abbrev s : Settings
@@ -70,9 +70,6 @@ module _ (serial : ℕ) (o : Request) (ok : requestNo serial o ≡ 0) (fits : se
   opened : askSettings 0 (settingsOf o) rest ≡ 0
   unfolding requestNo
   opened = ok
-
-  ready : Ready (settingsOf o)
-  ready = order-ready serial o ok
 
   six : (allBelow q secret ≡ true) × (ask (ltb 0 serial) 7 0 ≡ 0)
   six = passed (allBelow q secret) 5 (ask (ltb 0 serial) 7 0) (settings-rest 0 (settingsOf o) rest opened)
@@ -95,96 +92,96 @@ module _ (serial : ℕ) (o : Request) (ok : requestNo serial o ≡ 0) (fits : se
         phone-keys = ones-ok;
       }
 
-  -- a party state before its begin
-  abbrev idle : PartyState
-  idle = record { side = freshSide; work = zeroWork; latest = [] }
+  shape-yes : shapeOk (s .shape) ≡ true
+  unfolding shapeOk
+  shape-yes = both-yes (isBit (o .set) && isBit (o .kind) && countOk (o .count)) (boundOk (o .kind) (o .bound)) (fixed .settings) .0
 
-  idle-is : Idle keyCount serial idle
+  idle-is : Idle keyCount serial freshParty
   unfolding underWay sendDue takeDue whole askSettings askShape ask
   idle-is = record { none = refl; last = above; exact = length-replicate {A = ℕ} (workLength keyCount) 0; silent = refl }
 
-  module _ (draw : List ℕ) (draw-long : length draw ≡ drawLength (paramsIn (settingsOf o)) width) (draw-below : allBelow q draw ≡ true) where
-    abbrev inputs : List ℕ
-    inputs = inColumns secret
+  -- ---- What the calls are handed
 
-    abbrev server : PartyInput
-    server = observerInput keyCount s 0 ones ones inputs draw
+  abbrev inputs : List ℕ
+  inputs = inColumns secret
 
-    abbrev phone : PartyInput
-    phone = peerInput keyCount s 0 ones ones inputs secret draw
+  abbrev each : ℕ
+  each = o .count * width
 
-    abbrev start : JointState
-    start = record { observer = idle; peer = idle }
+  abbrev drawn : ℕ
+  drawn = drawLength (paramsIn s) width
 
-    ended : Ended s secret (jointAfter keyCount s serial server phone start playCalls .observer)
-    ended =
-        every-run-ends keyCount s serial ones ones fixed secret inputs draw
-        (record { size-is = secret-long; below = six .0 })
-        (record { size-is = columns-long secret ∙ ap (λ (n : ℕ). n * width) secret-long; below = columns-below secret (six .0) })
-        (record { size-is = draw-long; below = draw-below })
-        start
-        (record { observer = idle-is; peer = idle-is })
-        playCalls
-        (carried s (ready .most))
-        .0
+  inputs-long : length inputs ≡ each
+  inputs-long = columns-long secret ∙ ap (λ (n : ℕ). n * width) secret-long
 
-    -- both begins
-    abbrev begun : List ℕ → JointState
-    begun zeros =
-        record { observer = begunAt serial o 0 inputs (server .book) zeroWork; peer = begunAt serial o 1 zeros (phone .book) zeroWork }
+  input-size : inputSize (s .shape) ≡ each
+  unfolding inputSize
+  input-size = rw shape-yes
 
-    begins-are : jointAfter keyCount s serial server phone start playCalls ≡ jointAfter keyCount s serial server phone (begun (phone .inputs)) (roundCalls rounds)
-    unfolding jointAfter step outcome begunAt
-    begins-are = refl
+  server-inputs : serverInputs (s .shape) (numbersFor o) ≡ inputs
+  server-inputs = rw input-size (take-at inputs (replicate (zerosFor o) 0) each inputs-long)
 
-    pub played : playedWith serial o inputs (replicate (o .count * width) 0)
-        (serverBook (paramsIn (settingsOf o)) width (multipliers ones ones) draw)
-        (phoneBook (paramsIn (settingsOf o)) width draw)
-        ≡ outcomeOf serial o
-    unfolding playedWith outcomeOf
-    played =
-        let zeros : missingShares width (multipliers ones ones) secret inputs ≡ replicate (o .count * width) 0 = missing-none secret ∙ ap (λ (n : ℕ). replicate (n * width) 0) secret-long in
-        let joint : jointAfter keyCount s serial server phone start playCalls ≡ roundsPlayed rounds (begun (replicate (o .count * width) 0)) = begins-are ∙ rounds-are s serial server phone rounds (begun (phone .inputs)) ∙ ap (λ (z : List ℕ). roundsPlayed rounds (begun z)) zeros in
-        ap (λ (w : JointState). toldBy (w .observer .side)) (sym joint)
-        ∙ told-is s secret (jointAfter keyCount s serial server phone start playCalls .observer .side) (ended .done) (ended .answer)
-        ∙ rw ok
+  behind : drop (inputSize (s .shape)) (numbersFor o) ≡ replicate (zerosFor o) 0
+  behind = rw input-size (drop-at inputs (replicate (zerosFor o) 0) each inputs-long)
 
-    module _ (a b : List ℕ) (a-long : length a ≡ shared (paramsIn (settingsOf o)) * width) (b-long : length b ≡ shared (paramsIn (settingsOf o)) * width) where
-      deal-asked : dealNo keyCount (settingsOf o .shape) ones ones draw a b ≡ 0
-      unfolding dealNo askShape ask
-      deal-asked =
-          let x = both-yes (isBit (o .set) && isBit (o .kind) && countOk (o .count)) (boundOk (o .kind) (o .bound)) (fixed .settings) in
-          let y = both-yes (isBit (o .set) && isBit (o .kind)) (countOk (o .count)) (x .0) in
-          rw (y .0, y .1, ones-ok, eq-eqb _ _ draw-long, eq-eqb _ _ a-long, eq-eqb _ _ b-long, draw-below)
+  phone-inputs : phoneInputs (s .shape) (numbersFor o) ≡ replicate each 0
+  phone-inputs = ap (take (inputSize (s .shape))) behind ∙ ap (λ (n : ℕ). take n (replicate {A = ℕ} (zerosFor o) 0)) input-size ∙ front-zeros each (zerosFor o) (omega arith)
 
-      -- the deal is not refused
-      pub dealt : dealCall keyCount (settingsOf o .shape) ones ones draw a b ≡ record { refused = 0; server = server .book; phone = phone .book }
-      unfolding dealCall
-      dealt = rw deal-asked
+  draw-is : drawIn (s .shape) (numbersFor o) ≡ replicate drawn 0
+  draw-is = ap (drop (inputSize (s .shape))) behind ∙ ap (λ (n : ℕ). drop n (replicate {A = ℕ} (zerosFor o) 0)) input-size ∙ behind-zeros each drawn
 
--- what is played with the books of the deal is the plain meaning
-pub deal-play : (serial : ℕ) (o : Request) → requestNo serial o ≡ 0 → serial < 4294967296 → o .count ≤ length (o .numbers)
-    → (draw inputs zeros a b : List ℕ) → Lent o draw inputs zeros a b
-    → (r : ℕ) (spread server phone : List ℕ) → spread ≡ inColumns (secretOf o)
-    → _≡_ {A = Dealt} (record { refused = r; server = server; phone = phone }) (dealCall keyCount (settingsOf o .shape) ones ones draw a b)
-    → playedWith serial o spread zeros server phone ≡ outcomeOf serial o
-deal-play serial o ok fits room draw inputs zeros a b l r spread server phone e d =
-    let books = d ∙ dealt serial o ok fits room draw (l .draw-long) (l .draw-below) a b (l .server-long) (l .phone-long) in
-    ap (λ (x : List ℕ). playedWith serial o x zeros server phone) e
-    ∙ ap (λ (z : List ℕ). playedWith serial o (inColumns (secretOf o)) z server phone) (l .zeros)
-    ∙ ap (λ (x : Dealt). playedWith serial o (inColumns (secretOf o)) (replicate (o .count * width) 0) (x .server) (x .phone)) books
-    ∙ played serial o ok fits room draw (l .draw-long) (l .draw-below)
+  book-size : bookSize (s .shape) ≡ shared (paramsIn s) * width
+  unfolding bookSize
+  book-size = rw shape-yes
 
--- the fronts of zero arrays are the slices that a request asks for
-pub lent-is : (o : Request) (drawn size : ℕ) → drawn ≡ drawLength (paramsIn (settingsOf o)) width → drawn ≤ mostDraw
-    → size ≡ shared (paramsIn (settingsOf o)) → size ≤ 1320 → o .count ≤ 8
-    → Lent o (take drawn (replicate mostDraw 0)) (take (o .count * width) (replicate mostInputs 0)) (take (o .count * width) (replicate mostInputs 0)) (take (size * width) (replicate mostBook 0)) (take (size * width) (replicate mostBook 0))
-lent-is o drawn size e l f m h =
-    record {
-      draw-long = sym (zeros-long drawn mostDraw l) ∙ e;
-      draw-below = ap (allBelow q) (front-zeros drawn mostDraw l) ∙ zeros-below drawn;
-      inputs-long = sym (zeros-long (o .count * width) mostInputs (omega arith));
-      zeros = front-zeros (o .count * width) mostInputs (omega arith);
-      server-long = sym (zeros-long (size * width) mostBook (omega arith)) ∙ ap (λ (n : ℕ). n * width) f;
-      phone-long = sym (zeros-long (size * width) mostBook (omega arith)) ∙ ap (λ (n : ℕ). n * width) f;
-    }
+  deal-no : dealNoOf (termsFor serial o) (numbersFor o) ≡ 0
+  unfolding dealNo askShape ask shapeOk
+  deal-no =
+      let y = both-yes (isBit (o .set) && isBit (o .kind)) (countOk (o .count)) shape-yes in
+      rw (
+        draw-is,
+        y .0,
+        y .1,
+        ones-ok,
+        eq-eqb (length (replicate {A = ℕ} drawn 0)) drawn (length-replicate {A = ℕ} drawn 0),
+        eq-eqb (length (replicate {A = ℕ} (bookSize (s .shape)) 0)) (shared (paramsIn s) * width) (length-replicate {A = ℕ} (bookSize (s .shape)) 0 ∙ book-size),
+        zeros-below drawn,
+      )
+
+  -- ---- The end
+
+  abbrev start : JointState
+  start = record { observer = freshParty; peer = freshParty }
+
+  abbrev honest : Carried
+  honest =
+      carryAll s serial (observerInput keyCount s 0 ones ones inputs (replicate drawn 0)) (peerInput keyCount s 0 ones ones inputs secret (replicate drawn 0))
+      (record { refusal = noRefusal; parties = start; messages = [] }) runCalls
+
+  through : GoesThrough s secret honest
+  through =
+      honest-run-goes-through s serial ones ones fixed secret inputs (replicate drawn 0)
+      (record { size-is = secret-long; below = six .0 })
+      (record { size-is = inputs-long; below = columns-below secret (six .0) })
+      (record { size-is = length-replicate {A = ℕ} drawn 0; below = zeros-below drawn })
+      start
+      (record { observer = idle-is; peer = idle-is })
+
+  run-is : executed (termsFor serial o) (numbersFor o) ≡ honest
+  unfolding executed refusalOf
+  run-is =
+      let zeros : missingShares width (multipliers ones ones) secret inputs ≡ replicate each 0 = missing-none secret ∙ ap (λ (n : ℕ). replicate (n * width) 0) secret-long in
+      rw (deal-no, server-inputs, phone-inputs, draw-is, zeros)
+
+  -- what the server's answer says at the end is the plain meaning
+  pub run-gives : (x : Side) → x ≡ executed (termsFor serial o) (numbersFor o) .parties .observer .side → answeredBy x ≡ resultFor serial o
+  unfolding resultFor
+  run-gives x e =
+      ap answeredBy (e ∙ ap (λ (c : Carried). c .parties .observer .side) run-is)
+      ∙ answered-is s secret (honest .parties .observer .side) (through .server .done) (through .server .answer)
+      ∙ rw ok
+
+-- the slice of a run, from zeros
+pub spread-zeros : (o : Request) (zeros inputs : List ℕ) → zeros ≡ replicate (o .count * width + zerosFor o) 0 → inputs ≡ inColumns (secretOf o)
+    → inputs ++ drop (o .count * width) zeros ≡ numbersFor o
+spread-zeros o zeros inputs e f = rw (e, f, behind-zeros (o .count * width) (zerosFor o))

@@ -5,7 +5,8 @@ use mathlib.Core.Bool.{true, _&&_}
 use mathlib.Core.List.{List, _∷_}
 use native.Mathlib.Omega.{arith}
 use lib.Dec.{ltb}
-use lib.ListN.{length, getD, take, replicate, length-replicate, getD-replicate, replicate-append-replicate}
+use lib.Seq.{length-take-le}
+use lib.ListN.{length, getD, take, drop, replicate, length-replicate, getD-replicate, replicate-append-replicate}
 use borrow.Author.Tests.{lt-ltb}
 use Rattle.lists.specs.Lists.{every, listFrom, allBelow}
 use Rattle.lists.proofs.Lists.{length-listFrom, getD-listTo, listTo-cong}
@@ -17,7 +18,7 @@ use Rattle.settings.specs.Questions.{isBit, countOk, boundOk, keysOk, askSettin
 use Rattle.settings.specs.declared.Settings.{Settings}
 use Rattle.book.specs.Deal.{multipliers}
 use Rattle.runs.specs.Records.{missingShares}
-use Rattle.lines.specs.Play.{width, ones, inColumns}
+use Rattle.lines.specs.Run.{width, ones, inColumns}
 
 -- settings that passed questions 1 to 3
 pub settings-pass-all : (s : Settings) (rest : ℕ) → askSettings 0 s rest ≡ 0 → settingsOk s ≡ true
@@ -71,6 +72,14 @@ front-zeros (suc n) (suc m) h = ap (λ (l : List ℕ). 0 ∷ l) (front-zeros n m
 
 pub zeros-long : (n m : ℕ) → n ≤ m → n ≡ length (take {A = ℕ} n (replicate m 0))
 zeros-long n m h = sym (ap length (front-zeros n m h) ∙ length-replicate {A = ℕ} n 0)
+
+pub behind-zeros : (n m : ℕ) → drop {A = ℕ} n (replicate (n + m) 0) ≡ replicate m 0
+behind-zeros zero m = let e : 0 + m ≡ m = omega arith in rw e
+behind-zeros (suc n) m = let e : suc n + m ≡ suc (n + m) = omega arith in rw e (behind-zeros n m)
+
+-- the front of a list that is long enough
+pub length-front : (n : ℕ) (l : List ℕ) → n ≤ length l → n ≡ length (take n l)
+length-front n l h = sym (length-take-le n l h)
 
 one-of : (k c : ℕ) → c < widthOf k → getD (multipliers (replicate k 1) (replicate k 1)) c 0 ≡ 1
 one-of k zero h = refl

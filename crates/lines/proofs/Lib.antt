@@ -1,8 +1,6 @@
--- Laws of the play, and that it ends with the plain meaning; of a line that is cut.
-pub mod Laws
-pub mod Rounds
+-- Laws of a line: its questions, what its run is handed, that the run gives the plain meaning, and the whole line.
 pub mod Handed
-pub mod Ends
 pub mod Asked
+pub mod Ends
 pub mod Lines
 pub mod Cut

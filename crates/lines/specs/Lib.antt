@@ -1,3 +1,3 @@
--- What a line gives by the plain meaning; words for the play.
+-- What a line gives by the plain meaning, and the run that gives it.
 pub mod Plain
-pub mod Play
+pub mod Run

@@ -12,10 +12,10 @@ use Rattle.settings.specs.declared.Settings.{Settings}
 use Rattle.settings.specs.Settings.{settingsWith}
 use Rattle.runs.specs.Records.{answerOf}
 use Rattle.syntax.specs.declared.Request.{Request}
-use Rattle.lines.specs.declared.Outcome.{Outcome}
-use Rattle.syntax.specs.declared.Text.{Text}
-use Rattle.syntax.specs.Line.{tooLarge, lineOf}
-use Rattle.syntax.specs.Answer.{answerText, textOf}
+use Rattle.text.specs.Decimal.{tooLarge}
+use Rattle.syntax.specs.Line.{lineOf}
+use Rattle.syntax.specs.Answer.{answerText}
+use Rattle.lines.specs.declared.LineResult.{LineResult}
 
 -- the settings of a line
 abbrev pub settingsOf : Request → Settings
@@ -36,19 +36,23 @@ requestNo serial o =
     0))
 
 -- a refusal and no numbers; or the high parts, or the verdict, and zeros behind
-unfoldable pub outcomeOf : ℕ → Request → Outcome
-outcomeOf serial o =
+unfoldable pub resultFor : ℕ → Request → LineResult
+resultFor serial o =
     let refusal = requestNo serial o in
     let answer = answerOf (settingsOf o) (secretOf o) in
     cond (eqb refusal 0)
     (record { refused = 0; length = length answer; numbers = inFront answer (replicate 8 0) })
     (record { refused = refusal; length = 0; numbers = replicate 8 0 })
 
--- "Each output line: line number, then high parts or verdict, or `!` and the refusal"; "malformed: `!12`, no run"; "serial = line number",
--- and serials end at 2^32 − 1, so that no line beyond has a run
-unfoldable pub lineAnswer : ℕ → List ℕ → Text
+-- "malformed: `!12`, no run"
+abbrev pub malformedAnswer : ℕ → List ℕ
+malformedAnswer number = answerText number 12 []
+
+-- "Each output line: line number, then high parts or verdict, or `!` and the refusal"; "serial = line number", and serials end at
+-- 2^32 − 1, so that no line beyond has a run
+unfoldable pub lineAnswer : ℕ → List ℕ → List ℕ
 lineAnswer number line =
     let o = lineOf line in
-    let r = outcomeOf number o in
-    cond (leb tooLarge number) (textOf (answerText number 12 []))
-    (cond (o .good) (textOf (answerText number (r .refused) (take (r .length) (r .numbers)))) (textOf (answerText number 12 [])))
+    let r = resultFor number o in
+    cond (leb tooLarge number) (malformedAnswer number)
+    (cond (o .good) (answerText number (r .refused) (take (r .length) (r .numbers))) (malformedAnswer number))

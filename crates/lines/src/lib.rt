@@ -1,67 +1,43 @@
-// One line of the line program, but for moving bytes: the run that it asks for, played between the two sides, and its output line.
+// One line of the line program, but for moving bytes: the run that it asks for, executed, and its output line.
 ghost use mathlib.Core.Path.{_≡_};
 ghost use mathlib.Core.List.{[]};
-ghost use Prim.Native.Nat.{_*_, _≤_};
-ghost use lib.ListN.{length};
-ghost use Rattle.settings.specs.Sizes.{keyCount, mostBytes};
-ghost use Rattle.settings.specs.Schedule.{rounds};
-ghost use Rattle.syntax.specs.Answer.{answerText, textOf};
-ghost use Rattle.lines.specs.Plain.{settingsOf, requestNo, outcomeOf, lineAnswer};
-ghost use Rattle.lines.specs.Play.{partyOf, jointOf, Fits, sentAt, tookAt, serverHalf, phoneHalf, roundPlayed, roundsPlayed, width, inColumns, begunAt, toldBy, playedWith, Lent};
-use dealer::deal;
+ghost use Prim.Native.Nat.{_+_, _*_, _≤_};
+ghost use lib.ListN.{length, replicate};
+ghost use Rattle.text.specs.Text.{textAt, puts};
+ghost use Rattle.lines.specs.Plain.{settingsOf, requestNo, resultFor, malformedAnswer, lineAnswer};
+ghost use Rattle.lines.specs.Run.{width, termsFor, inColumns, zerosFor, answeredBy};
+use execution::RUN_BYTES;
+use execution::RunTerms;
+use execution::execute;
 use field::all_below_q;
+use lists::least;
+use settings::FIELDS;
 use settings::KEYS;
-use settings::MOST_BYTES;
 use settings::NOT_BELOW_Q;
-use settings::ROUNDS;
 use settings::SERIAL;
 use settings::Settings;
 use settings::Shape;
 use settings::WIDTH;
-use settings::WORK_LENGTH;
 use settings::draw_length;
 use settings::settings_no;
-use settings::shared_of;
-use side::Run;
-use side::begin;
-use side::send;
-use side::take;
 use state::Side;
 use state::answer;
-use state::fresh;
 use syntax::Request;
-use syntax::TOO_LARGE;
-use syntax::Text;
-use syntax::answer_text;
+use syntax::put_answer;
 use syntax::read_line;
+use text::TOO_LARGE;
 
-// ---- Play
+// The most places of an answer.
+const ANSWER_PLACES: usize = 8;
 
-// The most numbers of a side's inputs, of a book and of a draw.
-const INPUTS_LENGTH: usize = 8 * WIDTH;
+// The most numbers of a run: the inputs of both sides, and the draw.
+const RUN_NUMBERS: usize = 2 * 8 * WIDTH + 1320 * WIDTH + 144;
 
-const BOOK_LENGTH: usize = 1320 * WIDTH;
-
-const DRAW_LENGTH: usize = BOOK_LENGTH + 144;
-
-// What it gives: the number of the first no, or 0; and how many numbers, and the numbers, with zeros behind.
-struct Outcome {
+// What a line gives: the number of the first no, or 0; and how many numbers, and the numbers, with zeros behind.
+struct LineResult {
     refused: u32,
     length: usize,
     numbers: [u32; 8],
-}
-
-// A side with the latest message that it sent.
-struct Player {
-    side: Side,
-    length: usize,
-    message: [u8; MOST_BYTES],
-}
-
-// Both sides.
-struct Table {
-    server: Player,
-    phone: Player,
 }
 
 // ---- The questions
@@ -99,104 +75,20 @@ fn request_no(serial: u32, request: Request) -> u32
     0
 }
 
-// ---- The rounds. The play goes on whatever a send or a take answers; that it then ends with the answer is proved.
+// ---- The run
 
-// The player sends.
-fn send_at(player: Player, work: &[u32]) -> Player
-    requires { ⌜ player .length ≤ mostBytes keyCount ⌝ }
-    ensures { λ r. ⌜ (partyOf r (now (work .entry)) ≡ sentAt (partyOf player (now (work .entry)))) × (r .length ≤ mostBytes keyCount) ⌝ }
+// What both sides and the dealer agree on.
+fn terms_of(serial: u32, request: Request) -> RunTerms
+    ensures { λ r. ⌜ r ≡ termsFor serial request ⌝ }
 {
-    let mut message = [0u8; MOST_BYTES];
-    let before = player.side;
-    let sent = send(before, work, &mut message);
-    let side = sent.side;
-    if sent.refused != 0 {
-        let kept = player.message;
-        return Player {
-            side,
-            length: player.length,
-            message: kept,
-        };
-    }
-    Player {
-        side,
-        length: sent.length,
-        message,
+    let settings = settings_of(request);
+    RunTerms {
+        settings,
+        serial,
+        keys0: [1; KEYS],
+        keys1: [1; KEYS],
     }
 }
-
-// The player takes the latest message of another.
-fn take_at(player: Player, work: &mut [u32], from: Player) -> Player
-    requires { ⌜ from .length ≤ mostBytes keyCount ⌝ }
-    ensures { λ r. ⌜ (partyOf r (now (work .exit)) ≡ tookAt (partyOf player (now (work .entry))) (partyOf from [] .latest)) × (r .length ≡ player .length) ⌝ }
-{
-    let handed = from.message;
-    let size = from.length;
-    let before = player.side;
-    let done = take(before, work, &handed[..size]);
-    let side = done.side;
-    let message = player.message;
-    Player {
-        side,
-        length: player.length,
-        message,
-    }
-}
-
-// The server sends, the phone takes; the slices are their working slices.
-fn server_half(table: Table, server: &[u32], phone: &mut [u32]) -> Table
-    requires { ⌜ Fits table ⌝ }
-    ensures { λ r. ⌜ (jointOf r (now (server .entry)) (now (phone .exit)) ≡ serverHalf (jointOf table (now (server .entry)) (now (phone .entry)))) × Fits r ⌝ }
-{
-    let first = table.server;
-    let second = table.phone;
-    let sender = send_at(first, server);
-    let receiver = take_at(second, phone, sender);
-    Table {
-        server: sender,
-        phone: receiver,
-    }
-}
-
-// The phone sends, the server takes.
-fn phone_half(table: Table, server: &mut [u32], phone: &[u32]) -> Table
-    requires { ⌜ Fits table ⌝ }
-    ensures { λ r. ⌜ (jointOf r (now (server .exit)) (now (phone .entry)) ≡ phoneHalf (jointOf table (now (server .entry)) (now (phone .entry)))) × Fits r ⌝ }
-{
-    let first = table.phone;
-    let second = table.server;
-    let sender = send_at(first, phone);
-    let receiver = take_at(second, server, sender);
-    Table {
-        server: receiver,
-        phone: sender,
-    }
-}
-
-// One round.
-fn play_round(table: Table, server: &mut [u32], phone: &mut [u32]) -> Table
-    requires { ⌜ Fits table ⌝ }
-    ensures { λ r. ⌜ (jointOf r (now (server .exit)) (now (phone .exit)) ≡ roundPlayed (jointOf table (now (server .entry)) (now (phone .entry)))) × Fits r ⌝ }
-{
-    let half = server_half(table, server, phone);
-    phone_half(half, server, phone)
-}
-
-// The seven rounds.
-fn play_rounds(table: Table, server: &mut [u32], phone: &mut [u32]) -> Table
-    requires { ⌜ Fits table ⌝ }
-    ensures { λ r. ⌜ jointOf r (now (server .exit)) (now (phone .exit)) ≡ roundsPlayed rounds (jointOf table (now (server .entry)) (now (phone .entry))) ⌝ }
-{
-    let mut at = table;
-    let mut round: u32 = 0;
-    while round < ROUNDS {
-        at = play_round(at, server, phone);
-        round += 1;
-    }
-    at
-}
-
-// ---- Begin and answer
 
 // Each number in every column.
 fn spread(out: &mut [u32], numbers: &[u32])
@@ -210,159 +102,89 @@ fn spread(out: &mut [u32], numbers: &[u32])
     }
 }
 
-// A player that has begun as side `number`.
-fn begin_at(
-    serial: u32,
-    request: Request,
-    number: u32,
-    inputs: &[u32],
-    book: &[u32],
-    work: &mut [u32],
-) -> Player
-    ensures { λ r. ⌜ (partyOf r (now (work .exit)) ≡ begunAt serial request number (now (inputs .entry)) (now (book .entry)) (now (work .entry))) × (r .length ≤ mostBytes keyCount) ⌝ }
-{
-    let settings = settings_of(request);
-    let run = Run {
-        number,
-        settings,
-        keys: [1; KEYS],
-        serial,
-    };
-    let done = begin(fresh(), run, inputs, book, work);
-    let side = done.side;
-    let message = [0u8; MOST_BYTES];
-    Player {
-        side,
-        length: 0,
-        message,
-    }
-}
-
 // What the side's answer says.
-fn told_by(side: Side) -> Outcome
-    ensures { λ r. ⌜ r ≡ toldBy side ⌝ }
+fn answered_by(side: Side) -> LineResult
+    ensures { λ r. ⌜ r ≡ answeredBy side ⌝ }
 {
     let mut numbers = [0u32; 8];
     let result = answer(side, &mut numbers);
-    Outcome {
+    LineResult {
         refused: result.refused,
         length: result.length,
         numbers,
     }
 }
 
-// ---- The whole
-
-// Both begin with the lent inputs and books, play, and the server answers.
-fn play_with(
-    serial: u32,
-    request: Request,
-    inputs: &[u32],
-    zeros: &[u32],
-    server: &[u32],
-    phone: &[u32],
-) -> Outcome
-    ensures { λ r. ⌜ r ≡ playedWith serial request (now (inputs .entry)) (now (zeros .entry)) (now (server .entry)) (now (phone .entry)) ⌝ }
-{
-    let mut server_work = [0u32; WORK_LENGTH];
-    let mut phone_work = [0u32; WORK_LENGTH];
-    let first = begin_at(serial, request, 0, inputs, server, &mut server_work);
-    let second = begin_at(serial, request, 1, zeros, phone, &mut phone_work);
-    let table = Table {
-        server: first,
-        phone: second,
-    };
-    let played = play_rounds(table, &mut server_work, &mut phone_work);
-    let end = played.server;
-    let side = end.side;
-    told_by(side)
-}
-
-// The deal into the lent books, and the play. The questions have been asked, so the deal refuses nothing.
-fn deal_and_play(
-    serial: u32,
-    request: Request,
-    draw: &[u32],
-    inputs: &mut [u32],
-    zeros: &[u32],
-    server: &mut [u32],
-    phone: &mut [u32],
-) -> Outcome
+// The run of a request that no question refuses, in a lent slice of zeros, and the server's answer.
+fn run_in(serial: u32, request: Request, numbers: &mut [u32]) -> LineResult
     requires { ⌜ requestNo serial request ≡ 0 ⌝ }
-    requires { ⌜ Lent request (now draw) (now inputs) (now zeros) (now server) (now phone) ⌝ }
-    ensures { λ r. ⌜ r ≡ outcomeOf serial request ⌝ }
+    requires { ⌜ now numbers ≡ replicate (request .count * width + zerosFor request) 0 ⌝ }
+    ensures { λ r. ⌜ r ≡ resultFor serial request ⌝ }
 {
-    let numbers = request.numbers;
+    let coefficients = request.numbers;
     let count = request.count as usize;
-    spread(inputs, &numbers[..count]);
-    let shape = settings_of(request).shape;
-    deal(shape, [1; KEYS], [1; KEYS], draw, server, phone);
-    play_with(serial, request, inputs, zeros, server, phone)
+    let each = count * WIDTH;
+    spread(&mut numbers[..each], &coefficients[..count]);
+    let mut messages = [0u8; RUN_BYTES];
+    let terms = terms_of(serial, request);
+    let end = execute(terms, numbers, &mut messages);
+    let server = end.server;
+    let side = server.side;
+    answered_by(side)
 }
 
-// A request that no question refuses, with slices of its lengths.
-fn play(serial: u32, request: Request) -> Outcome
+// The run of a request that no question refuses.
+fn run_request(serial: u32, request: Request) -> LineResult
     requires { ⌜ requestNo serial request ≡ 0 ⌝ }
-    ensures { λ r. ⌜ r ≡ outcomeOf serial request ⌝ }
+    ensures { λ r. ⌜ r ≡ resultFor serial request ⌝ }
 {
-    let shape = settings_of(request).shape;
-    let drawn = draw_length(shape);
-    let size = shared_of(shape) * WIDTH;
-    let each = request.count as usize * WIDTH;
-    let draw = [0u32; DRAW_LENGTH];
-    let mut inputs = [0u32; INPUTS_LENGTH];
-    let zeros = [0u32; INPUTS_LENGTH];
-    let mut server = [0u32; BOOK_LENGTH];
-    let mut phone = [0u32; BOOK_LENGTH];
-    deal_and_play(
-        serial,
-        request,
-        &draw[..drawn],
-        &mut inputs[..each],
-        &zeros[..each],
-        &mut server[..size],
-        &mut phone[..size],
-    )
+    let drawn = draw_length(settings_of(request).shape);
+    let size = 2 * (request.count as usize * WIDTH) + drawn;
+    let mut numbers = [0u32; RUN_NUMBERS];
+    run_in(serial, request, &mut numbers[..size])
 }
 
 // What a line gives.
-fn play_order(serial: u32, request: Request) -> Outcome
-    ensures { λ r. ⌜ r ≡ outcomeOf serial request ⌝ }
+fn line_result(serial: u32, request: Request) -> LineResult
+    ensures { λ r. ⌜ r ≡ resultFor serial request ⌝ }
 {
     let refused = request_no(serial, request);
     if refused != 0 {
-        return Outcome {
+        return LineResult {
             refused,
             length: 0,
             numbers: [0; 8],
         };
     }
-    play(serial, request)
+    run_request(serial, request)
 }
 
 // ---- The whole line
 
-// Refusal 12, for a line that asks for no run.
-fn malformed_text(number: u64) -> Text
-    ensures { λ r. ⌜ r ≡ textOf (answerText number 12 []) ⌝ }
-    ensures { λ r. ⌜ r .length ≤ 112 ⌝ }
+// The output line of a line that asks for no run: refusal 12.
+fn put_malformed(out: &mut [u8], at: usize, number: u64) -> usize
+    ensures { λ r. ⌜ textAt (now (out .exit)) r ≡ puts (textAt (now (out .entry)) at) (malformedAnswer number) ⌝ }
+    ensures { λ r. ⌜ length (malformedAnswer number) ≤ 112 ⌝ }
 {
-    answer_text(number, 12, 0, [0; 8])
+    let none = [0u32; 1];
+    put_answer(out, at, number, FIELDS, &none[..0])
 }
 
-// The output line for an input line without its line end. Its number is the serial of its run; a line beyond the last serial is malformed.
-pub fn answer_line(number: u64, line: &[u8]) -> Text
-    ensures { λ r. ⌜ r ≡ lineAnswer number (now (line .entry)) ⌝ }
-    ensures { λ r. ⌜ r .length ≤ 112 ⌝ }
+// The output line for an input line without its line end, put at a place of `out`; the place behind it. Its number is the serial of
+// its run; a line beyond the last serial is malformed.
+pub fn answer_line(out: &mut [u8], at: usize, number: u64, line: &[u8]) -> usize
+    ensures { λ r. ⌜ textAt (now (out .exit)) r ≡ puts (textAt (now (out .entry)) at) (lineAnswer number (now (line .entry))) ⌝ }
+    ensures { λ r. ⌜ length (lineAnswer number (now (line .entry))) ≤ 112 ⌝ }
 {
     if number >= TOO_LARGE {
-        return malformed_text(number);
+        return put_malformed(out, at, number);
     }
     let request = read_line(line);
     if !request.good {
-        return malformed_text(number);
+        return put_malformed(out, at, number);
     }
-    let outcome = play_order(number as u32, request);
-    let numbers = outcome.numbers;
-    answer_text(number, outcome.refused, outcome.length, numbers)
+    let result = line_result(number as u32, request);
+    let numbers = result.numbers;
+    let count = least(result.length, ANSWER_PLACES);
+    put_answer(out, at, number, result.refused, &numbers[..count])
 }

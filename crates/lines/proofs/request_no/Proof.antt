@@ -1,4 +1,4 @@
--- `lines::order_no` meets its contract.
+-- `lines::request_no` meets its contract.
 use borrow.Author.Needs.{needs}
 use mathlib.Core.Path.{_≡_, sym, refl, _∙_, ap}
 use native.Mathlib.Omega.{arith}
@@ -9,7 +9,7 @@ use Rattle.settings.proofs.Ready.{settings-ready, settings-stop, settings-skip}
 use Rattle.settings.specs.declared.Settings.{Settings}
 use Rattle.settings.specs.Questions.{askSettings}
 use Rattle.lines.specs.Plain.{requestNo, settingsOf}
-use Rattle.lines.proofs.Laws.{length-front}
+use Rattle.lines.proofs.Handed.{length-front}
 use Rattle.lines.proofs.request_no.Statement.{statement}
 use Rattle.lines.proofs.request_no.Tie as tie
 

@@ -1,0 +1,42 @@
+-- The run of a line: what its deal, its begins and its answer are handed.
+use Prim.Native.Nat.{ℕ, _+_, _*_, _/_}
+use mathlib.Core.List.{List, _++_}
+use lib.ListN.{length, getD, replicate}
+use Rattle.lists.specs.Lists.{listTo}
+use Rattle.settings.specs.Sizes.{keyCount, widthOf, drawLength}
+use Rattle.settings.specs.Settings.{paramsIn}
+use Rattle.state.specs.declared.Side.{Side}
+use Rattle.state.specs.State.{answerCall}
+use Rattle.syntax.specs.declared.Request.{Request}
+use Rattle.execution.specs.declared.RunTerms.{RunTerms}
+use Rattle.lines.specs.declared.LineResult.{LineResult}
+use Rattle.lines.specs.Plain.{settingsOf, secretOf}
+
+-- the numbers of a shared number on one side
+abbrev pub width : ℕ
+width = widthOf keyCount
+
+-- "keys 1, serial = line number"
+abbrev pub ones : List ℕ
+ones = replicate keyCount 1
+
+abbrev pub termsFor : ℕ → Request → RunTerms
+termsFor serial o = record { settings = settingsOf o; serial = serial; keys0 = ones; keys1 = ones }
+
+-- the server's inputs: keys are 1 and the phone's numbers 0, so each coefficient in every column
+unfoldable pub inColumns : List ℕ → List ℕ
+inColumns xs = listTo (length xs * width) (λ (x : ℕ). getD xs (x / width) 0)
+
+-- "the phone's input numbers are 0", "an all-zero draw": so many zeros behind the server's inputs
+abbrev pub zerosFor : Request → ℕ
+zerosFor o = o .count * width + drawLength (paramsIn (settingsOf o)) width
+
+-- the numbers of the run
+abbrev pub numbersFor : Request → List ℕ
+numbersFor o = inColumns (secretOf o) ++ replicate (zerosFor o) 0
+
+-- what a side's answer says
+unfoldable pub answeredBy : Side → LineResult
+answeredBy s =
+    let a = answerCall s (replicate 8 0) in
+    record { refused = a .result .refused; length = a .result .length; numbers = a .out }
