@@ -9,41 +9,42 @@ use lib.Seq.{drop-drop}
 use Rattle.stream.specs.declared.Stream.{Stream}
 use Rattle.stream.specs.Stream.{nextLine}
 use Rattle.stream.specs.Theorems.{State, afterCall, afterCalls}
-use Rattle.line_program.specs.Waiting.{lineBytes, standing, flushed, allCalls}
+use Rattle.lines.specs.Plain.{lineAnswer}
+use Rattle.line_program.specs.Waiting.{standing, flushed, allCalls}
 use Rattle.line_program.proofs.Waiting.{rest, rest-is}
 
-call-flushed : (a : State) (bytes : List ℕ) → flushed (afterCall lineBytes (flushed a) bytes) ≡ flushed (afterCall lineBytes a bytes)
+call-flushed : (a : State) (bytes : List ℕ) → flushed (afterCall lineAnswer (flushed a) bytes) ≡ flushed (afterCall lineAnswer a bytes)
 unfolding afterCall
 call-flushed a bytes = refl
 
-calls-flushed : (fuel : ℕ) (a : State) (bytes : List ℕ) → flushed (afterCalls lineBytes fuel (flushed a) bytes) ≡ flushed (afterCalls lineBytes fuel a bytes)
+calls-flushed : (fuel : ℕ) (a : State) (bytes : List ℕ) → flushed (afterCalls lineAnswer fuel (flushed a) bytes) ≡ flushed (afterCalls lineAnswer fuel a bytes)
 unfolding afterCalls
 calls-flushed zero a bytes = refl
 calls-flushed (suc fuel) a bytes = go (eqb (length bytes) 0) (calls-flushed fuel)
   where
-    go : (t : Bool) → ((b : State) (bs : List ℕ) → flushed (afterCalls lineBytes fuel (flushed b) bs) ≡ flushed (afterCalls lineBytes fuel b bs))
-        → flushed (cond t (flushed a) (afterCalls lineBytes fuel (afterCall lineBytes (flushed a) bytes) (drop (nextLine (a .stream) (a .kept) bytes .used) bytes)))
-        ≡ flushed (cond t a (afterCalls lineBytes fuel (afterCall lineBytes a bytes) (drop (nextLine (a .stream) (a .kept) bytes .used) bytes)))
+    go : (t : Bool) → ((b : State) (bs : List ℕ) → flushed (afterCalls lineAnswer fuel (flushed b) bs) ≡ flushed (afterCalls lineAnswer fuel b bs))
+        → flushed (cond t (flushed a) (afterCalls lineAnswer fuel (afterCall lineAnswer (flushed a) bytes) (drop (nextLine (a .stream) (a .kept) bytes .used) bytes)))
+        ≡ flushed (cond t a (afterCalls lineAnswer fuel (afterCall lineAnswer a bytes) (drop (nextLine (a .stream) (a .kept) bytes .used) bytes)))
     go true ih = refl
     go false ih =
-        sym (ih (afterCall lineBytes (flushed a) bytes) _)
-        ∙ ap (λ (b : State). flushed (afterCalls lineBytes fuel b (drop (nextLine (a .stream) (a .kept) bytes .used) bytes))) (call-flushed a bytes)
-        ∙ ih (afterCall lineBytes a bytes) _
+        sym (ih (afterCall lineAnswer (flushed a) bytes) _)
+        ∙ ap (λ (b : State). flushed (afterCalls lineAnswer fuel b (drop (nextLine (a .stream) (a .kept) bytes .used) bytes))) (call-flushed a bytes)
+        ∙ ih (afterCall lineAnswer a bytes) _
 
 -- what is written then goes behind what was written before
-pub calls-behind : (fuel : ℕ) (a : State) (bytes : List ℕ) → afterCalls lineBytes fuel a bytes .written ≡ a .written ++ afterCalls lineBytes fuel (flushed a) bytes .written
+pub calls-behind : (fuel : ℕ) (a : State) (bytes : List ℕ) → afterCalls lineAnswer fuel a bytes .written ≡ a .written ++ afterCalls lineAnswer fuel (flushed a) bytes .written
 unfolding afterCalls afterCall
 calls-behind zero a bytes = sym (append-nil (a .written))
 calls-behind (suc fuel) a bytes = go (eqb (length bytes) 0) (calls-behind fuel)
   where
-    go : (t : Bool) → ((b : State) (bs : List ℕ) → afterCalls lineBytes fuel b bs .written ≡ b .written ++ afterCalls lineBytes fuel (flushed b) bs .written)
-        → cond t a (afterCalls lineBytes fuel (afterCall lineBytes a bytes) (drop (nextLine (a .stream) (a .kept) bytes .used) bytes)) .written
-        ≡ a .written ++ cond t (flushed a) (afterCalls lineBytes fuel (afterCall lineBytes (flushed a) bytes) (drop (nextLine (a .stream) (a .kept) bytes .used) bytes)) .written
+    go : (t : Bool) → ((b : State) (bs : List ℕ) → afterCalls lineAnswer fuel b bs .written ≡ b .written ++ afterCalls lineAnswer fuel (flushed b) bs .written)
+        → cond t a (afterCalls lineAnswer fuel (afterCall lineAnswer a bytes) (drop (nextLine (a .stream) (a .kept) bytes .used) bytes)) .written
+        ≡ a .written ++ cond t (flushed a) (afterCalls lineAnswer fuel (afterCall lineAnswer (flushed a) bytes) (drop (nextLine (a .stream) (a .kept) bytes .used) bytes)) .written
     go true ih = sym (append-nil (a .written))
     go false ih =
-        ih (afterCall lineBytes a bytes) _
+        ih (afterCall lineAnswer a bytes) _
         ∙ append-assoc (a .written) _ _
-        ∙ ap (λ (l : List ℕ). a .written ++ l) (sym (ih (afterCall lineBytes (flushed a) bytes) (drop (nextLine (a .stream) (a .kept) bytes .used) bytes)))
+        ∙ ap (λ (l : List ℕ). a .written ++ l) (sym (ih (afterCall lineAnswer (flushed a) bytes) (drop (nextLine (a .stream) (a .kept) bytes .used) bytes)))
 
 -- ---- the loop that writes
 

@@ -1,18 +1,18 @@
 -- The program answers each line of its input.
 use Prim.Native.Nat.{ℕ}
-use mathlib.Core.Path.{_≡_, ap}
+use mathlib.Core.Path.{_≡_}
 use mathlib.Core.List.{List}
 use native.Mathlib.Omega.{arith}
 use lib.ListN.{length, take}
-use Rattle.syntax.specs.declared.Text.{Text}
 use Rattle.lines.proofs.Cut.{cut-line}
 use Rattle.stream.proofs.Parts.{writes-the-output}
-use Rattle.line_program.specs.Waiting.{lineBytes, keptLength}
+use Rattle.lines.specs.Plain.{lineAnswer}
+use Rattle.line_program.specs.Waiting.{keptLength}
 use Rattle.line_program.specs.Theorems.{AnswersEachLine}
 
 -- an answer looks at no more than the first 1,025 bytes of a line
-cut-bytes : (kept : List ℕ) → length kept ≡ keptLength → (k : ℕ) (line : List ℕ) → lineBytes k (take (length kept) line) ≡ lineBytes k line
-cut-bytes kept l k line = rw l (ap (λ (t : Text). take (t .length) (t .bytes)) (cut-line k line))
+cut-bytes : (kept : List ℕ) → length kept ≡ keptLength → (k : ℕ) (line : List ℕ) → lineAnswer k (take (length kept) line) ≡ lineAnswer k line
+cut-bytes kept l k line = rw l (cut-line k line)
 
 pub answers-each-line : AnswersEachLine
-answers-each-line kept l parts few = writes-the-output lineBytes kept (omega arith) (cut-bytes kept l) parts few
+answers-each-line kept l parts few = writes-the-output lineAnswer kept (omega arith) (cut-bytes kept l) parts few

@@ -4,42 +4,19 @@ use mathlib.Core.Path.{_≡_, refl, sym, ap, _∙_}
 use mathlib.Core.Bool.{Bool, true, false, cond, not, true≢false}
 use mathlib.Core.List.{List, [], _++_, append-nil}
 use native.Mathlib.Omega.{arith}
-use lib.ListN.{length, take, drop, length-take, length-drop, length-append}
-use lib.Seq.{take-all, take-append-seam, drop-drop}
-use Rattle.lists.specs.Lists.{inFront}
+use lib.ListN.{length, take, drop, length-take, length-drop}
+use lib.Seq.{take-all, drop-drop}
 use Rattle.stream.specs.declared.Stream.{Stream}
 use Rattle.stream.specs.declared.Step.{Step}
-use Rattle.stream.specs.Stream.{atLine, heldOf, withBytes, keptAfter, nextLine, isLeft}
+use Rattle.stream.specs.Stream.{atLine, heldOf, keptAfter, nextLine, isLeft}
 use Rattle.stream.specs.Theorems.{State, afterCall}
 use Rattle.stream.proofs.Standing.{left-line}
 use Rattle.stream.proofs.Held.{take-min}
 use Rattle.stream.proofs.Calls.{some-used, used-fits, held-fits, calls-more}
-use Rattle.syntax.specs.declared.Text.{Text}
+use Rattle.text.specs.Text.{textAt, puts}
+use Rattle.text.proofs.Puts.{front-put, within-put, length-put}
 use Rattle.lines.specs.Plain.{lineAnswer}
-use Rattle.lines.proofs.Lines.{answer-long}
-use Rattle.line_program.specs.Waiting.{lineBytes, standing, allCalls}
-
--- the bytes of a text
-abbrev bytesOf : Text → List ℕ
-bytesOf t = take (t .length) (t .bytes)
-
-pub length-bytes : (t : Text) → t .length ≤ 112 → length (bytesOf t) ≤ 112
-length-bytes t h = omega (arith, length-take (t .length) (t .bytes))
-
-pub text-fits : (k : ℕ) (line : List ℕ) (t : Text) → t ≡ lineAnswer k line → t .length ≤ 112 → t .length ≤ length (t .bytes)
-text-fits k line t e h = let l : length (t .bytes) ≡ 112 = rw e (answer-long k line) in omega arith
-
--- ---- bytes behind those that wait
-
-module _ (out bytes : List ℕ) (waiting n : ℕ) (e : n ≡ length (withBytes out waiting bytes)) where
-  pub waiting-fits : n ≤ length out
-  waiting-fits = omega (arith, length-take (length out) (take waiting out ++ bytes))
-
-  pub waiting-is : (out′ : List ℕ) → waiting + length bytes ≤ length out → out′ ≡ inFront (withBytes out waiting bytes) out → take n out′ ≡ take waiting out ++ bytes
-  waiting-is out′ h f =
-      rw (e, f)
-      (take-append-seam (withBytes out waiting bytes) _
-      ∙ take-all (length out) (take waiting out ++ bytes) (omega (arith, length-append (take waiting out) bytes, length-take waiting out)))
+use Rattle.line_program.specs.Waiting.{standing, allCalls}
 
 -- ---- a call
 
@@ -49,8 +26,8 @@ module _ (s : Stream) (kept bytes : List ℕ) (step : Step) (e : step ≡ nextLi
 
   module _ (out kept′ : List ℕ) (waiting : ℕ) (f : kept′ ≡ keptAfter s kept bytes) where
     called : (w : List ℕ)
-        → w ≡ take waiting out ++ cond (step .stream .ended) (lineBytes (step .stream .number) (heldOf (step .stream) kept′)) []
-        → _≡_ {A = State} (record { stream = step .stream; kept = kept′; written = w }) (afterCall lineBytes (standing s kept out waiting) bytes)
+        → w ≡ take waiting out ++ cond (step .stream .ended) (lineAnswer (step .stream .number) (heldOf (step .stream) kept′)) []
+        → _≡_ {A = State} (record { stream = step .stream; kept = kept′; written = w }) (afterCall lineAnswer (standing s kept out waiting) bytes)
     unfolding afterCall
     called w h = rw (h, f, e) refl
 
@@ -64,19 +41,17 @@ module _ (s : Stream) (kept bytes : List ℕ) (step : Step) (e : step ≡ nextLi
 
     -- the line goes on
     pub called-open : not (step .stream .ended) ≡ true
-        → standing (step .stream) kept′ out waiting ≡ afterCall lineBytes (standing s kept out waiting) bytes
+        → standing (step .stream) kept′ out waiting ≡ afterCall lineAnswer (standing s kept out waiting) bytes
     called-open h = called (take waiting out) (none (step .stream .ended) (take waiting out) _ h)
 
     -- it has ended
-    pub called-ended : (t : Text) (n : ℕ) (out′ : List ℕ) → not (step .stream .ended) ≡ false
-        → t ≡ lineAnswer (step .stream .number) (heldOf (step .stream) kept′) → t .length ≤ 112 → waiting + 112 ≤ length out
-        → n ≡ length (withBytes out waiting (bytesOf t)) → out′ ≡ inFront (withBytes out waiting (bytesOf t)) out
-        → standing (step .stream) kept′ out′ n ≡ afterCall lineBytes (standing s kept out waiting) bytes
-    called-ended t n out′ h g l r m o =
-        called (take n out′)
-        (waiting-is out (bytesOf t) waiting n m out′ (omega (arith, length-bytes t l)) o
-        ∙ ap (λ (x : Text). take waiting out ++ bytesOf x) g
-        ∙ some (step .stream .ended) (take waiting out) (lineBytes (step .stream .number) (heldOf (step .stream) kept′)) h)
+    pub called-ended : (n : ℕ) (out′ : List ℕ) → not (step .stream .ended) ≡ false
+        → textAt out′ n ≡ puts (textAt out waiting) (lineAnswer (step .stream .number) (heldOf (step .stream) kept′))
+        → length (lineAnswer (step .stream .number) (heldOf (step .stream) kept′)) ≤ 112 → waiting + 112 ≤ length out
+        → standing (step .stream) kept′ out′ n ≡ afterCall lineAnswer (standing s kept out waiting) bytes
+    called-ended n out′ h g l r =
+        let answer = lineAnswer (step .stream .number) (heldOf (step .stream) kept′) in
+        called (take n out′) (front-put out waiting answer out′ n g (omega (arith, l)) ∙ some (step .stream .ended) (take waiting out) answer h)
 
 -- ---- the calls of a part
 
@@ -100,12 +75,12 @@ module _ (s : Stream) (kept bytes : List ℕ) (used n : ℕ) (h : used < length 
       let g : n ≡ nextLine s kept (drop used bytes) .used = rw (rest-is bytes used) at e in
       omega (arith, f, g, length-drop used bytes)
 
-  pub calls-on : (out : List ℕ) (waiting : ℕ) (a t : State) → a ≡ afterCall lineBytes (standing s kept out waiting) (rest bytes used)
+  pub calls-on : (out : List ℕ) (waiting : ℕ) (a t : State) → a ≡ afterCall lineAnswer (standing s kept out waiting) (rest bytes used)
       → allCalls (standing s kept out waiting) (drop used bytes) ≡ t → allCalls a (drop (used + n) bytes) ≡ t
   calls-on out waiting a t f g =
       let i : n ≡ nextLine s kept (drop used bytes) .used = rw (rest-is bytes used) at e in
-      let j : a ≡ afterCall lineBytes (standing s kept out waiting) (drop used bytes) = rw (rest-is bytes used) at f in
-      rw (j, ← drop-drop n used bytes, i) (calls-more lineBytes (standing s kept out waiting) (drop used bytes) (omega (arith, length-drop used bytes)) ∙ g)
+      let j : a ≡ afterCall lineAnswer (standing s kept out waiting) (drop used bytes) = rw (rest-is bytes used) at f in
+      rw (j, ← drop-drop n used bytes, i) (calls-more lineAnswer (standing s kept out waiting) (drop used bytes) (omega (arith, length-drop used bytes)) ∙ g)
 
 -- ---- the last line
 
@@ -117,14 +92,16 @@ left-true : (left : Bool) → not left ≡ false → left ≡ true
 left-true true h = refl
 left-true false h = sym h
 
-pub last-some : (s : Stream) (kept out out′ : List ℕ) (left : Bool) (m n : ℕ) (t : Text) → left ≡ isLeft s → not left ≡ false → m ≡ min (s .held) (length kept)
-    → t ≡ lineAnswer (s .number) (take m kept) → t .length ≤ 112 → 112 ≤ length out
-    → n ≡ length (withBytes out 0 (bytesOf t)) → out′ ≡ inFront (withBytes out 0 (bytesOf t)) out
-    → take n out′ ≡ cond (isLeft s) (lineBytes (atLine s .number) (heldOf s kept)) []
-last-some s kept out out′ left m n t e h f g l r p o =
+pub last-some : (s : Stream) (kept out out′ : List ℕ) (left : Bool) (m n : ℕ) → left ≡ isLeft s → not left ≡ false → m ≡ min (s .held) (length kept)
+    → textAt out′ n ≡ puts (textAt out 0) (lineAnswer (s .number) (take m kept)) → length (lineAnswer (s .number) (take m kept)) ≤ 112 → 112 ≤ length out
+    → take n out′ ≡ cond (isLeft s) (lineAnswer (atLine s .number) (heldOf s kept)) []
+last-some s kept out out′ left m n e h f g l r =
     let i : isLeft s ≡ true = sym e ∙ left-true left h in
     let j : atLine s .number ≡ s .number = ap (λ (x : Stream). x .number) (left-line s i) in
     rw (i, j)
-    (waiting-is out (bytesOf t) 0 n p out′ (omega (arith, length-bytes t l)) o
-    ∙ ap bytesOf g
-    ∙ ap (λ (x : List ℕ). lineBytes (s .number) x) (take-min (s .held) m kept f))
+    (front-put out 0 (lineAnswer (s .number) (take m kept)) out′ n g (omega (arith, l))
+    ∙ ap (λ (x : List ℕ). lineAnswer (s .number) x) (take-min (s .held) m kept f))
+
+-- what is put stays within the slice
+pub put-within : (out out′ : List ℕ) (at n : ℕ) (bs : List ℕ) → textAt out′ n ≡ puts (textAt out at) bs → at ≤ length out → n ≤ length out
+put-within out out′ at n bs e h = omega (arith, within-put out at bs out′ n e h, length-put out at bs out′ n e)

@@ -5,7 +5,8 @@ use mathlib.Core.List.{List}
 use lib.ListN.{length}
 use Rattle.stream.specs.Input.{linesOf, outputOf}
 use Rattle.stream.specs.Theorems.{concatenated, writtenFor}
-use Rattle.line_program.specs.Waiting.{lineBytes, keptLength}
+use Rattle.lines.specs.Plain.{lineAnswer}
+use Rattle.line_program.specs.Waiting.{keptLength}
 
 -- WritesTheOutput for the program's own answers, over a slice of the length that it uses
 abbrev pub AnswersEachLine : Type 0
@@ -14,4 +15,4 @@ AnswersEachLine =
     → length kept ≡ keptLength
     → (parts : List (List ℕ))
     → length (linesOf (concatenated parts)) < 18446744073709551616
-    → writtenFor lineBytes kept parts ≡ outputOf lineBytes (concatenated parts)
+    → writtenFor lineAnswer kept parts ≡ outputOf lineAnswer (concatenated parts)

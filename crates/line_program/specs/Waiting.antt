@@ -6,10 +6,6 @@ use Rattle.stream.specs.declared.Stream.{Stream}
 use Rattle.stream.specs.Theorems.{State, afterCalls}
 use Rattle.lines.specs.Plain.{lineAnswer}
 
--- what is written for a line
-abbrev pub lineBytes : ℕ → List ℕ → List ℕ
-lineBytes k line = take (lineAnswer k line .length) (lineAnswer k line .bytes)
-
 -- where the program stands since the last write: the first bytes of `out` wait
 abbrev pub standing : Stream → List ℕ → List ℕ → ℕ → State
 standing s kept out waiting = record { stream = s; kept = kept; written = take waiting out }
@@ -24,4 +20,4 @@ keptLength = 1025
 
 -- after all calls of a part
 abbrev pub allCalls : State → List ℕ → State
-allCalls a bytes = afterCalls lineBytes (length bytes) a bytes
+allCalls a bytes = afterCalls lineAnswer (length bytes) a bytes

@@ -6,19 +6,19 @@ ghost use Prim.Native.Nat.{_+_, _≤_, _<_};
 ghost use lib.ListN.{length, take, drop};
 ghost use Rattle.stream.specs.Stream.{atLine, heldOf, nextLine, isLeft};
 ghost use Rattle.stream.specs.Theorems.{afterCall};
-ghost use Rattle.line_program.specs.Waiting.{lineBytes, standing, allCalls};
+ghost use Rattle.lines.specs.Plain.{lineAnswer};
+ghost use Rattle.line_program.specs.Waiting.{standing, allCalls};
 use lines::answer_line;
+use lists::least;
 use stream::Stream;
-use stream::hold;
 use stream::is_left;
-use stream::least;
 use stream::next_line;
 
 // No output line is longer.
-const LONGEST: usize = 112;
+const LONGEST_ANSWER: usize = 112;
 
 // How many bytes of a part have been used, where the input stands after them, and how many bytes wait to be written.
-pub struct Call {
+pub struct Answered {
     pub used: usize,
     pub stream: Stream,
     pub waiting: usize,
@@ -31,41 +31,38 @@ fn answer_call(
     bytes: &[u8],
     out: &mut [u8],
     waiting: usize,
-) -> Call
+) -> Answered
     requires { ⌜ waiting + 112 ≤ length (now out) ⌝ }
-    ensures { λ r. ⌜ standing (r .stream) (now (kept .exit)) (now (out .exit)) (r .waiting) ≡ afterCall lineBytes (standing stream (now (kept .entry)) (now (out .entry)) waiting) (now (bytes .entry)) ⌝ }
+    ensures { λ r. ⌜ standing (r .stream) (now (kept .exit)) (now (out .exit)) (r .waiting) ≡ afterCall lineAnswer (standing stream (now (kept .entry)) (now (out .entry)) waiting) (now (bytes .entry)) ⌝ }
     ensures { λ r. ⌜ r .used ≡ nextLine stream (now (kept .entry)) (now (bytes .entry)) .used ⌝ }
     ensures { λ r. ⌜ r .waiting ≤ length (now (out .entry)) ⌝ }
 {
     let step = next_line(stream, kept, bytes);
     let here = step.stream;
     if !here.ended {
-        return Call {
+        return Answered {
             used: step.used,
             stream: here,
             waiting,
         };
     }
     let held = here.held;
-    let text = answer_line(here.number, &kept[..held]);
-    let line = text.bytes;
-    let n = text.length;
-    Call {
+    Answered {
         used: step.used,
         stream: here,
-        waiting: hold(out, waiting, &line[..n]),
+        waiting: answer_line(out, waiting, here.number, &kept[..held]),
     }
 }
 
 // Answers the lines that end in a part until it is used up or the slice may lack room for one more. The slice is main's large buffer.
-pub fn answer_some(stream: Stream, kept: &mut [u8], bytes: &[u8], out: &mut [u8]) -> Call
+pub fn answer_some(stream: Stream, kept: &mut [u8], bytes: &[u8], out: &mut [u8]) -> Answered
     requires { ⌜ 112 ≤ length (now out) ⌝ }
     ensures { λ r. ⌜ allCalls (standing (r .stream) (now (kept .exit)) (now (out .exit)) (r .waiting)) (drop (r .used) (now (bytes .entry))) ≡ allCalls (standing stream (now (kept .entry)) (now (out .entry)) 0) (now (bytes .entry)) ⌝ }
     ensures { λ r. ⌜ r .used ≤ length (now (bytes .entry)) ⌝ }
     ensures { λ r. ⌜ (0 < length (now (bytes .entry)) → 0 < r .used) ⌝ }
     ensures { λ r. ⌜ r .waiting ≤ length (now (out .entry)) ⌝ }
 {
-    let most = out.len() - LONGEST;
+    let most = out.len() - LONGEST_ANSWER;
     let mut used = 0;
     let mut here = stream;
     let mut waiting = 0;
@@ -75,7 +72,7 @@ pub fn answer_some(stream: Stream, kept: &mut [u8], bytes: &[u8], out: &mut [u8]
         here = call.stream;
         waiting = call.waiting;
     }
-    Call {
+    Answered {
         used,
         stream: here,
         waiting,
@@ -86,15 +83,12 @@ pub fn answer_some(stream: Stream, kept: &mut [u8], bytes: &[u8], out: &mut [u8]
 // main's large buffer.
 pub fn put_last(stream: Stream, kept: &[u8], out: &mut [u8]) -> usize
     requires { ⌜ 112 ≤ length (now out) ⌝ }
-    ensures { λ r. ⌜ take r (now (out .exit)) ≡ cond (isLeft stream) (lineBytes (atLine stream .number) (heldOf stream (now (kept .entry)))) [] ⌝ }
+    ensures { λ r. ⌜ take r (now (out .exit)) ≡ cond (isLeft stream) (lineAnswer (atLine stream .number) (heldOf stream (now (kept .entry)))) [] ⌝ }
     ensures { λ r. ⌜ r ≤ length (now (out .entry)) ⌝ }
 {
     if !is_left(stream) {
         return 0;
     }
     let n = least(stream.held, kept.len());
-    let text = answer_line(stream.number, &kept[..n]);
-    let line = text.bytes;
-    let length = text.length;
-    hold(out, 0, &line[..length])
+    answer_line(out, 0, stream.number, &kept[..n])
 }

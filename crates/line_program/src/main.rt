@@ -11,7 +11,7 @@ ghost use Rattle.line_program.specs.Waiting.{standing, flushed, keptLeng
 use answers::answer_some;
 use answers::put_last;
 use stream::Stream;
-use stream::start;
+use stream::start_stream;
 
 const STDIN: i32 = 0;
 
@@ -21,7 +21,7 @@ const STDOUT: i32 = 1;
 const KEPT: usize = 1025;
 
 // Where an input stands: whether to read on, and whether every read and write so far has been done.
-struct Turn {
+struct InputState {
     more: bool,
     good: bool,
     stream: Stream,
@@ -37,7 +37,7 @@ fn write_out(bytes: &[u8]) -> bool {
 }
 
 // Answers the lines that end in a part, and writes the answers, until a write fails.
-fn answer_part(stream: Stream, kept: &mut [u8], bytes: &[u8], out: &mut [u8]) -> Turn
+fn answer_part(stream: Stream, kept: &mut [u8], bytes: &[u8], out: &mut [u8]) -> InputState
     requires { ⌜ length (now kept) ≡ keptLength ⌝ }
     requires { ⌜ 112 ≤ length (now out) ⌝ }
     ensures { λ r. ⌜ (r .good ≡ true → standing (r .stream) (now (kept .exit)) [] 0 ≡ flushed (allCalls (standing stream (now (kept .entry)) [] 0) (now (bytes .entry)))) ⌝ }
@@ -52,7 +52,7 @@ fn answer_part(stream: Stream, kept: &mut [u8], bytes: &[u8], out: &mut [u8]) ->
         here = call.stream;
         at += call.used;
     }
-    Turn {
+    InputState {
         more: good,
         good,
         stream: here,
@@ -60,21 +60,21 @@ fn answer_part(stream: Stream, kept: &mut [u8], bytes: &[u8], out: &mut [u8]) ->
 }
 
 // Reads a part, and answers its lines. Where the read fails, says so on standard error.
-fn read_part(fd: i32, stream: Stream, kept: &mut [u8], part: &mut [u8], out: &mut [u8]) -> Turn
+fn read_part(fd: i32, stream: Stream, kept: &mut [u8], part: &mut [u8], out: &mut [u8]) -> InputState
     requires { ⌜ length (now kept) ≡ keptLength ⌝ }
     requires { ⌜ 112 ≤ length (now out) ⌝ }
 {
     let got = libc::read(fd, part);
     if got < 0 {
         os::fail(b"read");
-        return Turn {
+        return InputState {
             more: false,
             good: false,
             stream,
         };
     }
     if got == 0 {
-        return Turn {
+        return InputState {
             more: false,
             good: true,
             stream,
@@ -85,21 +85,21 @@ fn read_part(fd: i32, stream: Stream, kept: &mut [u8], part: &mut [u8], out: &mu
 }
 
 // All parts. Nothing says that an input ends, so the loop counts down from a number that no run uses up.
-fn read_parts(fd: i32, kept: &mut [u8], part: &mut [u8], out: &mut [u8]) -> Turn
+fn read_parts(fd: i32, kept: &mut [u8], part: &mut [u8], out: &mut [u8]) -> InputState
     requires { ⌜ length (now kept) ≡ keptLength ⌝ }
     requires { ⌜ 112 ≤ length (now out) ⌝ }
 {
-    let mut turn = Turn {
+    let mut state = InputState {
         more: true,
         good: true,
-        stream: start(),
+        stream: start_stream(),
     };
-    let mut turns = u64::MAX;
-    while turns > 0 && turn.more {
-        turn = read_part(fd, turn.stream, kept, part, out);
-        turns -= 1;
+    let mut left = u64::MAX;
+    while left > 0 && state.more {
+        state = read_part(fd, state.stream, kept, part, out);
+        left -= 1;
     }
-    turn
+    state
 }
 
 // Answers an input; whether every read and write has been done.
@@ -107,11 +107,11 @@ fn answer_input(fd: i32) -> bool {
     let mut kept = [0u8; KEPT];
     let mut part = io::large_buffer();
     let mut out = io::large_buffer();
-    let turn = read_parts(fd, &mut kept, &mut part, &mut out);
-    if !turn.good {
+    let state = read_parts(fd, &mut kept, &mut part, &mut out);
+    if !state.good {
         return false;
     }
-    let n = put_last(turn.stream, &kept, &mut out);
+    let n = put_last(state.stream, &kept, &mut out);
     write_out(&out[..n])
 }
 

@@ -1,11 +1,13 @@
 -- What the deal and the begins of a play are handed.
-use Prim.Native.Nat.{ℕ, zero, suc, _+_, _*_, _/_, _%_, _≤_, _<_}
+use Prim.Native.Nat.{ℕ, zero, suc, _+_, _*_, _/_, _%_, _≤_, _<_, min}
 use mathlib.Core.Path.{_≡_, refl, sym, ap, _∙_}
 use mathlib.Core.Bool.{true, _&&_}
-use mathlib.Core.List.{List, _∷_}
+use mathlib.Core.List.{List, [], _∷_}
 use native.Mathlib.Omega.{arith}
-use lib.Dec.{ltb}
-use lib.Seq.{length-take-le}
+use lib.Dec.{ltb, lit<}
+use lib.Seq.{length-take-le, take-all}
+use native.Mathlib.Decide.{decLt}
+use Rattle.text.specs.Decimal.{tooLarge}
 use lib.ListN.{length, getD, take, drop, replicate, length-replicate, getD-replicate, replicate-append-replicate}
 use borrow.Author.Tests.{lt-ltb}
 use Rattle.lists.specs.Lists.{every, listFrom, allBelow}
@@ -101,3 +103,23 @@ missing-none xs =
     listTo-cong (length xs * width) _ (λ (x : ℕ). 0)
     (λ x l. none-left (getD (multipliers ones ones) (x % width) 0) (getD xs (x / width) 0) (getD (inColumns xs) (x / width * width + x % width) 0) (one-of keyCount (x % width) (omega arith)) (columns-at xs x l))
     ∙ zeros-are 0 (length xs * width)
+
+-- so many of a list, or all
+pub take-min : (m n : ℕ) (l : List ℕ) → n ≡ min m (length l) → take n l ≡ take m l
+take-min m n l e = go (decLt m (length l))
+  where
+    go : Dec (m < length l) → take n l ≡ take m l
+    go (yes h) = let f : n ≡ m = omega arith in rw f
+    go (no h) = take-all n l (omega arith) ∙ sym (take-all m l (omega arith))
+
+-- no number is too large in the empty list
+pub none-below : (i : ℕ) → getD {A = ℕ} [] i 0 < tooLarge
+none-below zero = lit< tt
+none-below (suc i) = lit< tt
+
+-- nor in the front of a list that has none
+pub front-below : (n : ℕ) (l : List ℕ) → ((i : ℕ) → getD l i 0 < tooLarge) → (i : ℕ) → getD (take n l) i 0 < tooLarge
+front-below zero l h i = none-below i
+front-below (suc n) [] h i = none-below i
+front-below (suc n) (x ∷ l) h zero = h zero
+front-below (suc n) (x ∷ l) h (suc i) = front-below n l (λ j. h (suc j)) i

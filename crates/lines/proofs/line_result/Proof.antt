@@ -5,12 +5,15 @@ use Rattle.lines.proofs.line_result.Reads as reads
 use Rattle.lines.proofs.line_result.Lts as lts
 use Rattle.lines.proofs.request_no.Reads as request-no-reads
 use Rattle.lines.proofs.run_request.Reads as run-request-reads
+use Rattle.lines.specs.Plain.{resultFor}
+use borrow.Author.Tests.{ne-eqb}
 
 request-no-requires : tie.Need-request-no-requires
 request-no-requires c κs = search needs
 
 returns : tie.Need-returns
-returns c = ?
+unfolding resultFor
+returns c = rw (← c .before .request-no .ensures, ne-eqb (c .before .request-no .result) 0 (c .if1 .taken))
 
 run-request-requires : tie.Need-run-request-requires
 run-request-requires c κs = search needs

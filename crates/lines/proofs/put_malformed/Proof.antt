@@ -4,6 +4,10 @@ use Rattle.lines.proofs.put_malformed.Tie as tie
 use Rattle.lines.proofs.put_malformed.Reads as reads
 use Rattle.lines.proofs.put_malformed.Lts as lts
 use Rattle.syntax.proofs.put_answer.Reads as put-answer-reads
+use native.Mathlib.Omega.{arith}
+use lib.Dec.{lit<}
+use Rattle.syntax.proofs.Answers.{length-answer}
+use Rattle.lines.proofs.Handed.{none-below}
 
 array-share-prefix-none : tie.Need-array-share-prefix-none
 array-share-prefix-none c = search needs
@@ -18,7 +22,7 @@ same-length : tie.Need-same-length
 same-length c = search needs
 
 returns : tie.Need-returns
-returns c = ?
+returns c = (c .before .before .put-answer .ensures, length-answer (c .before .before .before .before .before .before .args .number) 12 _ (omega arith) (lit< tt) none-below)
 
 pub put-malformed-spec : {M : Type 1} → statement M
 put-malformed-spec =

@@ -6,12 +6,26 @@ use Rattle.lines.proofs.run_request.Lts as lts
 use Rattle.lines.proofs.run_in.Reads as run-in-reads
 use Rattle.lines.proofs.settings_of.Reads as settings-of-reads
 use Rattle.settings.proofs.draw_length.Reads as draw-length-reads
+use Prim.Native.Nat.{ℕ, _+_, _*_, _≤_}
+use mathlib.Core.Path.{_≡_, refl, sym, ap, _∙_}
+use native.Mathlib.Omega.{arith}
+use lib.ListN.{replicate}
+use Rattle.lines.proofs.Handed.{front-zeros, zeros-long}
+use Rattle.lines.proofs.Ends.{request-ready}
+use Rattle.lines.specs.Run.{width, zerosFor}
+use Rattle.lines.specs.Plain.{settingsOf}
+use Rattle.settings.specs.declared.Settings.{Settings}
+use Rattle.settings.specs.Settings.{paramsIn}
+use Rattle.settings.specs.Sizes.{drawLength}
 
 settings-of-requires : tie.Need-settings-of-requires
 settings-of-requires c κs = search needs
 
 draw-length-requires : tie.Need-draw-length-requires
-draw-length-requires c κs = ?
+draw-length-requires c κs =
+    let a = c .before .args in
+    let ready = request-ready (a .serial) (a .request) (c .before .pre) in
+    rw (c .settings-of .ensures) (ready .sets, ready .most)
 
 cast-size : tie.Need-cast-size
 cast-size c = search needs
@@ -26,13 +40,24 @@ add-size : tie.Need-add-size
 add-size c = search needs
 
 array-borrow-prefix-numbers : tie.Need-array-borrow-prefix-numbers
-array-borrow-prefix-numbers c = ?
+array-borrow-prefix-numbers c =
+    let a = c .before .before .before .args in
+    let ready = request-ready (a .serial) (a .request) (c .before .before .before .pre) in
+    omega (arith, ready .most, c .before .draw-length .ensures .1)
 
 slice-aggregate-run-in : tie.Need-slice-aggregate-run-in
-slice-aggregate-run-in c = ?
+slice-aggregate-run-in c =
+    let a = c .before .before .before .before .args in
+    let ready = request-ready (a .serial) (a .request) (c .before .before .before .before .pre) in
+    zeros-long _ (2 * 8 * width + 1320 * width + 144) (omega (arith, ready .most, c .before .before .draw-length .ensures .1))
 
 run-in-requires : tie.Need-run-in-requires
-run-in-requires c κs = ?
+run-in-requires c κs =
+    let a = c .before .before .before .before .args in
+    let ready = request-ready (a .serial) (a .request) (c .before .before .before .before .pre) in
+    let drawn : c .before .before .draw-length .result ≡ drawLength (paramsIn (settingsOf (a .request))) width = c .before .before .draw-length .ensures .0 ∙ ap (λ (z : Settings). drawLength (paramsIn z) width) (c .before .before .before .settings-of .ensures) in
+    let size : 2 * (a .request .count * width) + c .before .before .draw-length .result ≡ a .request .count * width + zerosFor (a .request) = omega (arith, drawn) in
+    (c .before .before .before .before .pre, front-zeros (2 * (a .request .count * width) + c .before .before .draw-length .result) (2 * 8 * width + 1320 * width + 144) (omega (arith, ready .most, c .before .before .draw-length .ensures .1)) ∙ ap (λ (n : ℕ). replicate n 0) size)
 
 returns : tie.Need-returns
 returns c = search needs

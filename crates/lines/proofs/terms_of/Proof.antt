@@ -9,7 +9,7 @@ settings-of-requires : tie.Need-settings-of-requires
 settings-of-requires c κs = search needs
 
 returns : tie.Need-returns
-returns c = ?
+returns c = rw (c .settings-of .ensures)
 
 pub terms-of-spec : {M : Type 1} → statement M
 terms-of-spec = tie.close (tie.spec settings-of-requires returns)
