@@ -7,10 +7,10 @@ use Rattle.line_program.proofs.read_parts.Statement.{statement}
 use Rattle.line_program.proofs.read_parts.Tie as tie
 
 abbrev Inv-loop : tie.InvT-loop
-Inv-loop fd kept₀ part₀ out₀ turn₀ turns₀ kept part out turn turns = (length kept ≡ length kept₀) × (length part ≡ length part₀) × (length out ≡ length out₀)
+Inv-loop fd kept₀ part₀ out₀ state₀ left₀ kept part out state left = (length kept ≡ length kept₀) × (length part ≡ length part₀) × (length out ≡ length out₀)
 
 abbrev μ-loop : tie.MeasureT-loop
-μ-loop fd kept₀ part₀ out₀ turn₀ turns₀ kept part out turn turns = turns
+μ-loop fd kept₀ part₀ out₀ state₀ left₀ kept part out state left = left
 
 loop-holds : tie.Need-loop-holds Inv-loop μ-loop
 loop-holds c = (search needs, search needs, search needs)
