@@ -20,7 +20,7 @@ use Rattle.settings.specs.Sizes.{shared}
 use Rattle.rounding.specs.Digits.{digit}
 use Rattle.book.specs.Book.{Entry, groupGap, entryOf, maskAt, groupAt, isDrawn, drawn, phoneNumber, bookValue, entryValue}
 use Rattle.book.specs.Book.Entry.{mask, place, left, right, product, groupMask, groupPlace}
-use Rattle.book.specs.Deal.{inOrder, serverNumber, phoneBook, serverBook}
+use Rattle.book.specs.Books.{inOrder, serverNumber, phoneBook, serverBook}
 use Rattle.book.specs.Theorems.{Holds, Books, Values}
 use Rattle.book.proofs.Places.{places}
 

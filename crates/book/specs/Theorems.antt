@@ -1,4 +1,4 @@
--- What is proved of books, draws and the deal, as types: for every scale, kind, count and number of keys.
+-- What is proved of books and draws, as types: for every scale, kind, count and number of keys.
 use Prim.Native.Nat.{ℕ, suc, _+_, _*_, _/_, _%_, _<_, _≤_}
 use mathlib.Core.Path.{_≡_}
 use mathlib.Core.Bool.{true, cond}
@@ -7,17 +7,14 @@ use lib.Dec.{eqb}
 use lib.ListN.{length, getD}
 use Rattle.lists.specs.Answers.{bit}
 use Rattle.lists.specs.Lists.{allBelow}
-use Rattle.field.specs.Field.{q}
 use Rattle.field.specs.Forms.{Adds}
-use Rattle.settings.specs.declared.Shape.{Shape}
 use Rattle.settings.specs.Sets.{base}
-use Rattle.settings.specs.Settings.{Params, paramsOf}
-use Rattle.settings.specs.Questions.{keysOk, ShapeReady}
-use Rattle.settings.specs.Sizes.{widthOf, shared, groups, drawnNumbers, drawLength}
+use Rattle.settings.specs.Settings.{Params}
+use Rattle.settings.specs.Sizes.{shared, groups, drawnNumbers, drawLength}
 use Rattle.rounding.specs.Digits.{digit}
 use Rattle.book.specs.Book.{Entry, groupK, groupGap, plan, entryOf, maskAt, vectorAt, tripleAt, groupAt, isDrawn, drawnIn, drawAt, drawn, phoneNumber, bookValue}
 use Rattle.book.specs.Book.Entry.{mask, place, left, right, product, groupMask, groupPlace}
-use Rattle.book.specs.Deal.{serverNumber, phoneBook, serverBook, dealNo}
+use Rattle.book.specs.Books.{serverNumber, phoneBook, serverBook}
 
 -- ---- What stands where
 
@@ -92,18 +89,6 @@ module _ (p : Params) (width : ℕ) (draw : List ℕ) where
     pub of-group : (g : ℕ) → g < groups p → v (groupAt p g) ≡ drawn p width draw (groupAt p g)
     pub of-groupPlace : (g j : ℕ) → g < groups p → j < groupK p + 2 → v (groupAt p g + 1 + j) ≡ bit (eqb j (v (groupAt p g) / groupGap p))
 
--- ---- The door
-
--- what is known where no question of a deal is answered no
-pub record Passed (k : ℕ) (a : Shape) (keys0 keys1 draw server phone : List ℕ) : Type 0 where
-  pub ready : ShapeReady a
-  pub keys0-ok : keysOk keys0 ≡ true
-  pub keys1-ok : keysOk keys1 ≡ true
-  pub draw-size : length draw ≡ drawLength (paramsOf a) (widthOf k)
-  pub server-size : length server ≡ shared (paramsOf a) * widthOf k
-  pub phone-size : length phone ≡ shared (paramsOf a) * widthOf k
-  pub below : allBelow q draw ≡ true
-
 -- all of it
 pub record Laws : Type 0 where
   pub places : (p : Params) → Places p
@@ -111,4 +96,3 @@ pub record Laws : Type 0 where
   pub cursor : (p : Params) (width : ℕ) → Cursor p width
   pub books : (p : Params) (width : ℕ) (factors draw : List ℕ) → Books p width factors draw
   pub values : (p : Params) (width : ℕ) (draw : List ℕ) → Values p width draw
-  pub door : (k : ℕ) (a : Shape) (keys0 keys1 draw server phone : List ℕ) → dealNo k a keys0 keys1 draw server phone ≡ 0 → Passed k a keys0 keys1 draw server phone

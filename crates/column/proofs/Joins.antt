@@ -13,7 +13,7 @@ use Rattle.field.proofs.Congruence.{≈-eq}
 use Rattle.field.proofs.Forms.{join-value, join-put}
 use Rattle.settings.specs.Settings.{Terms}
 use Rattle.settings.specs.Sizes.{openings, places}
-use Rattle.book.specs.Deal.{multipliers}
+use Rattle.book.specs.Books.{multipliers}
 use Rattle.slice.specs.Layout.{column, maskedIn, weights}
 use Rattle.steps.specs.Steps.{Public, publicOf, opening, running}
 use Rattle.steps.specs.Work.{openingOn, takenColumn, takenColumns, takenWork}

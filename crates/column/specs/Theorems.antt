@@ -13,7 +13,7 @@ use Rattle.rounding.specs.Plain.{highPart, verdict}
 use Rattle.rounding.specs.Rounds.{gap}
 use Rattle.settings.specs.Theorems.{Lawful}
 use Rattle.settings.specs.Sizes.{openings, shared, widthOf, drawLength, places}
-use Rattle.book.specs.Deal.{multipliers}
+use Rattle.book.specs.Books.{multipliers}
 use Rattle.slice.specs.Layout.{inputAt, runningAt, column, ownIn, maskedIn, weights}
 use Rattle.steps.specs.Steps.{Public, publicOf}
 use Rattle.steps.specs.Work.{openingOn, runningOn, takenWork}

@@ -11,7 +11,7 @@ use Rattle.lists.specs.Lists.{fill, listTo}
 use Rattle.lists.proofs.Fill.{fill-none, fill-more, fill-join, fill-same, length-fill, whole-is}
 use Rattle.field.specs.Field.{q, sub, mul}
 use Rattle.book.specs.Book.{drawn, phoneNumber}
-use Rattle.book.specs.Deal.{serverNumber}
+use Rattle.book.specs.Books.{serverNumber}
 use Rattle.dealer.specs.Work.{width, dealtInto, paramsFor, cursorFor, serverFor, phoneFor, DealSlices, Next, Draws, Vector, Wrote}
 use Rattle.dealer.specs.declared.DealContext.{DealContext}
 use Rattle.book.proofs.Draws.{drawAt-none, drawAt-more, drawAt-inside}

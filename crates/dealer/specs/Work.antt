@@ -11,7 +11,7 @@ use Rattle.settings.specs.Settings.{Params, paramsOf}
 use Rattle.settings.specs.Questions.{ShapeReady}
 use Rattle.settings.specs.Sizes.{keyCount, widthOf, shared, drawLength}
 use Rattle.book.specs.Book.{Entry, entryOf, isDrawn, drawAt, bookValue, phoneNumber}
-use Rattle.book.specs.Deal.{serverNumber}
+use Rattle.book.specs.Books.{serverNumber}
 use Rattle.dealer.specs.declared.DealContext.{DealContext}
 
 -- how many numbers a place has

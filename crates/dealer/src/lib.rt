@@ -12,7 +12,7 @@ ghost use Rattle.settings.specs.Sizes.{keyCount, widthOf, shared, stride, drawL
 ghost use Rattle.settings.specs.Questions.{keysOk};
 ghost use Rattle.rounding.specs.Digits.{splitOf};
 ghost use Rattle.book.specs.Book.{groupK, maskAt, vectorAt, tripleAt, groupAt, drawn};
-ghost use Rattle.book.specs.Deal.{dealNo, dealCall};
+ghost use Rattle.dealer.specs.Deal.{dealNo, dealCall};
 ghost use Rattle.dealer.specs.Work.{DealSlices, Next, Draws, Vector, Wrote, paramsFor, cursorFor, sharedFor};
 use book::group_at;
 use book::group_gap;

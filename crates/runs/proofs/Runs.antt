@@ -11,7 +11,7 @@ use Rattle.field.specs.Field.{q}
 use Rattle.field.specs.Forms.{Adds}
 use Rattle.settings.specs.Sizes.{widthOf, openings, shared}
 use Rattle.message.specs.Theorems.{RoundTrip}
-use Rattle.book.specs.Deal.{multipliers}
+use Rattle.book.specs.Books.{multipliers}
 use Rattle.book.specs.Theorems.{Laws}
 use Rattle.slice.specs.Layout.{column, maskedIn}
 use Rattle.steps.specs.Steps.{publicOf}

@@ -13,7 +13,7 @@ use Rattle.lists.proofs.Every.{below-at, every-listTo}
 use Rattle.field.specs.Field.{q}
 use Rattle.field.specs.Forms.{Adds}
 use Rattle.settings.specs.Sizes.{widthOf, openings, shared, places}
-use Rattle.book.specs.Deal.{multipliers}
+use Rattle.book.specs.Books.{multipliers}
 use Rattle.book.specs.Theorems.{Laws}
 use Rattle.slice.specs.Layout.{column, ownIn, maskedIn, weights}
 use Rattle.steps.specs.Steps.{publicOf}

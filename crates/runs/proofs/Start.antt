@@ -20,7 +20,7 @@ use Rattle.field.proofs.Solve.{at, _⊕_, _⊖_, _⊗_, red, solve}
 use Rattle.settings.specs.Sizes.{shared, places}
 use Rattle.settings.specs.Settings.{Params, Terms}
 use Rattle.book.specs.Book.{bookValue}
-use Rattle.book.specs.Deal.{multipliers, serverBook, phoneBook}
+use Rattle.book.specs.Books.{multipliers, serverBook, phoneBook}
 use Rattle.book.specs.Theorems.{Books}
 use Rattle.slice.specs.Layout.{column, maskedIn, begunPlace, begunWork}
 use Rattle.column.specs.Run.{plainBook, plainStart}

@@ -14,7 +14,7 @@ use Rattle.settings.specs.Sizes.{widthOf, openingsUpTo, messageLength, drawLeng
 use Rattle.settings.specs.Questions.{keysOk, settingsOk}
 use Rattle.rounding.specs.Plain.{decompose}
 use Rattle.settings.specs.Schedule.{rounds}
-use Rattle.book.specs.Deal.{multipliers}
+use Rattle.book.specs.Books.{multipliers}
 use Rattle.state.specs.State.{underWay, finished, heldAnswer, countCall}
 use Rattle.settings.specs.declared.Settings.{Settings}
 use Rattle.settings.specs.Settings.{paramsIn}

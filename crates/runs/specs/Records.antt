@@ -10,7 +10,7 @@ use Rattle.settings.specs.Sizes.{widthOf}
 use Rattle.settings.specs.Settings.{paramsIn}
 use Rattle.settings.specs.declared.Settings.{Settings}
 use Rattle.rounding.specs.Plain.{highPart, verdict}
-use Rattle.book.specs.Deal.{multipliers, inOrder, serverBook, phoneBook}
+use Rattle.book.specs.Books.{multipliers, inOrder, serverBook, phoneBook}
 use Rattle.state.specs.declared.Side.{Side}
 use Rattle.state.specs.State.{answerCall, countCall}
 use Rattle.side.specs.declared.Run.{Run}

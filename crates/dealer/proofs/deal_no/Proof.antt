@@ -3,7 +3,7 @@ use borrow.Author.Needs.{needs}
 use mathlib.Core.Path.{sym, _∙_}
 use Rattle.lists.proofs.Questions.{walk}
 use Rattle.settings.proofs.Ready.{shape-ready, shape-stop, shape-skip}
-use Rattle.book.specs.Deal.{dealNo}
+use Rattle.dealer.specs.Deal.{dealNo}
 use Rattle.dealer.proofs.deal_no.Statement.{statement}
 use Rattle.dealer.proofs.deal_no.Tie as tie
 
