@@ -2,9 +2,8 @@
 use mathlib.Core.Path.{_≡_, refl, sym, ap, ap₂, _∙_, subst}
 use mathlib.Core.List.{List, [], _∷_, _++_}
 use mathlib.Core.Bool.{Bool, true, false, cond}
-use mathlib.Core.Logic.{_⊎_, inl, inr}
-use Prim.Native.Nat.{ℕ, zero, suc, _+_, _*_, _≤_, _<_}
-use native.Mathlib.Nat.{mul-le-mul-right, eq-or-lt-of-le, zero-add, add-zero}
+use Prim.Native.Nat.{ℕ, zero, suc, _+_, _*_, _<_}
+use native.Mathlib.Nat.{mul-le-mul-right, zero-add, add-zero}
 use native.Mathlib.Omega.{arith}
 use lib.Dec.{eqb}
 use lib.ListN.{length, getD, length-append, List·getD-append}
@@ -12,6 +11,7 @@ use lib.Seq.{getD-append-add}
 use Rattle.lists.specs.Lists.{listFrom, listTo, joinFrom, joinTo}
 use Rattle.lists.proofs.Lists.{length-listFrom, getD-listFrom, getD-listTo, ahead, ahead-more, join-at, ahead-fixed}
 use Rattle.field.specs.Sums.{sumTo}
+use Rattle.field.proofs.Sums.{sum-within}
 use Rattle.settings.specs.Sets.{Scale, base}
 use Rattle.settings.specs.Settings.{Params}
 use Rattle.settings.specs.Sizes.{stride, shared, groups}
@@ -63,15 +63,6 @@ module _ (P : ℕ → Entry → Type 0) where
   stands-joinTo k n f h = stands-join k 0 n f (λ x b. let z : 0 + x ≡ x = zero-add x in rw z (h x b))
 
 -- ---- lengths
-
-pub sum-within : (f : ℕ → ℕ) (m i : ℕ) → i < m → sumTo i f + f i ≤ sumTo m f
-unfolding sumTo
-sum-within f zero i h = absurd (omega arith)
-sum-within f (suc m) i h = go (eq-or-lt-of-le h) (λ l. sum-within f m i l)
-  where
-    go : (suc i ≡ suc m) ⊎ (suc i < suc m) → (i < m → sumTo i f + f i ≤ sumTo m f) → sumTo i f + f i ≤ sumTo m f + f m
-    go (inl e) ih = let z : i ≡ m = omega arith in rw z (omega arith)
-    go (inr l) ih = omega (arith, ih (omega arith))
 
 module _ (p : Scale) where
   pub ahead-vectors : (c k : ℕ) → ahead 0 k (λ (i : ℕ). listTo (base p i) (place c i)) ≡ sumTo k (base p)

@@ -1,4 +1,5 @@
-// Books of shared numbers: where each number stands.
+// Books of shared numbers: where each number stands, and the K and gap of their zero checks; what a draw holds, and both sides' books
+// from it.
 ghost use mathlib.Core.Path.{_≡_};
 ghost use Prim.Native.Nat.{_+_, _*_, _/_, _≤_, _<_};
 ghost use Rattle.field.specs.Sums.{sumTo};
@@ -9,47 +10,28 @@ use field::Q;
 use settings::Shape;
 use settings::stride_of;
 
-// ---- Places, counted in shared numbers, for crates dealer, stock, steps and side and those above, which ask questions 1 and 2 first.
+// ---- Places, counted in shared numbers. Who calls has asked questions 1 and 2.
 
-// Set 0, behind the mask of a coefficient: where digit i's vector begins, or for 5 the triples. (The compiler makes one table of a
-// match; it would write out a constant array at each call.)
-fn start_of_first(i: usize) -> usize
-    requires { ⌜ i < 6 ⌝ }
-    ensures { λ r. ⌜ (r ≡ 1 + sumTo i (base (scaleOf 0))) × (r ≤ 133) ⌝ }
+// Behind the mask of a coefficient: where digit i's vector begins, or for 5 the triples. (The compiler makes one table of a match; it
+// would write out a constant array at each call.)
+fn start_of(set: u32, i: usize) -> usize
+    requires { ⌜ (set < 2) × (i < 6) ⌝ }
+    ensures { λ r. ⌜ (r ≡ 1 + sumTo i (base (scaleOf set))) × (r ≤ 133) ⌝ }
 {
-    match i {
+    match 6 * set as usize + i {
         0 => 1,
         1 => 17,
         2 => 33,
         3 => 57,
         4 => 88,
-        _ => 133,
-    }
-}
-
-// The same for set 1.
-fn start_of_second(i: usize) -> usize
-    requires { ⌜ i < 6 ⌝ }
-    ensures { λ r. ⌜ (r ≡ 1 + sumTo i (base (scaleOf 1))) × (r ≤ 133) ⌝ }
-{
-    match i {
-        0 => 1,
-        1 => 17,
-        2 => 49,
-        3 => 80,
-        4 => 113,
+        5 => 133,
+        6 => 1,
+        7 => 17,
+        8 => 49,
+        9 => 80,
+        10 => 113,
         _ => 130,
     }
-}
-
-fn start_of(set: u32, i: usize) -> usize
-    requires { ⌜ (set < 2) × (i < 6) ⌝ }
-    ensures { λ r. ⌜ (r ≡ 1 + sumTo i (base (scaleOf set))) × (r ≤ 133) ⌝ }
-{
-    if set == 0 {
-        return start_of_first(i);
-    }
-    start_of_second(i)
 }
 
 // Mask r of coefficient c, or for c = n the end of the coefficients.

@@ -12,7 +12,7 @@ use lib.ListN.{length, getD}
 use Rattle.lists.specs.Answers.{bit}
 use Rattle.lists.specs.Lists.{listFrom, listTo}
 use Rattle.lists.proofs.Indicators.{bit-le}
-use Rattle.lists.proofs.Lists.{listTo-cong, listTo-getD}
+use Rattle.lists.proofs.Lists.{listTo-cong, listTo-getD, map-is}
 use Rattle.field.specs.Field.{sub}
 use Rattle.field.specs.Sums.{sumTo}
 use Rattle.field.specs.Forms.{Registers, value}
@@ -39,14 +39,6 @@ use Rattle.column.proofs.Rounds.{not-first, less-one}
 -- the two kinds, by the test that the definitions ask
 kind-one : (kind : ℕ) → kind ≡ 1 → eqb kind 0 ≡ false
 kind-one kind e = rw e
-
-map-listFrom : (f g : ℕ → ℕ) (i n : ℕ) → map f (listFrom i n g) ≡ listFrom i n (λ (k : ℕ). f (g k))
-unfolding listFrom
-map-listFrom f g i zero = refl
-map-listFrom f g i (suc n) = ap (λ (l : List ℕ). f (g i) ∷ l) (map-listFrom f g (suc i) n)
-
-map-is : (f : ℕ → ℕ) (xs : List ℕ) → listTo (length xs) (λ (k : ℕ). f (getD xs k 0)) ≡ map f xs
-map-is f xs = sym (map-listFrom f (λ (k : ℕ). getD xs k 0) 0 (length xs)) ∙ ap (map f) (listTo-getD xs)
 
 module _ {T : Terms} {k : ℕ} {draw secret : List ℕ} (s : Sound T k draw secret) where
   abbrev r : ℕ → ℕ

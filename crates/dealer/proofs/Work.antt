@@ -12,10 +12,11 @@ use Rattle.lists.proofs.Fill.{fill-none, fill-more, fill-join, fill-same, lengt
 use Rattle.field.specs.Field.{q, sub, mul}
 use Rattle.book.specs.Book.{drawn, phoneNumber}
 use Rattle.book.specs.Books.{serverNumber}
-use Rattle.dealer.specs.Work.{width, dealtInto, paramsFor, cursorFor, serverFor, phoneFor, DealSlices, Next, Draws, Vector, Wrote}
+use Rattle.dealer.specs.Work.{dealtInto, paramsFor, cursorFor, serverFor, phoneFor, DealSlices, Next, Draws, Vector, Wrote}
 use Rattle.dealer.specs.declared.DealContext.{DealContext}
 use Rattle.book.proofs.Draws.{drawAt-none, drawAt-more, drawAt-inside}
 use Rattle.book.proofs.Books.{value-drawn}
+use Rattle.settings.specs.Sizes.{width}
 
 -- ---- lists
 

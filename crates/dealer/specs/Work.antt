@@ -9,14 +9,10 @@ use Rattle.lists.specs.Answers.{bit}
 use Rattle.lists.specs.Lists.{fill}
 use Rattle.settings.specs.Settings.{Params, paramsOf}
 use Rattle.settings.specs.Questions.{ShapeReady}
-use Rattle.settings.specs.Sizes.{keyCount, widthOf, shared, drawLength}
+use Rattle.settings.specs.Sizes.{width, shared, drawLength}
 use Rattle.book.specs.Book.{Entry, entryOf, isDrawn, drawAt, bookValue, phoneNumber}
 use Rattle.book.specs.Books.{serverNumber}
 use Rattle.dealer.specs.declared.DealContext.{DealContext}
-
--- how many numbers a place has
-abbrev pub width : ℕ
-width = widthOf keyCount
 
 -- s with the numbers of `count` places from place k on, x ↦ f x being the numbers of the whole book
 unfoldable pub dealtInto : List ℕ → (ℕ → ℕ) → ℕ → ℕ → List ℕ

@@ -1,16 +1,20 @@
 -- A linear form with public coefficients over the registers of a column, its value on a column of weight κ,
 -- and what the values on two columns join to. Each step of the value is reduced, as the code reduces it.
-use mathlib.Core.Path.{_≡_, refl, ap, sym, _∙_}
+use mathlib.Core.Path.{_≡_, refl, ap, _∙_}
 use mathlib.Core.Bool.{Bool, true, false, cond}
-use Prim.Native.Nat.{ℕ, zero, suc, _+_, _*_, _-_, _%_, _≤_, _<_}
+use Prim.Native.Nat.{ℕ, zero, suc, _+_, _*_, _-_, _%_, _<_}
 use native.Mathlib.Omega.{arith}
-use lib.Dec.{ltb}
+use native.Mathlib.Nat.{mod-lt, mod-eq-of-lt, add-comm}
+use lib.Dec.{ltb, eqb}
 use Rattle.field.specs.Congruence.{_⊩_≈_}
 use Rattle.field.specs.Sums.{sumTo}
 use Rattle.field.specs.Forms.{Registers, Form, num, reg, sum, _⊞_, _⊟_, _⊠_, value, Adds, Join, updated}
-use Rattle.field.proofs.Congruence.{≈-refl, ≈-eq, ≈-sym, ≈-trans, ≈-add, ≈-mul, ≈-mod, ≈-unmod, ≈-set}
+use Rattle.field.proofs.Congruence.{≈-refl, ≈-eq, ≈-sym, ≈-trans, ≈-add, ≈-mul, ≈-mod, ≈-unmod, ≈-set, ≈-lt, ≈-cancel}
 use Rattle.field.proofs.Solve.{at, _⊕_, _⊖_, _⊗_, red, solve-by}
-use Rattle.field.proofs.Sums.{sum-cong}
+use Rattle.field.proofs.Sums.{sum-cong, select}
+use borrow.Author.Tests.{lt-ltb, le-ltb}
+use Rattle.lists.specs.Answers.{bit}
+use Rattle.lists.proofs.Indicators.{eq-one, eq-zero}
 
 sum-join : (q m : ℕ) (r₁ r₂ v w : ℕ → ℕ) (n : ℕ) → ((j : ℕ) → Adds q m (r₁ j) (r₂ j) (v j)) → q ⊩ sumTo n (λ j. w j * r₁ j) + sumTo n (λ j. w j * r₂ j) ≈ m * sumTo n (λ j. w j * v j)
 unfolding sumTo
@@ -90,3 +94,40 @@ pub join-put : {q m κ₁ κ₂ : ℕ} {r₁ r₂ v : Registers} (a n : ℕ) (f�
     Join q m κ₁ κ₂ (updated r₁ a n f₁) (updated r₂ a n f₂) (updated v a n f)
 join-put a n f₁ f₂ f j h =
     record { weight = j .weight; numbers = λ i. cond-join (ltb i a) (j .numbers i) (cond-join (ltb i (a + n)) (h (i - a)) (j .numbers i)) }
+
+-- ---- values, registers and shares
+
+-- a value is reduced, or a register
+pub value-below : (m κ : ℕ) (r : Registers) → 0 < m → ((i : ℕ) → r i < m) → (f : Form) → value m κ r f < m
+value-below m κ r pos h (num k) = mod-lt _ pos
+value-below m κ r pos h (reg i) = h i
+value-below m κ r pos h (sum n place weight) = mod-lt _ pos
+value-below m κ r pos h (f ⊞ g) = mod-lt _ pos
+value-below m κ r pos h (f ⊟ g) = mod-lt _ pos
+value-below m κ r pos h (k ⊠ f) = mod-lt _ pos
+
+-- a sum against a vector that is 1 at d and 0 elsewhere
+pub unit-sum : (q : ℕ) (v : Registers) (n place d : ℕ) (f : ℕ → ℕ) → d < n → ((j : ℕ) → j < n → v (place + j) ≡ bit (eqb j d)) → f d < q → value q 1 v (sum n place f) ≡ f d
+unit-sum q v n place d f l h b =
+    ap (λ (x : ℕ). x % q) (select n d f (λ j. v (place + j)) l (h d l ∙ eq-one {a = d} {b = d} refl) (λ j m ne. h j m ∙ eq-zero ne))
+    ∙ mod-eq-of-lt b
+
+-- registers outside a run stay
+pub updated-before : (r : Registers) (a n : ℕ) (f : ℕ → ℕ) (i : ℕ) → i < a → updated r a n f i ≡ r i
+updated-before r a n f i h = rw (lt-ltb i a h)
+
+pub updated-at : (r : Registers) (a n : ℕ) (f : ℕ → ℕ) (k : ℕ) → k < n → updated r a n f (a + k) ≡ f k
+updated-at r a n f k h =
+    let m : a + k - a ≡ k = omega arith in
+    rw (le-ltb (a + k) a (omega arith), lt-ltb (a + k) (a + n) (omega arith), m)
+
+-- the two shares in the other order
+pub adds-swap : {q m a b c : ℕ} → Adds q m a b c → Adds q m b a c
+adds-swap {a = a} {b = b} h = record { total = rw (add-comm b a) (h .total) }
+
+-- what is missing to the same total is the same
+pub missing-same : (m f a b b′ v : ℕ) → Adds m f a b v → Adds m f a b′ v → b < m → b′ < m → b ≡ b′
+missing-same m f a b b′ v h h′ l l′ =
+    ≈-lt
+    (≈-cancel a (≈-trans (≈-eq (add-comm b a)) (≈-trans (h .total) (≈-trans (≈-sym (h′ .total)) (≈-eq (add-comm a b′))))))
+    l l′

@@ -6,18 +6,9 @@ use lib.Dec.{eqb}
 use lib.ListN.{getD}
 use Rattle.lists.specs.Lists.{fill, allTo}
 use Rattle.field.specs.Field.{q, add, mul}
-use Rattle.settings.specs.Sizes.{keyCount, mostOpenings, places}
-use Rattle.slice.specs.Layout.{inputAt}
+use Rattle.settings.specs.Sizes.{keyCount, mostOpenings}
 use Rattle.state.specs.declared.Side.{Side}
 use Rattle.opening.specs.Opening.{partColumn, outgoing, incoming}
-
--- a slice with book and inputs loaded into its first columns
-unfoldable pub loaded : ℕ → ℕ → ℕ → List ℕ → List ℕ → List ℕ → ℕ → List ℕ
-loaded count n width inputs book work zero = work
-loaded count n width inputs book work (suc c) =
-    fill
-    (fill (loaded count n width inputs book work c) (c * places) count (λ (i : ℕ). getD book (i * width + c) 0))
-    (c * places + inputAt 0) n (λ (i : ℕ). getD inputs (i * width + c) 0)
 
 -- a list with `count` numbers of f in each of its first columns, column c from place 32 × c on
 unfoldable pub columnsTo : ℕ → (ℕ → ℕ → ℕ) → List ℕ → ℕ → List ℕ

@@ -1,13 +1,13 @@
 -- The slices of an honest run: after every number of rounds the two sides' add up to the plain one, and all numbers are below q.
 use Prim.Native.Nat.{ℕ, zero, suc, _+_, _*_, _≤_, _<_}
-use mathlib.Core.Path.{_≡_, refl, sym, ap, _∙_}
+use mathlib.Core.Path.{_≡_, sym, ap, _∙_}
 use mathlib.Core.List.{List, [], _∷_, _++_}
 use mathlib.Core.Bool.{Bool, true, false, cond}
 use native.Mathlib.Omega.{arith}
 use lib.Dec.{eqb, leb, ltb}
 use lib.ListN.{length, getD, replicate, length-append, length-replicate}
 use borrow.Author.Tests.{ltb-true, leb-true, lt-ltb}
-use Rattle.lists.specs.Lists.{every, allBelow}
+use Rattle.lists.specs.Lists.{allBelow}
 use Rattle.lists.proofs.Questions.{both-yes}
 use Rattle.lists.proofs.Every.{below-at, every-listTo}
 use Rattle.field.specs.Field.{q}
@@ -58,12 +58,6 @@ length-weights k number keys e = by (eqb number 0)
     by true = omega (arith, length-append keys (replicate k 0), length-replicate {A = ℕ} k 0)
     by false = omega (arith, length-append (replicate k 0) keys, length-replicate {A = ℕ} k 0)
 
--- numbers below m at all places
-pub all-below : (m : ℕ) (xs : List ℕ) → ((i : ℕ) → getD xs i 0 < m) → allBelow m xs ≡ true
-unfolding allBelow every
-all-below m [] h = refl
-all-below m (x ∷ xs) h = rw (lt-ltb x m (h 0)) (all-below m xs (λ i. h (suc i)))
-
 -- a side's numbers for openings are below q: it could keep them
 pub opening-below : (t : SlicesJoin) (s : Settings) (round : ℕ) (κs work : List ℕ) → s .shape .n ≤ 8 → 1 ≤ s .shape .n
     → length work ≡ length κs * places → ((i : ℕ) → getD work i 0 < q)
@@ -71,7 +65,7 @@ pub opening-below : (t : SlicesJoin) (s : Settings) (round : ℕ) (κs work : Li
     → openingOn (publicOf (termsOf s) (maskedIn work)) round (getD κs c 0) (column work c) o < q
 unfolding ownIn
 opening-below t s round κs work most some e h c o l m =
-    rw (← t .observer (termsOf s) round (λ i. 0) κs work most some e c o l m)
+    rw (← t .own (termsOf s) round (λ i. 0) κs work most some e c o l m)
     (t .bounded (termsOf s) round (λ i. 0) κs work (omega arith) most some e h (λ i. omega arith) .1 _)
 
 -- what is known of the server's input h and the phone's o, of their books and slices, and of the plain column

@@ -12,7 +12,7 @@ use lib.ListN.{length, getD}
 use borrow.Author.Tests.{lt-ltb, le-ltb, le-leb, lt-leb}
 use Rattle.lists.specs.Lists.{allBelow, listTo, joinTo}
 use Rattle.lists.proofs.Every.{below-at, every-join, every-listTo}
-use Rattle.lists.proofs.Lists.{length-listFrom, getD-listTo, join-at}
+use Rattle.lists.proofs.Lists.{length-listFrom, getD-listTo, join-at, ahead-fixed}
 use Rattle.field.specs.Field.{q}
 use Rattle.field.specs.Forms.{Adds}
 use Rattle.field.proofs.Congruence.{≈-eq}
@@ -26,7 +26,6 @@ use Rattle.slice.specs.Layout.{column, maskedIn, begunPlace, begunWork}
 use Rattle.column.specs.Run.{plainBook, plainStart}
 use Rattle.column.specs.Theorems.{JoinedWork}
 use Rattle.runs.specs.Records.{missingShares}
-use Rattle.runs.proofs.Laws.{length-join}
 
 -- ---- Inputs: what is missing to the secret
 
@@ -70,12 +69,12 @@ module _ (p : Params) (width : ℕ) (inputs book : List ℕ) where
 
   pub length-begun : length (begunWork p width inputs book) ≡ width * places
   unfolding begunWork
-  length-begun = omega (arith, length-join 0 width places columnOf (λ c. length-listFrom 0 places (placed c)))
+  length-begun = omega (arith, ahead-fixed places width columnOf (λ c. length-listFrom 0 places (placed c)))
 
   begun-at : (c i : ℕ) → c < width → i < places → getD (begunWork p width inputs book) (c * places + i) 0 ≡ placed c i
   unfolding begunWork
   begun-at c i h l =
-      let e : length (joinTo c columnOf) + i ≡ c * places + i = omega (arith, length-join 0 c places columnOf (λ c. length-listFrom 0 places (placed c))) in
+      let e : length (joinTo c columnOf) + i ≡ c * places + i = omega (arith, ahead-fixed places c columnOf (λ c. length-listFrom 0 places (placed c))) in
       rw e at (join-at width columnOf 0 c i h (omega (arith, length-listFrom 0 places (placed c)))) ∙ getD-listTo places (placed c) i 0 l
 
   cond-below : (m : ℕ) (b : Bool) (x y : ℕ) → x < m → y < m → cond b x y < m

@@ -1,6 +1,6 @@
 // The seven rounds on one column: what it gives to each opening, and what the opened numbers make of its running registers. Every step is
-// a linear form with public coefficients, the same in every column. Crate column calls them for openings and coefficients that there are;
-// crate side has asked the questions first.
+// a linear form with public coefficients, the same in every column. Who calls has asked the questions first, and
+// asks for openings and coefficients that there are.
 ghost use mathlib.Core.Path.{_≡_};
 ghost use mathlib.Core.Logic.{_≢_};
 ghost use Prim.Native.Nat.{ℕ, _+_, _*_, _/_, _≤_, _<_};

@@ -13,7 +13,7 @@ use lib.Seq.{getD-append-add, getD-take, getD-drop}
 use Rattle.lists.specs.Lists.{every}
 use Rattle.lists.proofs.Lists.{length-listFrom, getD-listTo}
 use Rattle.lists.proofs.Every.{every-at}
-use Rattle.lists.proofs.Questions.{and-yes, and-left, and-right}
+use Rattle.lists.proofs.Questions.{and-yes, and-left, and-right, or-no}
 use Rattle.stock.specs.Stock.{booksOf, serialOf, isAbove, bothStocks, isLeast, firstOf, someOf, bestOf}
 use Rattle.stock.specs.Scan.{LeastOf, serialAt}
 use Rattle.stock.specs.declared.Found.{Found}
@@ -45,10 +45,6 @@ pub some-none : (f : List ℕ → Bool) (zs : List (List ℕ)) → ((j : ℕ) �
 unfolding someOf
 some-none f [] n = refl
 some-none f (b ∷ bs) n = rw (n 0 (omega arith)) (some-none f bs (λ j l. n (suc j) (omega arith)))
-
-or-no : (a b : Bool) → (a || b) ≡ false → (a ≡ false) × (b ≡ false)
-or-no true b e = absurd (true≢false e)
-or-no false b e = (refl, e)
 
 none-at : (f : List ℕ → Bool) (zs : List (List ℕ)) (j : ℕ) → someOf f zs ≡ false → j < length zs → f (getD zs j []) ≡ false
 unfolding someOf

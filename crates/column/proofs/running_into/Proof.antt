@@ -1,5 +1,5 @@
 -- `column::running_into` meets its contract.
-use Rattle.column.proofs.Written.{fill-count}
+use Rattle.lists.proofs.Fill.{fill-count}
 use Rattle.steps.specs.Calls.{publicIn}
 use Rattle.slice.specs.Layout.{column}
 use Rattle.steps.specs.Work.{runningOn}

@@ -25,7 +25,7 @@ take-column-requires : tie.Need-take-column-requires Inv-loop μ-loop
 take-column-requires c κs =
     let a = c .before .before .before .before .before .before .before .before .args in
     let p = c .before .before .before .before .before .before .before .before .pre in
-    (p .0, (omega arith, (p .1 .1 .0, held-kept (publicIn (a .known)) (a .known .round) (λ (o : ℕ). getD (a .opened .now) o 0) (p .0 .most) (a .weights .now) (a .work .now) (a .own .now) _ _ (c .before .before .before .loop .inv .1) (p .1 .1 .1 (c .before .before .before .loop .i) (omega arith)))))
+    (p .0, (omega arith, (p .1 .1 .0, held-kept (publicIn (a .known)) (a .known .round) (λ (o : ℕ). getD (a .opened .now) o 0) (p .0 .shape .most) (a .weights .now) (a .work .now) (a .own .now) _ _ (c .before .before .before .loop .inv .1) (p .1 .1 .1 (c .before .before .before .loop .i) (omega arith)))))
 
 loop-again : tie.Need-loop-again Inv-loop μ-loop
 unfolding takenColumns

@@ -21,8 +21,8 @@ take-columns-requires c κs =
     let p = c .before .before .before .before .before .before .before .before .pre in
     (p .0, ((p .1 .0 .0, p .1 .0 .2, p .1 .0 .4), (p .1 .1 .0, held-first (termsOf (a .settings)) (maskedIn (a .work .now)) (λ (j : ℕ). getD (c .before .masked-opened .result) j 0) (a .round) (c .before .before .before .if1 .taken) (a .weights .now) (a .work .now) (a .own .now) (p .1 .1 .1))))
 
-copy-requires : tie.Need-copy-requires
-copy-requires c κs =
+copy-numbers-requires : tie.Need-copy-numbers-requires
+copy-numbers-requires c κs =
     let a = c .before .before .before .before .before .before .before .before .before .before .before .before .before .args in
     omega (arith, open-first (paramsOf (a .settings .shape)) (a .round) (c .before .before .before .before .before .before .before .before .if1 .taken))
 
@@ -35,7 +35,7 @@ take-columns-requires-2 c κs =
 returns : tie.Need-returns
 returns c =
     let a = c .before .before .before .before .before .before .before .before .before .before .before .before .before .before .before .before .args in
-    work-first (termsOf (a .settings)) (a .round) (a .opened .now) (a .weights .now) (a .work .now) (c .before .before .before .before .before .before .before .before .before .masked-opened .result) _ _ (c .before .before .before .before .before .before .before .before .before .before .before .if1 .taken) (c .before .before .before .before .before .before .before .before .before .masked-opened .ensures) (c .before .before .before .before .before .before .before .take-columns .ensures) (c .before .before .copy .ensures)
+    work-first (termsOf (a .settings)) (a .round) (a .opened .now) (a .weights .now) (a .work .now) (c .before .before .before .before .before .before .before .before .before .masked-opened .result) _ _ (c .before .before .before .before .before .before .before .before .before .before .before .if1 .taken) (c .before .before .before .before .before .before .before .before .before .masked-opened .ensures) (c .before .before .before .before .before .before .before .take-columns .ensures) (c .before .before .copy-numbers .ensures)
 
 returns-2 : tie.Need-returns-2
 returns-2 c =
@@ -50,7 +50,7 @@ take-work-spec =
     masked-opened-requires
     take-columns-requires
     (λ c. search needs)
-    copy-requires
+    copy-numbers-requires
     (λ c κs. search needs)
     take-columns-requires-2
     (λ c. search needs)

@@ -1,6 +1,6 @@
 -- `dealer::deal_place` meets its contract. Assumes nothing.
 use Rattle.dealer.proofs.Work.{stored}
-use Rattle.dealer.specs.Work.{width, serverFor, phoneFor}
+use Rattle.dealer.specs.Work.{serverFor, phoneFor}
 use Rattle.lists.proofs.Fill.{fill-none}
 use Rattle.lists.specs.Lists.{fill}
 use Rattle.dealer.proofs.Work.{room, wrote-place, phone-column, server-column}
@@ -11,6 +11,7 @@ use borrow.Author.Needs.{needs}
 use lib.ListN.{length, length-set}
 use Rattle.dealer.proofs.deal_place.Statement.{statement}
 use Rattle.dealer.proofs.deal_place.Tie as tie
+use Rattle.settings.specs.Sizes.{width}
 
 abbrev Inv-loop : tie.InvT-loop
 Inv-loop draw server₀ phone₀ k at value o c₀ server phone c = (c ≤ width) × (at + width ≤ length draw) × (width * k + width ≤ length server₀) × (width * k + width ≤ length phone₀) × (length server ≡ length server₀) × (length phone ≡ length phone₀) × (server ≡ fill server₀ (width * k) c (λ (x : ℕ). serverFor o draw (width * k + x))) × (phone ≡ fill phone₀ (width * k) c (λ (x : ℕ). phoneFor o draw (width * k + x)))

@@ -41,7 +41,7 @@ loop-again c =
     let a = c .before .before .before .before .before .before .before .before .before .args in
     let m = c .before .before .before .before .before .before .loop .f in
     let count = openings (paramsIn (a .side .settings)) (a .side .round) in
-    let few = openings-most (paramsIn (a .side .settings)) (a .side .round) (c .before .before .before .before .before .before .before .before .before .pre .0 .ready .most) in
+    let few = openings-most (paramsIn (a .side .settings)) (a .side .round) (c .before .before .before .before .before .before .before .before .before .pre .0 .ready .shape .most) in
     let more : _ ≡ fill (c .before .before .before .before .before .before .loop .sent) (mostOpenings * m) count (outgoingIn (a .side) (a .work .now) m) =
     ap (λ (l : List ℕ). putMid (mostOpenings * m) (mostOpenings * m + mostOpenings - mostOpenings * m) (c .before .before .before .before .before .before .loop .sent) l) (c .before .before .outgoing-column .ensures)
     ∙ fill-part (c .before .before .before .before .before .before .loop .sent) (mostOpenings * m) (mostOpenings * m + mostOpenings - mostOpenings * m) (outgoing keyCount (a .side) (a .work .now) (c .before .before .before .before .field-column .result)) (omega arith) _ (omega arith)

@@ -7,10 +7,11 @@ use native.Mathlib.Omega.{arith}
 use lib.ListN.{length, take}
 use lib.Seq.{length-take-le}
 use Rattle.lists.specs.Lists.{allBelow, listTo, inFront}
+use Rattle.lists.proofs.Fill.{take-filled}
 use Rattle.settings.specs.Sizes.{keyCount, openings, fieldBits}
 use Rattle.settings.specs.Settings.{paramsIn}
 use Rattle.opening.specs.Work.{outgoingField}
-use Rattle.opening.proofs.Sending.{header-fits, take-filled, bytes-are, fields-small, message-is}
+use Rattle.opening.proofs.Sending.{header-fits, bytes-are, fields-small, message-is}
 use Rattle.opening.proofs.write_message.Statement.{statement}
 use Rattle.opening.proofs.write_message.Tie as tie
 

@@ -17,7 +17,7 @@ rounds-taken-requires c κs = whole-fields (c .before .before .args .side) (sym 
 openings-up-to-requires : tie.Need-openings-up-to-requires
 openings-up-to-requires c κs =
     let fields = whole-fields (c .before .before .before .args .side) (sym (c .before .before .is-whole .ensures) ∙ not-false _ (c .before .if1 .left)) in
-    (fields .ready .most, c .rounds-taken .ensures .1)
+    (fields .ready .shape .most, c .rounds-taken .ensures .1)
 
 returns-2 : tie.Need-returns-2
 unfolding countCall

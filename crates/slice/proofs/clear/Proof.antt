@@ -1,4 +1,4 @@
--- `opening::clear` meets its contract.
+-- `slice::clear` meets its contract.
 use borrow.Author.Needs.{needs}
 use mathlib.Core.Path.{_≡_, refl, sym, ap, _∙_}
 use Prim.Native.Nat.{ℕ, _≤_, _-_}
@@ -6,8 +6,8 @@ use native.Mathlib.Omega.{arith}
 use lib.ListN.{length, length-set}
 use Rattle.lists.specs.Lists.{fill}
 use Rattle.lists.proofs.Fill.{fill-none, front-more}
-use Rattle.opening.proofs.clear.Statement.{statement}
-use Rattle.opening.proofs.clear.Tie as tie
+use Rattle.slice.proofs.clear.Statement.{statement}
+use Rattle.slice.proofs.clear.Tie as tie
 
 abbrev Inv-loop : tie.InvT-loop
 Inv-loop work₀ i₀ work i = (i ≤ length work) × (work ≡ fill work₀ 0 i (λ (j : ℕ). 0)) × (length work ≡ length work₀)

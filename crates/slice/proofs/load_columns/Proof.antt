@@ -1,4 +1,4 @@
--- `opening::load_columns` meets its contract.
+-- `slice::load_columns` meets its contract.
 use borrow.Author.Needs.{needs}
 use mathlib.Core.Path.{_≡_, refl, sym, ap, _∙_}
 use Prim.Native.Nat.{ℕ, _≤_, _-_}
@@ -6,16 +6,16 @@ use native.Mathlib.Numerals.{add-one}
 use native.Mathlib.Omega.{arith}
 use lib.ListN.{length}
 use Rattle.lists.proofs.Fill.{length-fill}
-use Rattle.settings.specs.Sizes.{keyCount, widthOf}
-use Rattle.opening.specs.Work.{loaded}
-use Rattle.opening.proofs.load_columns.Statement.{statement}
-use Rattle.opening.proofs.load_columns.Tie as tie
+use Rattle.settings.specs.Sizes.{width}
+use Rattle.slice.specs.Loading.{loaded}
+use Rattle.slice.proofs.load_columns.Statement.{statement}
+use Rattle.slice.proofs.load_columns.Tie as tie
 
 abbrev Inv-loop : tie.InvT-loop
-Inv-loop work₀ book count inputs n c₀ work c = (c ≤ widthOf keyCount) × (work ≡ loaded count n (widthOf keyCount) inputs book work₀ c) × (length work ≡ length work₀)
+Inv-loop work₀ book count inputs n c₀ work c = (c ≤ width) × (work ≡ loaded count n width inputs book work₀ c) × (length work ≡ length work₀)
 
 abbrev μ-loop : tie.MeasureT-loop
-μ-loop work₀ book count inputs n c₀ work c = widthOf keyCount - c
+μ-loop work₀ book count inputs n c₀ work c = width - c
 
 loop-holds : tie.Need-loop-holds Inv-loop μ-loop
 unfolding loaded
@@ -27,7 +27,7 @@ loop-again c = (omega arith, rw (add-one (c .before .before .before .before .bef
 
 returns : tie.Need-returns Inv-loop μ-loop
 returns c =
-    let e : c .before .loop .c ≡ widthOf keyCount = omega arith in
+    let e : c .before .loop .c ≡ width = omega arith in
     rw e at (c .before .loop .inv .1)
 
 pub load-columns-spec : {M : Type 1} → statement M
