@@ -5,9 +5,10 @@ use mathlib.Core.List.{List, [], _∷_}
 use Prim.Native.Nat.{ℕ, zero, suc, _+_, _*_, _≤_, _<_}
 use native.Mathlib.Omega.{arith}
 use lib.Dec.{eqb}
-use lib.ListN.{length, getD, set, replicate, length-append, length-replicate}
+use lib.ListN.{length, getD, replicate, length-append, length-replicate}
 use Rattle.lists.specs.Lists.{fill}
 use Rattle.lists.proofs.Lists.{padded}
+use Rattle.lists.proofs.Fill.{fill-below}
 use Rattle.field.specs.Forms.{Form, value, Adds, Join}
 use Rattle.field.proofs.Congruence.{≈-eq}
 use Rattle.field.proofs.Forms.{join-value, join-put, value-below}
@@ -105,18 +106,6 @@ module _ (T : Terms) (keys0 keys1 w₁ w₂ plain : List ℕ) (pos : 0 < T .para
         masked-plain c = masked-work T round opened (1 ∷ []) plain most (omega (arith, j .exact)) c
 
 -- ---- numbers below the modulus
-
-set-below : (s : List ℕ) (i x m : ℕ) → x < m → ((j : ℕ) → getD s j 0 < m) → (j : ℕ) → getD (set s i x) j 0 < m
-set-below [] i x m k h j = h j
-set-below (y ∷ s) zero x m k h zero = k
-set-below (y ∷ s) zero x m k h (suc j) = h (suc j)
-set-below (y ∷ s) (suc i) x m k h zero = h 0
-set-below (y ∷ s) (suc i) x m k h (suc j) = set-below s i x m k (λ j. h (suc j)) j
-
-fill-below : (s : List ℕ) (i n : ℕ) (f : ℕ → ℕ) (m : ℕ) → ((j : ℕ) → getD s j 0 < m) → ((j : ℕ) → f j < m) → (j : ℕ) → getD (fill s i n f) j 0 < m
-unfolding fill
-fill-below s i zero f m h k = h
-fill-below s i (suc n) f m h k = set-below (fill s i n f) (i + n) (f n) m (k n) (fill-below s i n f m h k)
 
 module _ (w : Public) (round : ℕ) (opened : ℕ → ℕ) (pos : 0 < w .params .scale .modulus) where
   abbrev q : ℕ

@@ -137,3 +137,9 @@ pub all-below : (m : ℕ) (xs : List ℕ) → ((i : ℕ) → getD xs i 0 < m) �
 unfolding allBelow every
 all-below m [] h = refl
 all-below m (x ∷ xs) h = rw (lt-ltb x m (h 0)) (all-below m xs (λ i. h (suc i)))
+
+-- each member, by its place
+pub every-all : {A : Type 0} (f : A → Bool) (zs : List A) (d : A) → ((j : ℕ) → j < length zs → f (getD zs j d) ≡ true) → every f zs ≡ true
+unfolding every
+every-all f [] d n = refl
+every-all f (b ∷ bs) d n = rw (n 0 (omega arith)) (every-all f bs d (λ j l. n (suc j) (omega arith)))

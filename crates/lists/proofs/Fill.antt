@@ -1,6 +1,6 @@
 -- A list with a run of its places replaced by an index function, and what stands where in it.
 use mathlib.Core.Path.{_≡_, refl, sym, ap, _∙_}
-use mathlib.Core.List.{List, _∷_, _++_}
+use mathlib.Core.List.{List, _∷_, _++_, []}
 use mathlib.Core.Bool.{cond}
 use lib.Dec.{ltb}
 use borrow.Author.Tests.{lt-ltb, le-ltb}
@@ -164,3 +164,20 @@ fill-tail x s i (suc n) f = rw (fill-tail x s i n f, suc-add) refl
 -- all places behind the first
 pub behind-first : (x : ℕ) (s xs : List ℕ) → length s ≡ length xs → fill (x ∷ s) 1 (length xs) (λ (i : ℕ). getD xs i 0) ≡ x ∷ xs
 behind-first x s xs h = fill-tail x s 0 (length xs) _ ∙ ap (λ (r : List ℕ). x ∷ r) (whole-is s (length xs) _ h ∙ listTo-getD xs)
+
+-- numbers below m stay below m
+pub set-below : (s : List ℕ) (i x m : ℕ) → x < m → ((j : ℕ) → getD s j 0 < m) → (j : ℕ) → getD (set s i x) j 0 < m
+set-below [] i x m k h j = h j
+set-below (y ∷ s) zero x m k h zero = k
+set-below (y ∷ s) zero x m k h (suc j) = h (suc j)
+set-below (y ∷ s) (suc i) x m k h zero = h 0
+set-below (y ∷ s) (suc i) x m k h (suc j) = set-below s i x m k (λ j. h (suc j)) j
+
+pub fill-below : (s : List ℕ) (i n : ℕ) (f : ℕ → ℕ) (m : ℕ) → ((j : ℕ) → getD s j 0 < m) → ((j : ℕ) → f j < m) → (j : ℕ) → getD (fill s i n f) j 0 < m
+unfolding fill
+fill-below s i zero f m h k = h
+fill-below s i (suc n) f m h k = set-below (fill s i n f) (i + n) (f n) m (k n) (fill-below s i n f m h k)
+
+-- a turn of the loop over the columns
+pub stored : (s₀ s : List ℕ) (i n x : ℕ) (f : ℕ → ℕ) → s ≡ fill s₀ i n f → x ≡ f n → set s (i + n) x ≡ fill s₀ i (n + 1) f
+stored s₀ s i n x f e h = rw (fill-more, e, h)

@@ -1,7 +1,6 @@
 -- `dealer::deal_place` meets its contract. Assumes nothing.
-use Rattle.dealer.proofs.Work.{stored}
 use Rattle.dealer.specs.Work.{serverFor, phoneFor}
-use Rattle.lists.proofs.Fill.{fill-none}
+use Rattle.lists.proofs.Fill.{fill-none, stored}
 use Rattle.lists.specs.Lists.{fill}
 use Rattle.dealer.proofs.Work.{room, wrote-place, phone-column, server-column}
 use Prim.Native.Nat.{ℕ, _≤_, _<_, _-_, _+_, _*_}
