@@ -102,7 +102,9 @@ module _ {T : Terms} {k : ℕ} {draw secret : List ℕ} (s : Sound T k draw secr
   step-running t j c l h = step-is t (runningAt j c) ∙ go j l
     where
       go : (j : ℕ) → j < 2 → updated (updated (regs t) 1328 (T .params .n) (next t 0)) 1336 (T .params .n) (next t 1) (runningAt j c) ≡ next t j c
-      go zero l = updated-before (updated (regs t) 1328 (T .params .n) (next t 0)) 1336 (T .params .n) (next t 1) (1328 + c) (omega (arith, few)) ∙ updated-at (regs t) 1328 (T .params .n) (next t 0) c h
+      go zero l =
+          updated-before (updated (regs t) 1328 (T .params .n) (next t 0)) 1336 (T .params .n) (next t 1) (1328 + c) (omega (arith, few))
+          ∙ updated-at (regs t) 1328 (T .params .n) (next t 0) c h
       go (suc zero) l = updated-at (updated (regs t) 1328 (T .params .n) (next t 0)) 1336 (T .params .n) (next t 1) c h
       go (suc (suc j)) l = absurd (omega arith)
 
@@ -121,7 +123,7 @@ module _ {T : Terms} {k : ℕ} {draw secret : List ℕ} (s : Sound T k draw secr
       held (T .params) (widthOf k) draw (regs t)
       (λ i h. regs-stay t i (omega arith)
       ∙ begun-book (T .params) secret (plainBook T (widthOf k) draw secret) (s .room) i h
-      ∙ getD-listTo (shared (T .params)) (Book.value (T .params) (widthOf k) draw) i 0 h)
+      ∙ getD-listTo (shared (T .params)) (Book.bookValue (T .params) (widthOf k) draw) i 0 h)
 
   pub input-held : (c : ℕ) → c < T .params .n → regs 0 (inputAt c) ≡ getD secret c 0
   unfolding plainAfter plainStart

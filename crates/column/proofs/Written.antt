@@ -8,7 +8,7 @@ use Prim.Native.Nat.{ℕ, zero, suc, _+_, _*_, _≤_, _<_}
 use native.Mathlib.Nat.{zero-add}
 use native.Mathlib.Decide.{decLt}
 use native.Mathlib.Omega.{arith}
-use lib.Dec.{eqb, ltb}
+use lib.Dec.{ltb}
 use lib.ListN.{length, getD, List·getD-eq-default}
 use borrow.Author.Tests.{lt-ltb, le-ltb, eq-eqb, ne-eqb}
 use Rattle.lists.specs.Lists.{fill}
@@ -31,7 +31,10 @@ masked-is work z ys h e c = go (decLt c 8)
   where
     go : Dec (c < 8) → getD ys c 0 ≡ cond (ltb c 8) (getD work (1376 + c) 0) 0
     go (yes p) = rw (lt-ltb c 8 p, e) (front-at z 8 (λ (j : ℕ). getD work (1376 + j) 0) c (omega arith) p)
-    go (no p) = rw (le-ltb c 8 (omega arith), e) (List·getD-eq-default (fill z 0 8 (λ (j : ℕ). getD work (1376 + j) 0)) 0 {n = c} (omega (arith, length-fill z 0 8 (λ (j : ℕ). getD work (1376 + j) 0))))
+    go (no p) =
+        rw (le-ltb c 8 (omega arith), e)
+        (List·getD-eq-default (fill z 0 8 (λ (j : ℕ). getD work (1376 + j) 0)) 0 {n = c}
+        (omega (arith, length-fill z 0 8 (λ (j : ℕ). getD work (1376 + j) 0))))
 
 -- the first n of the opened numbers
 pub opened-is : (opened z ys : List ℕ) (n : ℕ) → n ≤ length z → ys ≡ fill z 0 n (λ (j : ℕ). getD opened (0 + j) 0) → (c : ℕ) → c < n → getD ys c 0 ≡ getD opened c 0

@@ -1,5 +1,5 @@
 -- What is proved of the rounds, as types: joined columns stay joined (ColumnsJoin), and the plain run opens the plain meaning (PlainRun).
-use Prim.Native.Nat.{ℕ, suc, _+_, _*_, _%_, _/_, _<_, _≤_}
+use Prim.Native.Nat.{ℕ, suc, _+_, _*_, _%_, _<_, _≤_}
 use mathlib.Core.Path.{_≡_}
 use mathlib.Core.Bool.{true, cond}
 use mathlib.Core.List.{List, [], _∷_, map}

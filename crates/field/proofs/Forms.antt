@@ -1,8 +1,7 @@
 -- A linear form with public coefficients over the registers of a column, its value on a column of weight κ,
 -- and what the values on two columns join to. Each step of the value is reduced, as the code reduces it.
-use mathlib.Core.Path.{_≡_, refl, ap, sym, _∙_}
 use mathlib.Core.Bool.{Bool, true, false, cond}
-use Prim.Native.Nat.{ℕ, zero, suc, _+_, _*_, _-_, _%_, _≤_, _<_}
+use Prim.Native.Nat.{ℕ, zero, suc, _+_, _*_, _-_, _%_, _<_}
 use native.Mathlib.Omega.{arith}
 use lib.Dec.{ltb}
 use Rattle.field.specs.Congruence.{_⊩_≈_}
@@ -10,7 +9,6 @@ use Rattle.field.specs.Sums.{sumTo}
 use Rattle.field.specs.Forms.{Registers, Form, num, reg, sum, _⊞_, _⊟_, _⊠_, value, Adds, Join, updated}
 use Rattle.field.proofs.Congruence.{≈-refl, ≈-eq, ≈-sym, ≈-trans, ≈-add, ≈-mul, ≈-mod, ≈-unmod, ≈-set}
 use Rattle.field.proofs.Solve.{at, _⊕_, _⊖_, _⊗_, red, solve-by}
-use Rattle.field.proofs.Sums.{sum-cong}
 
 sum-join : (q m : ℕ) (r₁ r₂ v w : ℕ → ℕ) (n : ℕ) → ((j : ℕ) → Adds q m (r₁ j) (r₂ j) (v j)) → q ⊩ sumTo n (λ j. w j * r₁ j) + sumTo n (λ j. w j * r₂ j) ≈ m * sumTo n (λ j. w j * v j)
 unfolding sumTo
@@ -63,23 +61,6 @@ join-value {q} {m} {r₁ = r₁} {r₂ = r₂} {v = v} pos j (sum n p w) =
 join-value pos j (f ⊞ g) = add-join pos (join-value pos j f) (join-value pos j g)
 join-value pos j (f ⊟ g) = sub-join pos (join-value pos j f) (join-value pos j g)
 join-value pos j (k ⊠ f) = scale-join pos k (join-value pos j f)
-
--- the value depends only on the registers that the form reads
-abbrev pub Agree : Registers → Registers → Form → Type 0
-Agree r s (num k) = Unit {0}
-Agree r s (reg i) = r i ≡ s i
-Agree r s (sum n p w) = (j : ℕ) → j < n → r (p + j) ≡ s (p + j)
-Agree r s (f ⊞ g) = Agree r s f × Agree r s g
-Agree r s (f ⊟ g) = Agree r s f × Agree r s g
-Agree r s (k ⊠ f) = Agree r s f
-
-pub value-agree : (q κ : ℕ) (r s : Registers) (f : Form) → Agree r s f → value q κ r f ≡ value q κ s f
-value-agree q κ r s (num k) h = refl
-value-agree q κ r s (reg i) h = h
-value-agree q κ r s (sum n p w) h = ap (λ (x : ℕ). x % q) (sum-cong n (λ j. w j * r (p + j)) (λ j. w j * s (p + j)) (λ j l. ap (λ (x : ℕ). w j * x) (h j l)))
-value-agree q κ r s (f ⊞ g) h = rw (value-agree q κ r s f (h .0), value-agree q κ r s g (h .1))
-value-agree q κ r s (f ⊟ g) h = rw (value-agree q κ r s f (h .0), value-agree q κ r s g (h .1))
-value-agree q κ r s (k ⊠ f) h = rw (value-agree q κ r s f h)
 
 cond-join : {q m a₁ a₂ a b₁ b₂ b : ℕ} (t : Bool) → Adds q m a₁ a₂ a → Adds q m b₁ b₂ b → Adds q m (cond t a₁ b₁) (cond t a₂ b₂) (cond t a b)
 cond-join true h k = h

@@ -1,21 +1,11 @@
 -- Ring identities modulo q. An expression over + * - % is split in what is added and what is taken away, both plain ℕ;
 -- the identity between the sums is `omega arith`'s, which multiplies products out.
-use mathlib.Core.Path.{_≡_, refl, ap, sym, _∙_}
-use Prim.Native.Nat.{ℕ, zero, suc, _+_, _*_, _-_, _%_, _≤_, _<_}
-use native.Mathlib.Nat.{mod-lt, mod-self}
+use mathlib.Core.Path.{_≡_}
+use Prim.Native.Nat.{ℕ, _+_, _*_, _-_, _%_, _<_}
+use native.Mathlib.Nat.{mod-lt}
 use native.Mathlib.Omega.{arith}
 use Rattle.field.specs.Congruence.{_⊩_≈_}
-use Rattle.field.proofs.Congruence.{≈-refl, ≈-eq, ≈-sym, ≈-trans, ≈-add, ≈-mul, ≈-mod, ≈-unmod, ≈-mult, ≈-cancel, ≈-set}
-
--- subtraction modulo q, before the last reduction
-abbrev pub minus : ℕ → ℕ → ℕ → ℕ
-minus q a b = a + (q - b % q)
-
-pub minus-add : (q a b : ℕ) → 0 < q → q ⊩ minus q a b + b ≈ a
-minus-add q a b pos =
-    let l : b % q < q = mod-lt b pos in
-    ≈-trans (≈-add (≈-refl (minus q a b)) (≈-sym (≈-mod b)))
-    (≈-trans (≈-eq (omega arith)) (≈-mult a 1))
+use Rattle.field.proofs.Congruence.{≈-refl, ≈-eq, ≈-sym, ≈-trans, ≈-add, ≈-mod, ≈-unmod, ≈-mult, ≈-cancel, ≈-set}
 
 -- an expression: `at t` is any number t; `less` is q - 1, the coefficient -1; `neg a` is q - a % q; `red a` is a % q
 infixl 65 _⊕_ _⊖_

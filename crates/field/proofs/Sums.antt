@@ -1,28 +1,15 @@
 -- Sums over a range, unit vectors, and what a sum against a unit vector selects.
-use mathlib.Core.Path.{_≡_, refl, ap, ap₂, sym, _∙_}
-use mathlib.Core.List.{List, [], _∷_, _++_, map}
-use mathlib.Core.Bool.{Bool, true, false, not}
+use mathlib.Core.Path.{_≡_, refl, ap₂, _∙_}
 use mathlib.Core.Logic.{_≢_, _⊎_, inl, inr}
-use Prim.Native.Nat.{ℕ, zero, suc, _+_, _*_, _-_, _%_, _≤_, _<_}
-use native.Mathlib.Nat.{mod-lt, mod-eq-of-lt, mod-mod, one-mul, mul-one, zero-mul, zero-add, add-zero, eq-or-lt-of-le, le-of-suc-le-suc}
+use Prim.Native.Nat.{ℕ, zero, suc, _+_, _*_, _<_}
+use native.Mathlib.Nat.{eq-or-lt-of-le, le-of-suc-le-suc}
 use native.Mathlib.Omega.{arith}
-use lib.Dec.{eqb, T, eqb→eq, eqb-refl}
 use Rattle.field.specs.Sums.{sumTo}
 
 pub sum-cong : (n : ℕ) (f g : ℕ → ℕ) → ((j : ℕ) → j < n → f j ≡ g j) → sumTo n f ≡ sumTo n g
 unfolding sumTo
 sum-cong zero f g h = refl
 sum-cong (suc n) f g h = ap₂ _+_ (sum-cong n f g (λ j l. h j (omega arith))) (h n (omega arith))
-
-pub sum-add : (n : ℕ) (f g : ℕ → ℕ) → sumTo n (λ j. f j + g j) ≡ sumTo n f + sumTo n g
-unfolding sumTo
-sum-add zero f g = refl
-sum-add (suc n) f g = omega (arith, sum-add n f g)
-
-pub sum-scale : (n m : ℕ) (f : ℕ → ℕ) → sumTo n (λ j. m * f j) ≡ m * sumTo n f
-unfolding sumTo
-sum-scale zero m f = omega arith
-sum-scale (suc n) m f = omega (arith, sum-scale n m f)
 
 pub sum-zero : (n : ℕ) (f : ℕ → ℕ) → ((j : ℕ) → j < n → f j ≡ 0) → sumTo n f ≡ 0
 unfolding sumTo

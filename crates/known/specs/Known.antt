@@ -1,15 +1,15 @@
 -- "Known results (★ proved)": one table, each row checked against the meanings by computing it.
-use Prim.Native.Nat.{ℕ, _+_, _-_, _%_}
+use Prim.Native.Nat.{ℕ, _-_}
 use mathlib.Core.Path.{_≡_, refl}
 use mathlib.Core.List.{List, [], _∷_, map}
-use lib.IntN.{ℤ, pos, negsuc}
+use lib.IntN.{ℤ, negsuc}
 use Rattle.lists.specs.Answers.{bit}
 use Rattle.lists.specs.Lists.{every}
 use Rattle.field.specs.Field.{q, sub}
 use Rattle.field.specs.Sums.{sumTo}
 use Rattle.settings.specs.Sets.{scaleOf}
 use Rattle.rounding.specs.Plain.{highOfShifted, highPart, lowPart, inside, verdict}
-use Rattle.rounding.specs.Digits.{digitsOf, digit}
+use Rattle.rounding.specs.Digits.{digitsOf}
 use Rattle.rounding.specs.Rounds.{unit, carryInto, zeroDigit, topSum, top, nonzeroCount, gap, checkOpens, checkResult, wrapOf, highResult}
 
 -- a row: what is asked, and what is known of it

@@ -1,12 +1,10 @@
 -- The loops that copy bytes and that look for one.
 use Prim.Native.Nat.{ℕ, suc, _+_, _≤_, _<_}
 use mathlib.Core.Path.{_≡_}
-use mathlib.Core.Bool.{Bool, true, false, cond}
-use mathlib.Core.List.{List, [], _∷_}
+use mathlib.Core.List.{List}
 use native.Mathlib.Numerals.{add-one}
 use native.Mathlib.Omega.{arith}
 use borrow.Author.Tests.{eq-eqb, ne-eqb}
-use lib.Dec.{eqb}
 use lib.ListN.{length, getD, set, drop, drop-of-length-le}
 use lib.Seq.{paste, paste-suc, drop-cons}
 use Rattle.lists.specs.Lists.{lengthBefore}
@@ -39,12 +37,3 @@ unfolding lengthBefore
 length-end b s i t h e =
     let f : i + 0 ≡ t = rw (drop-of-length-le s h) at e in
     omega (arith, f)
-
-pub length-before-most : (b : ℕ) (bs : List ℕ) → lengthBefore b bs ≤ length bs
-unfolding lengthBefore
-length-before-most b [] = omega arith
-length-before-most b (x ∷ bs) = go (eqb x b) (length-before-most b bs)
-  where
-    go : (t : Bool) → lengthBefore b bs ≤ length bs → cond t 0 (suc (lengthBefore b bs)) ≤ suc (length bs)
-    go true ih = omega arith
-    go false ih = omega arith

@@ -1,12 +1,10 @@
 -- Lists by an index function, and lists joined of pieces: where a piece stands, and when a list is the join of its own pieces.
 use mathlib.Core.Path.{_≡_, refl, sym, ap, ap₂, _∙_}
 use mathlib.Core.List.{List, [], _∷_, _++_}
-use mathlib.Core.Bool.{Bool, true, false, cond, _&&_}
-use Prim.Native.Nat.{ℕ, zero, suc, _+_, _*_, _-_, _≤_, _<_}
-use native.Mathlib.Nat.{zero-add, add-zero, add-suc, suc-add, add-assoc}
+use Prim.Native.Nat.{ℕ, zero, suc, _+_, _*_, _≤_, _<_}
+use native.Mathlib.Nat.{zero-add, add-zero, add-assoc}
 use native.Mathlib.Omega.{arith}
-use native.Mathlib.Decide.{decLt}
-use lib.ListN.{length, getD, take, drop, length-append, List·getD-append, length-drop, take-append-drop}
+use lib.ListN.{length, getD, drop, length-append, List·getD-append, length-drop}
 use lib.Seq.{ext-getD, getD-append-add, getD-drop}
 use Rattle.lists.specs.Lists.{listFrom, listTo, joinFrom, joinTo}
 

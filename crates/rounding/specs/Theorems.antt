@@ -1,7 +1,6 @@
 -- What is proved of the plain arithmetic, as types: for every lawful scale (both sets are: settings/specs/Theorems).
 use Prim.Native.Nat.{ℕ, suc, _+_, _*_, _-_, _/_, _%_, _<_, _≤_}
 use mathlib.Core.Path.{_≡_}
-use mathlib.Core.List.{List, [], _∷_}
 use lib.Dec.{eqb, leb, ltb}
 use lib.IntN.{ℤ, pos, negsuc, _*ℤ_, _+ℤ_}
 use Rattle.lists.specs.Answers.{bit}

@@ -2,13 +2,13 @@
 use Prim.Native.Nat.{ℕ, zero, suc, _+_, _*_, _-_, _^_, _<_}
 use mathlib.Core.Path.{_≡_, refl, sym, ap, ap₂, _∙_}
 use mathlib.Core.List.{List, _∷_, _++_}
-use mathlib.Core.Bool.{Bool, true, false, cond, _&&_}
+use mathlib.Core.Bool.{true}
 use native.Mathlib.Omega.{arith}
 use native.Mathlib.Numerals.{add-one}
 use native.Mathlib.Nat.{zero-add, add-zero, mul-le-mul-right}
-use lib.Dec.{eqb, leb, ltb}
+use lib.Dec.{ltb}
 use lib.ListN.{length, getD}
-use borrow.Author.Tests.{lt-ltb, ltb-true, leb-true, eqb-true}
+use borrow.Author.Tests.{lt-ltb}
 use Rattle.lists.specs.Lists.{every, allBelow, listTo, joinFrom, joinTo}
 use Rattle.lists.proofs.Every.{every-join, every-listTo}
 use Rattle.lists.proofs.Lists.{length-listFrom, listTo-cong, join-at}
@@ -65,7 +65,7 @@ module _ (k : ℕ) (s : Settings) (serial : ℕ) (numbers : ℕ → List ℕ) wh
     outgoing-is _ (server {keys} {inputs} {book}) v R r c j l m = rw (add-zero R, at-send k s serial numbers (inputAs 0 keys inputs book) R server r .round)
     outgoing-is _ (phone {keys} {inputs} {book}) v R r c j l m =
         rw (add-one R)
-        (t .observer (termsOf s) (suc R) _ (weights k 1 keys) (workAt k s serial numbers (inputAs 1 keys inputs book) R) (v .most) (v .some)
+        (t .own (termsOf s) (suc R) _ (weights k 1 keys) (workAt k s serial numbers (inputAs 1 keys inputs book) R) (v .most) (v .some)
         (v .exact R ∙ ap (λ (x : ℕ). x * places) (sym (v .sized))) c j (omega (arith, v .sized)) m)
 
   pub sharing-below : SlicesJoin → (h : PartyInput) → Fair k s serial numbers h → (R c j : ℕ) → c < 1 + 2 * k → j < openings (paramsIn s) (suc R) → sharing h R c j < q

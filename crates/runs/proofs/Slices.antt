@@ -71,7 +71,7 @@ pub opening-below : (t : SlicesJoin) (s : Settings) (round : ℕ) (κs work : Li
     → openingOn (publicOf (termsOf s) (maskedIn work)) round (getD κs c 0) (column work c) o < q
 unfolding ownIn
 opening-below t s round κs work most some e h c o l m =
-    rw (← t .observer (termsOf s) round (λ i. 0) κs work most some e c o l m)
+    rw (← t .own (termsOf s) round (λ i. 0) κs work most some e c o l m)
     (t .bounded (termsOf s) round (λ i. 0) κs work (omega arith) most some e h (λ i. omega arith) .1 _)
 
 -- what is known of the server's input h and the phone's o, of their books and slices, and of the plain column

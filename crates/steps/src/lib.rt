@@ -16,7 +16,8 @@ ghost use Rattle.settings.specs.Sizes.{openings, places};
 ghost use Rattle.book.specs.Book.{groupGap};
 ghost use Rattle.slice.specs.Layout.{column};
 ghost use Rattle.slice.specs.Weights.{ruleOf};
-ghost use Rattle.steps.specs.Steps.{lookedAt, digitOf, limitOf, vectorSum, addend, factorU, factorV, tripleOf, shiftOf, openInput, openFactor, insideForm, insides, checked, openCheck, gateResult, groupOf, checkEntry, afterCheck, running};
+ghost use Rattle.steps.specs.Steps.{lookedAt, digitOf, limitOf, vectorSum, addend, factorU, factorV, tripleOf, shiftOf, openInput, openFactor};
+ghost use Rattle.steps.specs.Steps.{insideForm, insides, checked, openCheck, gateResult, groupOf, checkEntry, afterCheck, running};
 ghost use Rattle.steps.specs.Work.{openingOn, runningOn};
 ghost use Rattle.steps.specs.Calls.{publicAt, publicIn};
 ghost use Rattle.settings.specs.Questions.{Ready};
@@ -170,7 +171,8 @@ fn vector_sum(work: &[u32], col: usize, settings: Settings, gate: Gate) -> u32
 fn vector_raise(work: &[u32], col: usize, settings: Settings, gate: Gate) -> u32
     requires { ⌜ Ready settings ⌝ }
     requires { ⌜ ((col + 1) * places ≤ length (now work)) × (gate .c < settings .shape .n) × (gate .i < 5) ⌝ }
-    ensures { λ r. ⌜ ((κ : ℕ) → r ≡ value q κ (column (now (work .entry)) col) (vectorSum (publicAt settings (gate .y)) (gate .c) (gate .i) (gate .k) 1 ⊟ vectorSum (publicAt settings (gate .y)) (gate .c) (gate .i) (gate .k) 0)) ⌝ }
+    ensures { λ r. ⌜ ((κ : ℕ) → r ≡ value q κ (column (now (work .entry)) col) (vectorSum (publicAt settings (gate .y)) (gate .c) (gate .i) (gate .k) 1
+        ⊟ vectorSum (publicAt settings (gate .y)) (gate .c) (gate .i) (gate .k) 0)) ⌝ }
 {
     let shape = settings.shape;
     let terms = Weighted {

@@ -1,7 +1,6 @@
 -- `book::start_of` meets its contract.
 use native.Mathlib.Omega.{arith}
 use borrow.Author.Needs.{needs}
-use Prim.Native.Nat.{_<_}
 use mathlib.Core.Path.{_≡_}
 use Rattle.book.proofs.start_of.Statement.{statement}
 use Rattle.book.proofs.start_of.Tie as tie

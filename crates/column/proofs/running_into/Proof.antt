@@ -9,12 +9,14 @@ use Prim.Native.Nat.{ℕ, _≤_, _-_}
 use mathlib.Core.Path.{_≡_, refl, sym}
 use native.Mathlib.Omega.{arith}
 use borrow.Author.Needs.{needs}
-use lib.ListN.{length, set, getD, length-set}
+use lib.ListN.{length, getD, length-set}
 use Rattle.column.proofs.running_into.Statement.{statement}
 use Rattle.column.proofs.running_into.Tie as tie
 
 abbrev Inv-loop : tie.InvT-loop
-Inv-loop out₀ work col known opened k n c₀ out c = (c ≤ n) × (out ≡ fill out₀ 0 c (runningOn (publicIn known) (known .round) (λ (o : ℕ). getD opened o 0) (col .weight) (column work (col .index)) k)) × (length out ≡ length out₀)
+Inv-loop out₀ work col known opened k n c₀ out c =
+    (c ≤ n) × (out ≡ fill out₀ 0 c (runningOn (publicIn known) (known .round) (λ (o : ℕ). getD opened o 0) (col .weight) (column work (col .index)) k))
+    × (length out ≡ length out₀)
 
 abbrev μ-loop : tie.MeasureT-loop
 μ-loop out₀ work col known opened k n c₀ out c = n - c

@@ -1,6 +1,6 @@
 -- `settings::answer_size` meets its contract. Assumes nothing.
 use Rattle.settings.specs.Sizes.{answerSize}
-use mathlib.Core.Path.{sym, ap, _∙_}
+use mathlib.Core.Path.{sym, _∙_}
 use borrow.Author.Tests.{not-true, not-false}
 use borrow.Author.Needs.{needs}
 use Rattle.settings.proofs.answer_size.Statement.{statement}

@@ -1,7 +1,7 @@
 -- `settings::book_size` meets its contract. Assumes nothing.
 use Rattle.settings.proofs.Ready.{ok-ready}
 use Rattle.settings.specs.Sizes.{bookSize}
-use mathlib.Core.Path.{sym, ap, _∙_}
+use mathlib.Core.Path.{sym, _∙_}
 use borrow.Author.Tests.{not-true, not-false}
 use borrow.Author.Needs.{needs}
 use Rattle.settings.proofs.book_size.Statement.{statement}

@@ -1,7 +1,6 @@
 -- `side::begin_no` meets its contract: one question after the other.
 use borrow.Author.Needs.{needs}
-use mathlib.Core.Path.{sym, ap, _∙_}
-use borrow.Author.Tests.{not-true, not-false}
+use mathlib.Core.Path.{sym, _∙_}
 use Rattle.lists.specs.Answers.{ask}
 use Rattle.settings.proofs.Ready.{settings-ready, settings-pass, settings-refuse}
 use Rattle.side.specs.Side.{beginNo}

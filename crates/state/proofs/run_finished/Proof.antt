@@ -1,6 +1,5 @@
 -- `state::run_finished` meets its contract.
 use borrow.Author.Needs.{needs}
-use mathlib.Core.Path.{_∙_, sym, ap}
 use borrow.Author.Tests.{not-true, not-false}
 use Rattle.state.specs.State.{finished}
 use Rattle.state.proofs.run_finished.Statement.{statement}

@@ -1,6 +1,5 @@
 -- `state::send_due` meets its contract.
 use borrow.Author.Needs.{needs}
-use mathlib.Core.Path.{_∙_, sym, ap}
 use borrow.Author.Tests.{not-true, not-false}
 use Rattle.state.specs.State.{sendDue}
 use Rattle.state.proofs.send_due.Statement.{statement}

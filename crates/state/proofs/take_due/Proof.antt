@@ -1,6 +1,5 @@
 -- `state::take_due` meets its contract.
 use borrow.Author.Needs.{needs}
-use mathlib.Core.Path.{_∙_, sym, ap}
 use borrow.Author.Tests.{not-true, not-false}
 use Rattle.state.specs.State.{takeDue}
 use Rattle.state.proofs.take_due.Statement.{statement}
