@@ -4,13 +4,14 @@ use mathlib.Core.Bool.{Bool, true, false, cond}
 use mathlib.Core.List.{List, [], _∷_, _++_}
 use Prim.Native.Nat.{ℕ, zero, suc, _+_, _*_, _≤_, _<_}
 use native.Mathlib.Omega.{arith}
-use native.Mathlib.Nat.{mod-lt, add-zero, zero-add}
+use native.Mathlib.Nat.{add-zero, zero-add}
 use lib.Dec.{eqb, ltb}
 use lib.ListN.{length, getD, set, replicate, length-append, length-replicate}
 use Rattle.lists.specs.Lists.{fill}
-use Rattle.field.specs.Forms.{Registers, Form, num, reg, sum, _⊞_, _⊟_, _⊠_, value, Adds, Join}
+use Rattle.field.specs.Forms.{Form, value, Adds, Join}
 use Rattle.field.proofs.Congruence.{≈-eq}
-use Rattle.field.proofs.Forms.{join-value, join-put}
+use Rattle.lists.proofs.Lists.{none-at}
+use Rattle.field.proofs.Forms.{value-below, join-value, join-put}
 use Rattle.settings.specs.Settings.{Terms}
 use Rattle.settings.specs.Sizes.{openings, places}
 use Rattle.book.specs.Deal.{multipliers}
@@ -30,13 +31,8 @@ column-joins =
 
 -- ---- the weights of the columns add up to the multipliers
 
-getD-none : (n c : ℕ) → _≡_ {A = ℕ} (getD (replicate n 0) c 0) 0
-getD-none zero c = refl
-getD-none (suc n) zero = refl
-getD-none (suc n) (suc c) = getD-none n c
-
 padded : (xs ys : List ℕ) (n c : ℕ) → getD (xs ++ replicate n 0) c 0 + getD (replicate (length xs) 0 ++ ys) c 0 ≡ getD (xs ++ ys) c 0
-padded [] ys n c = rw (getD-none n c) (zero-add (getD ys c 0))
+padded [] ys n c = rw (none-at n c) (zero-add (getD ys c 0))
 padded (x ∷ xs) ys n zero = add-zero x
 padded (x ∷ xs) ys n (suc c) = padded xs ys n c
 
@@ -135,14 +131,6 @@ column-below s c m pos h i = go (ltb i 1344)
     go : (b : Bool) → cond b (getD s (c * 1536 + i) 0) 0 < m
     go true = h (c * 1536 + i)
     go false = pos
-
-value-below : (m κ : ℕ) (r : Registers) → 0 < m → ((i : ℕ) → r i < m) → (f : Form) → value m κ r f < m
-value-below m κ r pos h (num k) = mod-lt (κ * k) pos
-value-below m κ r pos h (reg i) = h i
-value-below m κ r pos h (sum n place weight) = mod-lt _ pos
-value-below m κ r pos h (f ⊞ g) = mod-lt _ pos
-value-below m κ r pos h (f ⊟ g) = mod-lt _ pos
-value-below m κ r pos h (k ⊠ f) = mod-lt _ pos
 
 module _ (w : Public) (round : ℕ) (opened : ℕ → ℕ) (pos : 0 < w .params .scale .modulus) where
   abbrev q : ℕ

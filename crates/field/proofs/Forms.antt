@@ -2,6 +2,7 @@
 -- and what the values on two columns join to. Each step of the value is reduced, as the code reduces it.
 use mathlib.Core.Bool.{Bool, true, false, cond}
 use Prim.Native.Nat.{ℕ, zero, suc, _+_, _*_, _-_, _%_, _<_}
+use native.Mathlib.Nat.{mod-lt}
 use native.Mathlib.Omega.{arith}
 use lib.Dec.{ltb}
 use Rattle.field.specs.Congruence.{_⊩_≈_}
@@ -61,6 +62,15 @@ join-value {q} {m} {r₁ = r₁} {r₂ = r₂} {v = v} pos j (sum n p w) =
 join-value pos j (f ⊞ g) = add-join pos (join-value pos j f) (join-value pos j g)
 join-value pos j (f ⊟ g) = sub-join pos (join-value pos j f) (join-value pos j g)
 join-value pos j (k ⊠ f) = scale-join pos k (join-value pos j f)
+
+-- the value is below q, where the registers are
+pub value-below : (q κ : ℕ) (r : Registers) → 0 < q → ((i : ℕ) → r i < q) → (f : Form) → value q κ r f < q
+value-below q κ r pos h (num n) = mod-lt _ pos
+value-below q κ r pos h (reg i) = h i
+value-below q κ r pos h (sum n place weight) = mod-lt _ pos
+value-below q κ r pos h (f ⊞ g) = mod-lt _ pos
+value-below q κ r pos h (f ⊟ g) = mod-lt _ pos
+value-below q κ r pos h (n ⊠ f) = mod-lt _ pos
 
 cond-join : {q m a₁ a₂ a b₁ b₂ b : ℕ} (t : Bool) → Adds q m a₁ a₂ a → Adds q m b₁ b₂ b → Adds q m (cond t a₁ b₁) (cond t a₂ b₂) (cond t a b)
 cond-join true h k = h

@@ -18,9 +18,9 @@ pub data Row : Type 0 where
   high : (set w result : ℕ) → Row
   low : (set w : ℕ) (result : ℤ) → Row
   -- HIGH in a set, of w′ with the mask r: y, round 5's top digit with its carry, C, and the result
-  run : (set w′ r y topDigit c result : ℕ) → Row
+  run : (set w′ r y topDigit C result : ℕ) → Row
   -- the zero check of n with K and ρ: g, the opened number and the result
-  check : (k n ρ g opened result : ℕ) → Row
+  check : (K n ρ g opened result : ℕ) → Row
   -- the verdict on one number with the bound B
   bound : (b x result : ℕ) → Row
 
@@ -32,7 +32,7 @@ worked (run set w′ r _ _ _ _) =
     let p = scaleOf set in
     let y = sub q w′ r in
     run set w′ r y (topSum p y r) (wrapOf p 0 y r) (highResult p 0 y r)
-worked (check k n ρ _ _ _) = check k n ρ (gap q k) (checkOpens q k ρ n) (checkResult q k ρ (checkOpens q k ρ n))
+worked (check K n ρ _ _ _) = check K n ρ (gap q K) (checkOpens q K ρ n) (checkResult q K ρ (checkOpens q K ρ n))
 worked (bound b x _) = bound b x (verdict q b (x ∷ []))
 
 unfoldable pub knownResults : List Row

@@ -4,7 +4,7 @@ use mathlib.Core.List.{List, [], _∷_, _++_}
 use Prim.Native.Nat.{ℕ, zero, suc, _+_, _*_, _≤_, _<_}
 use native.Mathlib.Nat.{zero-add, add-zero, add-assoc}
 use native.Mathlib.Omega.{arith}
-use lib.ListN.{length, getD, drop, length-append, List·getD-append, length-drop}
+use lib.ListN.{length, getD, drop, replicate, length-append, List·getD-append, length-drop}
 use lib.Seq.{ext-getD, getD-append-add, getD-drop}
 use Rattle.lists.specs.Lists.{listFrom, listTo, joinFrom, joinTo}
 
@@ -23,6 +23,12 @@ getD-listFrom i (suc n) f (suc x) d h = getD-listFrom (suc i) n f x d (omega ari
 -- the same from 0, with no `0 +`
 pub getD-listTo : {A : Type 0} (n : ℕ) (f : ℕ → A) (x : ℕ) (d : A) → x < n → getD (listTo n f) x d ≡ f x
 getD-listTo n f x d h = getD-listFrom 0 n f x d h ∙ ap f (zero-add x)
+
+-- a list of zeros
+pub none-at : (n x : ℕ) → _≡_ {A = ℕ} (getD (replicate n 0) x 0) 0
+none-at zero x = refl
+none-at (suc n) zero = refl
+none-at (suc n) (suc x) = none-at n x
 
 pub listFrom-cong : {A : Type 0} (i n : ℕ) (f g : ℕ → A) → ((x : ℕ) → x < n → f (i + x) ≡ g (i + x)) → listFrom i n f ≡ listFrom i n g
 unfolding listFrom

@@ -20,7 +20,7 @@ pub record Sized (header : ℕ) (fields : List ℕ) : Type 0 where
 
 pub record RoundTrip : Type 0 where
   -- a message is bytes, as many as its bits need
-  pub bytes : (h : ℕ) (fs : List ℕ) (j : ℕ) → getD (messageOf h fs) j 0 < 256
+  pub bytes : (h : ℕ) (fs : List ℕ) (x : ℕ) → getD (messageOf h fs) x 0 < 256
   pub size : (h : ℕ) (fs : List ℕ) → length (messageOf h fs) ≡ bytesFor (messageBits (length fs))
   -- header, fields and filling come back
   pub header : (h : ℕ) (fs : List ℕ) → Sized h fs → headerIn (length fs) (messageOf h fs) ≡ h

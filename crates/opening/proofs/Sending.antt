@@ -3,7 +3,7 @@ use mathlib.Core.Path.{_≡_, refl, ap, ap₂, _∙_}
 use mathlib.Core.Bool.{Bool, true, false, cond}
 use mathlib.Core.List.{List, _∷_, _++_}
 use Prim.Native.Nat.{ℕ, zero, suc, _+_, _-_, _*_, _/_, _%_, _^_, _≤_, _<_}
-use native.Mathlib.Nat.{mod-lt, add-zero, mul-zero, mul-suc}
+use native.Mathlib.Nat.{add-zero, mul-zero, mul-suc}
 use native.Mathlib.Omega.{arith}
 use lib.Dec.{eqb, ltb, lit<}
 use lib.ListN.{length, getD, take}
@@ -14,7 +14,7 @@ use Rattle.lists.proofs.Every.{below-at, every-listTo}
 use Rattle.lists.proofs.Lists.{length-listFrom}
 use Rattle.lists.proofs.Fill.{fill-same, front-is}
 use Rattle.field.specs.Field.{q}
-use Rattle.field.specs.Forms.{Registers, Form, num, reg, sum, _⊞_, _⊟_, _⊠_, value}
+use Rattle.field.proofs.Forms.{value-below}
 use Rattle.settings.specs.Sizes.{keyCount, bytesFor, openings, fieldBits, mostOpenings, mostFields, messageBits, messageLength}
 use Rattle.settings.specs.Settings.{paramsIn, termsOf}
 use Rattle.message.specs.Message.{headerNumber, messageOf}
@@ -29,14 +29,6 @@ use Rattle.opening.specs.Work.{columnsTo, fieldColumn, outgoingIn, outgo
 use Rattle.opening.proofs.Columns.{columns-at}
 
 -- ---- numbers below q
-
-value-below : (m κ : ℕ) (r : Registers) → 0 < m → ((i : ℕ) → r i < m) → (f : Form) → value m κ r f < m
-value-below m κ r pos h (num k) = mod-lt _ pos
-value-below m κ r pos h (reg i) = h i
-value-below m κ r pos h (sum n place weight) = mod-lt _ pos
-value-below m κ r pos h (f ⊞ g) = mod-lt _ pos
-value-below m κ r pos h (f ⊟ g) = mod-lt _ pos
-value-below m κ r pos h (k ⊠ f) = mod-lt _ pos
 
 module _ (work : List ℕ) (small : allBelow q work ≡ true) where
   place-below : (j : ℕ) → getD work j 0 < q

@@ -5,7 +5,7 @@ use mathlib.Core.List.{List}
 use Prim.Native.Nat.{ℕ, zero, suc, _+_, _*_, _≤_, _<_}
 use native.Mathlib.Decide.{decLt}
 use native.Mathlib.Omega.{arith}
-use lib.ListN.{length, getD, replicate}
+use lib.ListN.{length, getD}
 use Rattle.lists.specs.Lists.{fill, allTo}
 use Rattle.lists.proofs.Fill.{front-at, front-behind}
 use Rattle.field.specs.Field.{q, add}
@@ -41,11 +41,6 @@ unfolding prepared
 holds-all s work own ws f l h = λ c b o m. rw f (h c o (omega arith) m)
 
 -- ---- The opened numbers
-
-pub none-at : (n o : ℕ) → _≡_ {A = ℕ} (getD (replicate n 0) o 0) 0
-none-at zero o = refl
-none-at (suc n) zero = refl
-none-at (suc n) (suc o) = none-at n o
 
 allTo-same : (n : ℕ) (f g : ℕ → Bool) → ((i : ℕ) → i < n → f i ≡ g i) → allTo n f ≡ allTo n g
 unfolding allTo

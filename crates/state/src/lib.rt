@@ -285,7 +285,7 @@ fn answer_no(side: Side, out: &[u32]) -> u32
 // The first `count` numbers of `from`, in front of `out`. `answer` has asked for the room; `take` of crate side knows both lengths.
 pub fn copy_front(out: &mut [u32], from: &[u32], count: usize)
     requires { ⌜ (count ≤ length (now from)) × (count ≤ length (now out)) ⌝ }
-    ensures { λ _. ⌜ now (out .exit) ≡ fill (now (out .entry)) 0 count (λ (j : ℕ). getD (now (from .entry)) j 0) ⌝ }
+    ensures { λ _. ⌜ now (out .exit) ≡ fill (now (out .entry)) 0 count (λ (x : ℕ). getD (now (from .entry)) x 0) ⌝ }
 {
     let mut i = 0;
     while i < count {

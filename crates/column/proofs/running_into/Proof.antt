@@ -31,7 +31,7 @@ loop-again : tie.Need-loop-again Inv-loop μ-loop
 loop-again c = (omega arith, rw (front-more, ← c .before .before .loop .inv .1, ← c .running-value .ensures), simp length-set (omega arith))
 
 returns : tie.Need-returns Inv-loop μ-loop
-returns c = let e : c .before .loop .c ≡ (c .before .before .before .before .before .before .args .known .settings .shape .n) = omega arith in fill-count _ _ _ _ _ _ (c .before .loop .inv .1) e
+returns c = let e : c .before .loop .j ≡ (c .before .before .before .before .before .before .args .known .settings .shape .n) = omega arith in fill-count _ _ _ _ _ _ (c .before .loop .inv .1) e
 
 pub running-into-spec : {M : Type 1} → statement M
 running-into-spec =

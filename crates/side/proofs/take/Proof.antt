@@ -6,7 +6,8 @@ use Rattle.settings.specs.Sizes.{keyCount, mostOpenings}
 use Rattle.settings.proofs.Sizes.{openings-most}
 use Rattle.settings.specs.Settings.{paramsIn}
 use Rattle.state.specs.declared.Side.{Side}
-use Rattle.opening.proofs.Taking.{prepared-holds, holds-all, none-at, opened-below, checks-same}
+use Rattle.lists.proofs.Lists.{none-at}
+use Rattle.opening.proofs.Taking.{prepared-holds, holds-all, opened-below, checks-same}
 use Rattle.side.specs.Side.{after, takenSide}
 use Rattle.side.specs.Work.{takeDoor}
 use Rattle.side.proofs.Taking.{take-ready, take-refused, take-stopped, take-done, front-same, work-same}

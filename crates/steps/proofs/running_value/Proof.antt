@@ -15,7 +15,7 @@ returns : tie.Need-returns
 unfolding running
 returns c =
     let a = c .before .before .before .before .before .args in
-    rw (eq-eqb _ _ (c .before .if1 .taken), ← vector-sum-at (a .known .settings) (λ (j : ℕ). getD (a .known .masked) j 0) (a .c) 0 (a .k) 0) (c .vector-sum .ensures _)
+    rw (eq-eqb _ _ (c .before .if1 .taken), ← vector-sum-at (a .known .settings) (λ (j : ℕ). getD (a .known .masked) j 0) (a .j) 0 (a .which) 0) (c .vector-sum .ensures _)
 
 shared-slice-read-e : tie.Need-shared-slice-read-e
 shared-slice-read-e c =
@@ -37,19 +37,19 @@ returns-2 c =
     rw (
       ne-eqb _ _ (c .before .before .before .before .if1 .left),
       le-leb _ _ (c .before .before .before .if2 .taken),
-      ← gate-result-at (a .known .settings) (λ (j : ℕ). getD (a .known .masked) j 0) (a .c) (a .known .round - 1) (a .k) _ _,
+      ← gate-result-at (a .known .settings) (λ (j : ℕ). getD (a .known .masked) j 0) (a .j) (a .known .round - 1) (a .which) _ _,
     ) (c .gate-value .ensures)
 
 mul-x : tie.Need-mul-x
 mul-x c =
     let a = c .before .before .before .before .before .before .before .args in
-    let p = check-in (paramsOf (a .known .settings .shape)) (a .known .round) (a .c) (c .before .before .before .if1 .left) (c .before .before .if2 .left) (omega arith) in
+    let p = check-in (paramsOf (a .known .settings .shape)) (a .known .round) (a .j) (c .before .before .before .if1 .left) (c .before .before .if2 .left) (omega arith) in
     omega (arith, p, c .group-of .ensures)
 
 shared-slice-read-x : tie.Need-shared-slice-read-x
 shared-slice-read-x c =
     let a = c .before .before .before .before .before .before .before .before .args in
-    let p = check-in (paramsOf (a .known .settings .shape)) (a .known .round) (a .c) (c .before .before .before .before .if1 .left)
+    let p = check-in (paramsOf (a .known .settings .shape)) (a .known .round) (a .j) (c .before .before .before .before .if1 .left)
     (c .before .before .before .if2 .left) (omega arith) in
     omega (arith, p, c .before .group-of .ensures)
 

@@ -16,12 +16,12 @@ weighted-sum-requires c κs =
     let digit = c .before .before .before .before .before .before .digit-of in (
       omega (
         arith,
-        vector-room (a .settings .shape) (a .gate .c) (a .gate .i) (omega arith) (omega arith) (omega arith) (omega arith),
+        vector-room (a .settings .shape) (a .gate .j) (a .gate .i) (omega arith) (omega arith) (omega arith) (omega arith),
         c .before .before .before .before .before .vector-at .ensures,
         c .before .before .before .base-of .ensures,
       ),
       λ rule.
-          let fits = zero-fits (a .settings .shape .set) (a .settings .shape .kind) (a .gate .i) (a .gate .k) _ (digit .result) 0 (omega arith) (omega arith)
+          let fits = zero-fits (a .settings .shape .set) (a .settings .shape .kind) (a .gate .i) (a .gate .which) _ (digit .result) 0 (omega arith) (omega arith)
           (digit .ensures .0) (sym (c .before .before .rule-of .ensures) ∙ rule) in
           let small : digit .result ≤ limitOf (scaleOf (a .settings .shape .set)) (a .gate .i) = omega (arith, fits .1) in
           (c .before .before .before .base-of .ensures .0 ∙ fits .0 ∙ sym (c .limit-of .ensures .0), rw (c .limit-of .ensures .0) small),
