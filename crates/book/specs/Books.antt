@@ -19,9 +19,9 @@ inOrder count width f = listTo (count * width) (λ (x : ℕ). f (x / width) (x %
 unfoldable pub phoneBook : Params → ℕ → List ℕ → List ℕ
 phoneBook p width draw = inOrder (shared p) width (phoneNumber p width draw)
 
--- "the server's are the difference": in column c of place k
+-- "the server's are the difference": in column c of place e
 unfoldable pub serverNumber : Params → ℕ → List ℕ → List ℕ → ℕ → ℕ → ℕ
-serverNumber p width factors draw k c = sub (p .scale .modulus) (getD factors c 0 * bookValue p width draw k) (phoneNumber p width draw k c)
+serverNumber p width factors draw e c = sub (p .scale .modulus) (getD factors c 0 * bookValue p width draw e) (phoneNumber p width draw e c)
 
 unfoldable pub serverBook : Params → ℕ → List ℕ → List ℕ → List ℕ
 serverBook p width factors draw = inOrder (shared p) width (serverNumber p width factors draw)

@@ -34,28 +34,28 @@ fn start_of(set: u32, i: usize) -> usize
     }
 }
 
-// Mask r of coefficient c, or for c = n the end of the coefficients.
-pub fn mask_at(shape: Shape, c: usize) -> usize
-    requires { ⌜ (shape .set < 2) × (c ≤ 8) ⌝ }
-    ensures { λ r. ⌜ (r ≡ maskAt (paramsOf shape) c) × (r ≤ 165 * c) ⌝ }
+// Mask r of coefficient j, or for j = n the end of the coefficients.
+pub fn mask_at(shape: Shape, j: usize) -> usize
+    requires { ⌜ (shape .set < 2) × (j ≤ 8) ⌝ }
+    ensures { λ r. ⌜ (r ≡ maskAt (paramsOf shape) j) × (r ≤ 165 * j) ⌝ }
 {
-    c * stride_of(shape)
+    j * stride_of(shape)
 }
 
 // The vector of digit i of r.
-pub fn vector_at(shape: Shape, c: usize, i: usize) -> usize
-    requires { ⌜ (shape .set < 2) × (c < 8) × (i < 5) ⌝ }
-    ensures { λ r. ⌜ (r ≡ vectorAt (paramsOf shape) c i) × (r ≤ 1320) ⌝ }
+pub fn vector_at(shape: Shape, j: usize, i: usize) -> usize
+    requires { ⌜ (shape .set < 2) × (j < 8) × (i < 5) ⌝ }
+    ensures { λ r. ⌜ (r ≡ vectorAt (paramsOf shape) j i) × (r ≤ 1320) ⌝ }
 {
-    mask_at(shape, c) + start_of(shape.set, i)
+    mask_at(shape, j) + start_of(shape.set, i)
 }
 
-// Triple t: a; b and c follow.
-pub fn triple_at(shape: Shape, c: usize, t: usize) -> usize
-    requires { ⌜ (shape .set < 2) × (c < 8) × (t ≤ 8) ⌝ }
-    ensures { λ r. ⌜ (r ≡ tripleAt (paramsOf shape) c t) × (r ≤ 1320) ⌝ }
+// Triple t: a; b and a × b follow.
+pub fn triple_at(shape: Shape, j: usize, t: usize) -> usize
+    requires { ⌜ (shape .set < 2) × (j < 8) × (t ≤ 8) ⌝ }
+    ensures { λ r. ⌜ (r ≡ tripleAt (paramsOf shape) j t) × (r ≤ 1320) ⌝ }
 {
-    mask_at(shape, c) + start_of(shape.set, 5) + 3 * t
+    mask_at(shape, j) + start_of(shape.set, 5) + 3 * t
 }
 
 // Group g: ρ; its vector follows.

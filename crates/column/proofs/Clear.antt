@@ -189,7 +189,8 @@ module _ {p : Scale} (ok : Lawful p) (n bound y r : ℕ) (hy : y < p .modulus) (
 
   -- rounds 2 to 5
   pub gate-clear : (kind i k : ℕ) → kind < 2 → i < 5 → k < 2
-      → (clearAddend p n bound y r kind i k + clearFactor (termsWith p kind n bound) y r i k 0 * clearFactor (termsWith p kind n bound) y r i k 1) % p .modulus ≡ clearRunning (termsWith p kind n bound) y r (suc i) k
+      → (clearAddend p n bound y r kind i k + clearFactor (termsWith p kind n bound) y r i k 0 * clearFactor (termsWith p kind n bound) y r i k 1) % p .modulus
+      ≡ clearRunning (termsWith p kind n bound) y r (suc i) k
   unfolding lookedAt clearFactor ruleOf weigh
   gate-clear zero i zero h a l =
       let x : ℕ = plainWeight p n bound y r 0 i 0 in

@@ -90,7 +90,8 @@ module _ {p : Params} (ok : Lawful (p .scale)) (bound : ℕ) (masked : ℕ → �
   pub sum-weight : (i k up : ℕ) → i < 5 → up ≤ 1 → value (p .scale .modulus) 1 v (vectorSum w c i k up) ≡ weigh (ruleOf (p .kind) i k) (limitOf (p .scale) i) (seen i k + up) (digit (p .scale) r i)
   unfolding vectorSum
   sum-weight i k up h l =
-      unit-sum (p .scale .modulus) v (base (p .scale) i) (vectorAt p c i) (digit (p .scale) r i) (weigh (ruleOf (p .kind) i k) (limitOf (p .scale) i) (seen i k + up)) (digit-below (p .scale) ok r i hr h)
+      unit-sum (p .scale .modulus) v (base (p .scale) i) (vectorAt p c i) (digit (p .scale) r i)
+      (weigh (ruleOf (p .kind) i k) (limitOf (p .scale) i) (seen i k + up)) (digit-below (p .scale) ok r i hr h)
       (λ j b. book .vector c i j here h b)
       (weight-below (p .scale) ok (p .kind) i k (seen i k + up) (digit (p .scale) r i) h (omega (arith, seen-below i k h)) (digit-below (p .scale) ok r i hr h))
 
@@ -102,7 +103,8 @@ module _ {p : Params} (ok : Lawful (p .scale)) (bound : ℕ) (masked : ℕ → �
     unfolding factorU clearFactor
     u-is k = go (eqb (p .kind) 0)
       where
-        go : (b : Bool) → value (p .scale .modulus) 1 v (cond b (reg (runningAt 0 c)) (reg (vectorAt p c i + seen i k))) ≡ cond b (clearRunning (termsFor p bound) y r i 0) (bit (eqb (digit (p .scale) r i) (seen i k)))
+        go : (b : Bool) → value (p .scale .modulus) 1 v (cond b (reg (runningAt 0 c)) (reg (vectorAt p c i + seen i k)))
+            ≡ cond b (clearRunning (termsFor p bound) y r i 0) (bit (eqb (digit (p .scale) r i) (seen i k)))
         go true = before 0 (omega arith)
         go false = book .vector c i (seen i k) here most (seen-below i k most) ∙ eq-swap (seen i k) (digit (p .scale) r i)
 
@@ -111,7 +113,8 @@ module _ {p : Params} (ok : Lawful (p .scale)) (bound : ℕ) (masked : ℕ → �
     v-is k l = go (eqb (p .kind) 0)
       where
         go : (b : Bool) → value (p .scale .modulus) 1 v (cond b (vectorSum w c i k 1 ⊟ vectorSum w c i k 0) (reg (runningAt k c)))
-            ≡ cond b (sub (p .scale .modulus) (weigh (ruleOf (p .kind) i k) (limitOf (p .scale) i) (seen i k + 1) (digit (p .scale) r i)) (plainWeight (p .scale) (p .n) bound y r (p .kind) i k)) (clearRunning (termsFor p bound) y r i k)
+            ≡ cond b (sub (p .scale .modulus) (weigh (ruleOf (p .kind) i k) (limitOf (p .scale) i) (seen i k + 1) (digit (p .scale) r i))
+            (plainWeight (p .scale) (p .n) bound y r (p .kind) i k)) (clearRunning (termsFor p bound) y r i k)
         go true = rw (sum-weight i k 1 most (omega arith), sum-plain i k most)
         go false = before k l
 

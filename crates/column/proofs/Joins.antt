@@ -76,7 +76,8 @@ module _ (T : Terms) (keys0 keys1 w₁ w₂ plain : List ℕ) (pos : 0 < T .para
 
   module _ (most : (T .params .n) ≤ 8) (opened : ℕ → ℕ) where
     stepped-joins : (masked : ℕ → ℕ) (c i : ℕ) → c < length m → let w = publicOf T masked in
-        Adds (T .params .scale .modulus) (getD m c 0) (stepped w round opened (getD κ₁ c 0) (column w₁ c) i) (stepped w round opened (getD κ₂ c 0) (column w₂ c) i) (stepped w round opened 1 (column plain 0) i)
+        Adds (T .params .scale .modulus) (getD m c 0) (stepped w round opened (getD κ₁ c 0) (column w₁ c) i)
+        (stepped w round opened (getD κ₂ c 0) (column w₂ c) i) (stepped w round opened 1 (column plain 0) i)
     stepped-joins masked c i h =
         let w = publicOf T masked in
         join-put 1336 (T .params .n) _ _ _ (join-put 1328 (T .params .n) _ _ _ (joined c h) (λ x. join-value pos (joined c h) (running w round opened 0 x)))

@@ -130,7 +130,8 @@ module _ {T : Terms} {k : ℕ} {draw secret : List ℕ} (s : Sound T k draw secr
   bound-settled e =
       let g : 0 < groups (T .params) = rw e (omega arith) in
       let sum : ℕ = sumTo (T .params .n) (λ (c : ℕ). insideResult (T .params .scale) (T .bound) (y c) (r c)) in
-      let x : value (T .params .scale .modulus) 1 (R 5) (checkEntry w 0 (O 5 0)) ≡ checkResult (T .params .scale .modulus) (T .params .n) (ρ 0) (checkOpens (T .params .scale .modulus) (T .params .n) (ρ 0) ((T .params .n) - sum)) = entry 0 g ∙ (unfold clearChecked in rw e) in
+      let x : value (T .params .scale .modulus) 1 (R 5) (checkEntry w 0 (O 5 0)) ≡ checkResult (T .params .scale .modulus) (T .params .n) (ρ 0)
+      (checkOpens (T .params .scale .modulus) (T .params .n) (ρ 0) ((T .params .n) - sum)) = entry 0 g ∙ (unfold clearChecked in rw e) in
       let l : length secret ≡ T .params .n = s .secret-size in
       settled 0 (some s)
       ∙ rw e x
@@ -183,7 +184,8 @@ module _ {T : Terms} {k : ℕ} {draw secret : List ℕ} (s : Sound T k draw secr
   unfolding plainOpened openedFrom openings opening
   answer-plain = go (eqb (T .params .kind) 0) refl
     where
-      go : (b : Bool) → eqb (T .params .kind) 0 ≡ b → listTo (cond b (T .params .n) 1) (λ (o : ℕ). R 6 (runningAt 0 o)) ≡ cond b (map (highPart (T .params .scale)) secret) (verdict (T .params .scale .modulus) (T .bound) secret ∷ [])
+      go : (b : Bool) → eqb (T .params .kind) 0 ≡ b → listTo (cond b (T .params .n) 1) (λ (o : ℕ). R 6 (runningAt 0 o))
+          ≡ cond b (map (highPart (T .params .scale)) secret) (verdict (T .params .scale .modulus) (T .bound) secret ∷ [])
       go true e =
           let l : length secret ≡ T .params .n = s .secret-size in
           listTo-cong (T .params .n) _ (λ (c : ℕ). highPart (T .params .scale) (getD secret c 0)) (λ c h. high-settled e c h) ∙ (rw l at (map-is (highPart (T .params .scale)) secret))

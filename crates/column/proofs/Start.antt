@@ -93,7 +93,9 @@ module _ {T : Terms} {k : ℕ} {draw secret : List ℕ} (s : Sound T k draw secr
   step-running t j c l h = step-is t (runningAt j c) ∙ go j l
     where
       go : (j : ℕ) → j < 2 → updated (updated (regs t) 1328 (T .params .n) (next t 0)) 1336 (T .params .n) (next t 1) (runningAt j c) ≡ next t j c
-      go zero l = updated-before (updated (regs t) 1328 (T .params .n) (next t 0)) 1336 (T .params .n) (next t 1) (1328 + c) (omega (arith, few)) ∙ updated-at (regs t) 1328 (T .params .n) (next t 0) c h
+      go zero l =
+          updated-before (updated (regs t) 1328 (T .params .n) (next t 0)) 1336 (T .params .n) (next t 1) (1328 + c) (omega (arith, few))
+          ∙ updated-at (regs t) 1328 (T .params .n) (next t 0) c h
       go (suc zero) l = updated-at (updated (regs t) 1328 (T .params .n) (next t 0)) 1336 (T .params .n) (next t 1) c h
       go (suc (suc j)) l = absurd (omega arith)
 

@@ -42,7 +42,8 @@ fn openings_of(settings: Settings, round: u32) -> usize
 pub fn prepare(out: &mut [u32], work: &[u32], col: Column, known: Known)
     requires { ⌜ Ready (known .settings) ⌝ }
     requires { ⌜ (1 ≤ known .round) × (known .round ≤ rounds) × ((col .index + 1) * places ≤ length (now work)) × (openings (paramsOf (known .settings .shape)) (known .round) ≤ length (now out)) ⌝ }
-    ensures { λ _. ⌜ now (out .exit) ≡ fill (now (out .entry)) 0 (openings (paramsOf (known .settings .shape)) (known .round)) (openingOn (publicIn known) (known .round) (col .weight) (column (now (work .entry)) (col .index))) ⌝ }
+    ensures { λ _. ⌜ now (out .exit) ≡ fill (now (out .entry)) 0 (openings (paramsOf (known .settings .shape)) (known .round))
+        (openingOn (publicIn known) (known .round) (col .weight) (column (now (work .entry)) (col .index))) ⌝ }
 {
     let count = openings_of(known.settings, known.round);
     let mut o = 0;
@@ -53,26 +54,34 @@ pub fn prepare(out: &mut [u32], work: &[u32], col: Column, known: Known)
     }
 }
 
-// Running registers k of all coefficients after the round, in front of `out`.
-fn running_into(out: &mut [u32], work: &[u32], col: Column, known: Known, opened: &[u32], k: usize)
+// The first (which = 0) or second (1) running registers of all coefficients after the round, in front of `out`.
+fn running_into(
+    out: &mut [u32],
+    work: &[u32],
+    col: Column,
+    known: Known,
+    opened: &[u32],
+    which: usize,
+)
     requires { ⌜ Ready (known .settings) ⌝ }
-    requires { ⌜ ((col .index + 1) * places ≤ length (now work)) × (1 ≤ known .round) × (k < 2) × (known .settings .shape .n ≤ length (now out)) ⌝ }
+    requires { ⌜ ((col .index + 1) * places ≤ length (now work)) × (1 ≤ known .round) × (which < 2) × (known .settings .shape .n ≤ length (now out)) ⌝ }
     requires { ⌜ (openings (paramsOf (known .settings .shape)) (known .round) ≤ length (now opened)) × ((o : ℕ) → getD (now opened) o 0 < q) ⌝ }
-    ensures { λ _. ⌜ now (out .exit) ≡ fill (now (out .entry)) 0 (known .settings .shape .n) (runningOn (publicIn known) (known .round) (λ (o : ℕ). getD (now (opened .entry)) o 0) (col .weight) (column (now (work .entry)) (col .index)) k) ⌝ }
+    ensures { λ _. ⌜ now (out .exit) ≡ fill (now (out .entry)) 0 (known .settings .shape .n)
+        (runningOn (publicIn known) (known .round) (λ (o : ℕ). getD (now (opened .entry)) o 0) (col .weight) (column (now (work .entry)) (col .index)) which) ⌝ }
 {
     let n = known.settings.shape.n as usize;
-    let mut c = 0;
-    while c < n {
-        let x = running_value(work, col, known, opened, k, c);
-        out[c] = x;
-        c += 1;
+    let mut j = 0;
+    while j < n {
+        let x = running_value(work, col, known, opened, which, j);
+        out[j] = x;
+        j += 1;
     }
 }
 
 // The first n of the opened numbers, and 0 behind them.
 fn masked_opened(opened: &[u32], n: usize) -> [u32; 8]
     requires { ⌜ (n ≤ 8) × (n ≤ length (now opened)) ⌝ }
-    ensures { λ r. ⌜ ((c : ℕ) → c < n → getD r c 0 ≡ getD (now (opened .entry)) c 0) ⌝ }
+    ensures { λ r. ⌜ ((j : ℕ) → j < n → getD r j 0 ≡ getD (now (opened .entry)) j 0) ⌝ }
 {
     let mut ys = [0u32; 8];
     copy_numbers(&mut ys, 0, opened, 0, n);
@@ -89,10 +98,13 @@ fn put_column(
     second: &[u32],
 )
     requires { ⌜ Ready (known .settings) ⌝ }
-    requires { ⌜ ((col + 1) * places ≤ length (now work)) × (32 * (col + 1) ≤ length (now own)) × (known .settings .shape .n ≤ length (now first)) × (known .settings .shape .n ≤ length (now second)) ⌝ }
-    ensures { λ _. ⌜ now (work .exit) ≡ fill (fill (fill (now (work .entry)) (col * places + ownAt 0) (openings (paramsOf (known .settings .shape)) (known .round)) (λ (o : ℕ). getD (now (own .entry)) (32 * col + o) 0))
-        (col * places + runningAt 0 0) (known .settings .shape .n) (λ (c : ℕ). getD (now (first .entry)) c 0))
-        (col * places + runningAt 1 0) (known .settings .shape .n) (λ (c : ℕ). getD (now (second .entry)) c 0) ⌝ }
+    requires { ⌜ ((col + 1) * places ≤ length (now work)) × (32 * (col + 1) ≤ length (now own)) × (known .settings .shape .n ≤ length (now first))
+        × (known .settings .shape .n ≤ length (now second)) ⌝ }
+    ensures { λ _. ⌜ now (work .exit) ≡ fill (fill (fill
+        (now (work .entry)) (col * places + ownAt 0) (openings (paramsOf (known .settings .shape)) (known .round))
+        (λ (o : ℕ). getD (now (own .entry)) (32 * col + o) 0))
+        (col * places + runningAt 0 0) (known .settings .shape .n) (λ (j : ℕ). getD (now (first .entry)) j 0))
+        (col * places + runningAt 1 0) (known .settings .shape .n) (λ (j : ℕ). getD (now (second .entry)) j 0) ⌝ }
 {
     let start = col * PLACES;
     let n = known.settings.shape.n as usize;
@@ -124,7 +136,8 @@ fn take_columns(work: &mut [u32], known: Known, opened: &[u32], own: &[u32], wei
     requires { ⌜ (1 ≤ known .round) × (length (now work) ≡ length (now weights) * places) × (32 * length (now weights) ≤ length (now own)) ⌝ }
     requires { ⌜ (openings (paramsOf (known .settings .shape)) (known .round) ≤ length (now opened)) × ((o : ℕ) → getD (now opened) o 0 < q) ⌝ }
     requires { ⌜ HeldAll (publicIn known) (known .round) (now weights) (now work) (now own) ⌝ }
-    ensures { λ _. ⌜ now (work .exit) ≡ takenColumns (publicIn known) (known .round) (λ (o : ℕ). getD (now (opened .entry)) o 0) (now (weights .entry)) (now (work .entry)) (length (now (weights .entry))) ⌝ }
+    ensures { λ _. ⌜ now (work .exit) ≡ takenColumns (publicIn known) (known .round) (λ (o : ℕ). getD (now (opened .entry)) o 0) (now (weights .entry))
+        (now (work .entry)) (length (now (weights .entry))) ⌝ }
 {
     let mut i = 0;
     while i < weights.len() {

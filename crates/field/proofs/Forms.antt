@@ -68,22 +68,14 @@ join-value pos j (f ⊞ g) = add-join pos (join-value pos j f) (join-value pos j
 join-value pos j (f ⊟ g) = sub-join pos (join-value pos j f) (join-value pos j g)
 join-value pos j (k ⊠ f) = scale-join pos k (join-value pos j f)
 
--- the value depends only on the registers that the form reads
-abbrev pub Agree : Registers → Registers → Form → Type 0
-Agree r s (num k) = Unit {0}
-Agree r s (reg i) = r i ≡ s i
-Agree r s (sum n p w) = (j : ℕ) → j < n → r (p + j) ≡ s (p + j)
-Agree r s (f ⊞ g) = Agree r s f × Agree r s g
-Agree r s (f ⊟ g) = Agree r s f × Agree r s g
-Agree r s (k ⊠ f) = Agree r s f
-
-pub value-agree : (q κ : ℕ) (r s : Registers) (f : Form) → Agree r s f → value q κ r f ≡ value q κ s f
-value-agree q κ r s (num k) h = refl
-value-agree q κ r s (reg i) h = h
-value-agree q κ r s (sum n p w) h = ap (λ (x : ℕ). x % q) (sum-cong n (λ j. w j * r (p + j)) (λ j. w j * s (p + j)) (λ j l. ap (λ (x : ℕ). w j * x) (h j l)))
-value-agree q κ r s (f ⊞ g) h = rw (value-agree q κ r s f (h .0), value-agree q κ r s g (h .1))
-value-agree q κ r s (f ⊟ g) h = rw (value-agree q κ r s f (h .0), value-agree q κ r s g (h .1))
-value-agree q κ r s (k ⊠ f) h = rw (value-agree q κ r s f h)
+-- the value is below q, where the registers are
+pub value-below : (q κ : ℕ) (r : Registers) → 0 < q → ((i : ℕ) → r i < q) → (f : Form) → value q κ r f < q
+value-below q κ r pos h (num n) = mod-lt _ pos
+value-below q κ r pos h (reg i) = h i
+value-below q κ r pos h (sum n place weight) = mod-lt _ pos
+value-below q κ r pos h (f ⊞ g) = mod-lt _ pos
+value-below q κ r pos h (f ⊟ g) = mod-lt _ pos
+value-below q κ r pos h (n ⊠ f) = mod-lt _ pos
 
 cond-join : {q m a₁ a₂ a b₁ b₂ b : ℕ} (t : Bool) → Adds q m a₁ a₂ a → Adds q m b₁ b₂ b → Adds q m (cond t a₁ b₁) (cond t a₂ b₂) (cond t a b)
 cond-join true h k = h
@@ -96,15 +88,6 @@ join-put a n f₁ f₂ f j h =
     record { weight = j .weight; numbers = λ i. cond-join (ltb i a) (j .numbers i) (cond-join (ltb i (a + n)) (h (i - a)) (j .numbers i)) }
 
 -- ---- values, registers and shares
-
--- a value is reduced, or a register
-pub value-below : (m κ : ℕ) (r : Registers) → 0 < m → ((i : ℕ) → r i < m) → (f : Form) → value m κ r f < m
-value-below m κ r pos h (num k) = mod-lt _ pos
-value-below m κ r pos h (reg i) = h i
-value-below m κ r pos h (sum n place weight) = mod-lt _ pos
-value-below m κ r pos h (f ⊞ g) = mod-lt _ pos
-value-below m κ r pos h (f ⊟ g) = mod-lt _ pos
-value-below m κ r pos h (k ⊠ f) = mod-lt _ pos
 
 -- a sum against a vector that is 1 at d and 0 elsewhere
 pub unit-sum : (q : ℕ) (v : Registers) (n place d : ℕ) (f : ℕ → ℕ) → d < n → ((j : ℕ) → j < n → v (place + j) ≡ bit (eqb j d)) → f d < q → value q 1 v (sum n place f) ≡ f d

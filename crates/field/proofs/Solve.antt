@@ -7,16 +7,6 @@ use native.Mathlib.Omega.{arith}
 use Rattle.field.specs.Congruence.{_⊩_≈_}
 use Rattle.field.proofs.Congruence.{≈-refl, ≈-eq, ≈-sym, ≈-trans, ≈-add, ≈-mod, ≈-unmod, ≈-mult, ≈-cancel, ≈-set}
 
--- subtraction modulo q, before the last reduction
-abbrev pub minus : ℕ → ℕ → ℕ → ℕ
-minus q a b = a + (q - b % q)
-
-pub minus-add : (q a b : ℕ) → 0 < q → q ⊩ minus q a b + b ≈ a
-minus-add q a b pos =
-    let l : b % q < q = mod-lt b pos in
-    ≈-trans (≈-add (≈-refl (minus q a b)) (≈-sym (≈-mod b)))
-    (≈-trans (≈-eq (omega arith)) (≈-mult a 1))
-
 -- an expression: `at t` is any number t; `less` is q - 1, the coefficient -1; `neg a` is q - a % q; `red a` is a % q
 infixl 65 _⊕_ _⊖_
 infixl 70 _⊗_

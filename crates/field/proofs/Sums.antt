@@ -15,16 +15,6 @@ unfolding sumTo
 sum-cong zero f g h = refl
 sum-cong (suc n) f g h = ap₂ _+_ (sum-cong n f g (λ j l. h j (omega arith))) (h n (omega arith))
 
-pub sum-add : (n : ℕ) (f g : ℕ → ℕ) → sumTo n (λ j. f j + g j) ≡ sumTo n f + sumTo n g
-unfolding sumTo
-sum-add zero f g = refl
-sum-add (suc n) f g = omega (arith, sum-add n f g)
-
-pub sum-scale : (n m : ℕ) (f : ℕ → ℕ) → sumTo n (λ j. m * f j) ≡ m * sumTo n f
-unfolding sumTo
-sum-scale zero m f = omega arith
-sum-scale (suc n) m f = omega (arith, sum-scale n m f)
-
 pub sum-zero : (n : ℕ) (f : ℕ → ℕ) → ((j : ℕ) → j < n → f j ≡ 0) → sumTo n f ≡ 0
 unfolding sumTo
 sum-zero zero f h = refl

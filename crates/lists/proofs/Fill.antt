@@ -62,22 +62,6 @@ front-at s n f k r h = rw zero-add at (fill-at s 0 n f k (omega arith) h)
 pub front-behind : (s : List ℕ) (n : ℕ) (f : ℕ → ℕ) (j : ℕ) → n ≤ j → getD (fill s 0 n f) j 0 ≡ getD s j 0
 front-behind s n f j h = fill-behind s 0 n f j (omega arith)
 
--- ---- any place of it
-
--- place j of a list with a run replaced
-abbrev pub inRun : List ℕ → ℕ → ℕ → (ℕ → ℕ) → ℕ → ℕ
-inRun s i n f j = cond (ltb j i) (getD s j 0) (cond (ltb j (i + n)) (f (j - i)) (getD s j 0))
-
-pub getD-fill : (s : List ℕ) (i n : ℕ) (f : ℕ → ℕ) → i + n ≤ length s → (j : ℕ) → getD (fill s i n f) j 0 ≡ inRun s i n f j
-getD-fill s i n f r j = go (decLt j i) (decLt j (i + n))
-  where
-    go : Dec (j < i) → Dec (j < i + n) → getD (fill s i n f) j 0 ≡ inRun s i n f j
-    go (yes a) d = rw (lt-ltb j i a) (fill-before s i n f j a)
-    go (no a) (yes b) =
-        let e : i + (j - i) ≡ j = omega arith in
-        rw (le-ltb j i (omega arith), lt-ltb j (i + n) b) (rw e at (fill-at s i n f (j - i) r (omega arith)))
-    go (no a) (no b) = rw (le-ltb j i (omega arith), le-ltb j (i + n) (omega arith)) (fill-behind s i n f j (omega arith))
-
 -- ---- written in front: a list by its index function, and then what stood there
 
 drop-fill : (s : List ℕ) (n m : ℕ) (f : ℕ → ℕ) → n ≤ m → drop m (fill s 0 n f) ≡ drop m s

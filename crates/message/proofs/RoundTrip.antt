@@ -116,7 +116,9 @@ header-tells h h′ f l f′ l′ e =
     let k = last-part (2 ^ 1) _ _ _ _ (f .settings-fit .shape .kinds) (f′ .settings-fit .shape .kinds) (d .0) in
     let s = last-part (2 ^ 1) _ _ _ _ (f .settings-fit .shape .sets) (f′ .settings-fit .shape .sets) (k .0) in
     let same : h .settings .shape .n ≡ h′ .settings .shape .n = some-less _ _ (f .settings-fit .shape .some) (f′ .settings-fit .shape .some) (d .1) in
-    let made : h ≡ header-of (h′ .sender) (h′ .settings .shape .set) (h′ .settings .shape .kind) (h′ .settings .shape .n) (h′ .settings .bound) (h′ .round) (h′ .serial) = rw (← s .0, ← s .1, ← k .1, ← same, ← b .1, ← c .1, ← a .1) in made
+    let made : h ≡ header-of (h′ .sender) (h′ .settings .shape .set) (h′ .settings .shape .kind) (h′ .settings .shape .n)
+    (h′ .settings .bound) (h′ .round) (h′ .serial) = rw (← s .0, ← s .1, ← k .1, ← same, ← b .1, ← c .1, ← a .1) in
+    made
   where
     header-of : ℕ → ℕ → ℕ → ℕ → ℕ → ℕ → ℕ → Header
     header-of sender set kind n bound round serial = headerWith sender (record { shape = record { set = set; kind = kind; n = n }; bound = bound }) round serial

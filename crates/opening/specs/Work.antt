@@ -39,12 +39,12 @@ inTurn sent x = getD sent (mostOpenings * (x % (1 + keyCount)) + x / (1 + keyCou
 unfoldable pub joinedAt : Side → List ℕ → List ℕ → ℕ → ℕ
 joinedAt s own msg o = add q (getD own o 0) (incoming keyCount s msg o 0)
 
--- its check under key i, and under all keys
+-- its check under one key, and under all keys
 unfoldable pub partAt : Side → List ℕ → List ℕ → List ℕ → ℕ → ℕ → Bool
-partAt s own msg numbers o i =
+partAt s own msg numbers o key =
     eqb
-    (add q (getD own (mostOpenings * partColumn keyCount (s .number) i + o) 0) (incoming keyCount s msg o (1 + i)))
-    (mul q (getD (s .keys) i 0) (getD numbers o 0))
+    (add q (getD own (mostOpenings * partColumn keyCount (s .number) key + o) 0) (incoming keyCount s msg o (1 + key)))
+    (mul q (getD (s .keys) key 0) (getD numbers o 0))
 
 unfoldable pub checkedAt : Side → List ℕ → List ℕ → List ℕ → ℕ → Bool
 checkedAt s own msg numbers o = allTo keyCount (partAt s own msg numbers o)

@@ -41,7 +41,7 @@ mostFields k = mostOpenings * (1 + k)
 
 -- the openings of the first rounds
 unfoldable pub openingsUpTo : Params → ℕ → ℕ
-openingsUpTo p rounds = sumTo rounds (λ (r : ℕ). openings p (r + 1))
+openingsUpTo p rounds = sumTo rounds (λ (before : ℕ). openings p (before + 1))
 
 -- "sender 1 bit, set 1, kind 1, N − 1 in 3, round 3, B 23, serial 32"
 abbrev pub headerBits : ℕ

@@ -11,5 +11,5 @@ unfoldable pub loaded : ℕ → ℕ → ℕ → List ℕ → List ℕ → List �
 loaded count n width inputs book work zero = work
 loaded count n width inputs book work (suc c) =
     fill
-    (fill (loaded count n width inputs book work c) (c * places) count (λ (i : ℕ). getD book (i * width + c) 0))
-    (c * places + inputAt 0) n (λ (i : ℕ). getD inputs (i * width + c) 0)
+    (fill (loaded count n width inputs book work c) (c * places) count (λ (e : ℕ). getD book (e * width + c) 0))
+    (c * places + inputAt 0) n (λ (j : ℕ). getD inputs (j * width + c) 0)

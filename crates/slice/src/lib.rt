@@ -127,7 +127,7 @@ pub fn weights_of(number: u32, keys: [u32; KEYS]) -> [u32; WIDTH]
 // The masked numbers that the slice holds.
 pub fn masked_in(work: &[u32]) -> [u32; 8]
     requires { ⌜ places ≤ length (now work) ⌝ }
-    ensures { λ r. ⌜ ((c : ℕ) → getD r c 0 ≡ maskedIn (now (work .entry)) c) ⌝ }
+    ensures { λ r. ⌜ ((j : ℕ) → getD r j 0 ≡ maskedIn (now (work .entry)) j) ⌝ }
 {
     let mut ys = [0u32; 8];
     copy_numbers(&mut ys, 0, work, MASKED, 8);
@@ -179,7 +179,7 @@ pub fn register(work: &[u32], col: usize, i: usize) -> u32
 // Entries `from` to `to` of the vector at a place, each once. Sums are reduced once.
 fn part_sum(work: &[u32], col: usize, place: usize, from: usize, to: usize) -> u32
     requires { ⌜ ((col + 1) * places ≤ length (now work)) × (place + to ≤ ownAt 0) × (to ≤ 64) × (from ≤ 64) ⌝ }
-    ensures { λ r. ⌜ r ≡ sumTo (to - from) (λ (j : ℕ). column (now (work .entry)) col (place + (from + j))) % q ⌝ }
+    ensures { λ r. ⌜ r ≡ sumTo (to - from) (λ (x : ℕ). column (now (work .entry)) col (place + (from + x))) % q ⌝ }
 {
     let mut total: u64 = 0;
     let mut j = from;
@@ -190,10 +190,10 @@ fn part_sum(work: &[u32], col: usize, place: usize, from: usize, to: usize) -> u
     (total % Q64) as u32
 }
 
-// The n entries of the vector at a place, entry j times t(j + d).
+// The n entries of the vector at a place, entry x times t(x + d).
 fn top_sum(work: &[u32], col: usize, place: usize, n: usize, s: u32, d: u32) -> u32
     requires { ⌜ ((col + 1) * places ≤ length (now work)) × (place + n ≤ ownAt 0) × (n ≤ 64) × (d ≤ 65536) ⌝ }
-    ensures { λ r. ⌜ r ≡ sumTo n (λ (j : ℕ). top s (j + d) * column (now (work .entry)) col (place + j)) % q ⌝ }
+    ensures { λ r. ⌜ r ≡ sumTo n (λ (x : ℕ). top s (x + d) * column (now (work .entry)) col (place + x)) % q ⌝ }
 {
     let mut total: u64 = 0;
     let mut j = 0;
@@ -204,7 +204,7 @@ fn top_sum(work: &[u32], col: usize, place: usize, n: usize, s: u32, d: u32) -> 
     (total % Q64) as u32
 }
 
-// The entry j below b with (j + d) mod b = 0.
+// The entry x below b with (x + d) mod b = 0.
 fn zero_entry(b: u32, d: u32) -> usize
     requires { ⌜ (1 ≤ b) × (d ≤ b) ⌝ }
     ensures { λ r. ⌜ (r < b) × ((r + d ≡ 0) ⊎ (r + d ≡ b)) ⌝ }
@@ -237,17 +237,17 @@ pub fn weighted_sum(work: &[u32], col: usize, terms: Weighted) -> u32
 }
 
 // An entry of the vector of n at a place, or 0 behind its end.
-fn entry_at(work: &[u32], col: usize, place: usize, n: usize, j: usize) -> u32
+fn entry_at(work: &[u32], col: usize, place: usize, n: usize, x: usize) -> u32
     requires { ⌜ ((col + 1) * places ≤ length (now work)) × (place + n ≤ ownAt 0) ⌝ }
-    ensures { λ r. ⌜ r ≡ cond (ltb j n) (column (now (work .entry)) col (place + j)) 0 % q ⌝ }
+    ensures { λ r. ⌜ r ≡ cond (ltb x n) (column (now (work .entry)) col (place + x)) 0 % q ⌝ }
 {
-    if j < n {
-        return register(work, col, place + j) % Q;
+    if x < n {
+        return register(work, col, place + x) % Q;
     }
     0
 }
 
-// The entry j with j + d = b, or n if there is none.
+// The entry x with x + d = b, or n if there is none.
 fn back_from(b: u32, d: u32, n: usize) -> usize
     ensures { λ r. ⌜ r ≡ cond (leb d b) (b - d) n ⌝ }
 {

@@ -7,7 +7,6 @@ use Prim.Native.Nat.{_≤_, _-_, _*_}
 use mathlib.Core.Path.{_≡_, refl, sym}
 use native.Mathlib.Omega.{arith}
 use borrow.Author.Needs.{needs}
-use lib.ListN.{set}
 use Rattle.dealer.proofs.deal_triples.Statement.{statement}
 use Rattle.dealer.proofs.deal_triples.Tie as tie
 

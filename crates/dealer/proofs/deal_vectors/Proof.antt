@@ -9,7 +9,6 @@ use Prim.Native.Nat.{_≤_, _-_}
 use mathlib.Core.Path.{_≡_, refl, sym, _∙_}
 use native.Mathlib.Omega.{arith}
 use borrow.Author.Needs.{needs}
-use lib.ListN.{set}
 use Rattle.dealer.proofs.deal_vectors.Statement.{statement}
 use Rattle.dealer.proofs.deal_vectors.Tie as tie
 

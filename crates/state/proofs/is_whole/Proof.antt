@@ -1,8 +1,7 @@
 -- `state::is_whole` meets its contract.
 use borrow.Author.Needs.{needs}
 use mathlib.Core.Path.{_∙_, sym}
-use native.Mathlib.Omega.{arith}
-use borrow.Author.Tests.{not-true, not-false, lt-leb, le-leb}
+use borrow.Author.Tests.{not-true, not-false, le-leb}
 use Rattle.lists.proofs.Questions.{walk}
 use Rattle.state.proofs.States.{broken-settings, broken-keys, whole-last}
 use Rattle.state.proofs.is_whole.Statement.{statement}

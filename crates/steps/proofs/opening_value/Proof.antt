@@ -34,7 +34,11 @@ returns-2 : tie.Need-returns-2
 unfolding opening
 returns-2 c =
     let a = c .before .before .before .before .before .args in
-    rw (ne-eqb _ _ (c .before .before .before .if1 .left), le-leb _ _ (c .before .before .if2 .taken), ← open-factor-at (a .known .settings) (λ (j : ℕ). getD (a .known .masked) j 0) (a .o / 4) (a .known .round - 1) (a .o / 2 % 2) (a .o % 2)) (c .open-factor .ensures _)
+    rw (
+      ne-eqb _ _ (c .before .before .before .if1 .left),
+      le-leb _ _ (c .before .before .if2 .taken),
+      ← open-factor-at (a .known .settings) (λ (j : ℕ). getD (a .known .masked) j 0) (a .o / 4) (a .known .round - 1) (a .o / 2 % 2) (a .o % 2),
+    ) (c .open-factor .ensures _)
 
 open-check-requires : tie.Need-open-check-requires
 open-check-requires c κs =
