@@ -13,7 +13,6 @@ use Rattle.lists.proofs.Indicators.{eq-one, eq-zero}
 use Rattle.field.specs.Field.{sub}
 use Rattle.field.specs.Sums.{sumTo}
 use Rattle.field.specs.Forms.{Registers, value}
-use Rattle.field.proofs.Division.{mod-sub}
 use Rattle.field.proofs.Sums.{sum-most, sum-front}
 use Rattle.field.proofs.Differences.{less-is}
 use Rattle.settings.specs.Settings.{Params, paramsWith}

@@ -12,7 +12,7 @@ use lib.ListN.{length, getD}
 use Rattle.lists.specs.Answers.{bit}
 use Rattle.lists.specs.Lists.{listFrom, listTo}
 use Rattle.lists.proofs.Indicators.{bit-le}
-use Rattle.lists.proofs.Lists.{listTo-cong, listTo-getD, map-is}
+use Rattle.lists.proofs.Lists.{listTo-cong, map-is}
 use Rattle.field.specs.Field.{sub}
 use Rattle.field.specs.Sums.{sumTo}
 use Rattle.field.specs.Forms.{Registers, value}

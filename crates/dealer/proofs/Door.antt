@@ -64,4 +64,11 @@ module _ (a : Shape) (factors keys0 keys1 draw server phone : List ℕ) (passes 
   unfolding dealCall serverBook phoneBook serverFor phoneFor
   dealt server′ phone′ at f w =
       let l = ready in
-      rw (← passes, ← f, w .server-is, w .phone-is, dealt-whole server (serverFor orderOf draw) (sharedFor orderOf) (l .server-size), dealt-whole phone (phoneFor orderOf draw) (sharedFor orderOf) (l .phone-size))
+      rw (
+        ← passes,
+        ← f,
+        w .server-is,
+        w .phone-is,
+        dealt-whole server (serverFor orderOf draw) (sharedFor orderOf) (l .server-size),
+        dealt-whole phone (phoneFor orderOf draw) (sharedFor orderOf) (l .phone-size),
+      )

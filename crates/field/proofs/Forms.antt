@@ -11,7 +11,7 @@ use Rattle.field.specs.Sums.{sumTo}
 use Rattle.field.specs.Forms.{Registers, Form, num, reg, sum, _⊞_, _⊟_, _⊠_, value, Adds, Join, updated}
 use Rattle.field.proofs.Congruence.{≈-refl, ≈-eq, ≈-sym, ≈-trans, ≈-add, ≈-mul, ≈-mod, ≈-unmod, ≈-set, ≈-lt, ≈-cancel}
 use Rattle.field.proofs.Solve.{at, _⊕_, _⊖_, _⊗_, red, solve-by}
-use Rattle.field.proofs.Sums.{sum-cong, select}
+use Rattle.field.proofs.Sums.{select}
 use borrow.Author.Tests.{lt-ltb, le-ltb}
 use Rattle.lists.specs.Answers.{bit}
 use Rattle.lists.proofs.Indicators.{eq-one, eq-zero}

@@ -67,7 +67,7 @@ module _ (k : ℕ) (s : Settings) (serial : ℕ) (numbers : ℕ → List ℕ)
       (one-call k s serial numbers h (y .which) (y .kept) (y .handed) (w .observer) (i .observer) _ (heard-by k s serial numbers h o y (z .which))
       (c .observer) (sentOf (o .number) (c .peer)) (p .own-most) (rw faces (p .own-after)) (rw faces most) call)
 
-  other-call : (c : Counts) → Pace (h .number) (c .observer) (c .peer) → (call : Call) → let c′ = stepCounts k s (h .number) c peer call in
+  pub other-call : (c : Counts) → Pace (h .number) (c .observer) (c .peer) → (call : Call) → let c′ = stepCounts k s (h .number) c peer call in
       Leaves (outcome k s serial o (jointAt k s serial numbers h o w c .observer .latest) (jointAt k s serial numbers h o w c .peer) call)
       (jointAt k s serial numbers h o w c′ .peer) (ltb (c .peer) (c′ .peer))
   unfolding stepCounts jointAt

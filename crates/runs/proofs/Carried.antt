@@ -46,7 +46,7 @@ near (sent e l) = (omega arith, omega arith)
 near (took e l i) = (omega arith, omega arith)
 
 module _ (k : ℕ) (s : Settings) (number : ℕ) where
-  next-near : (heard : ℕ) (call : Call) (c : ℕ) → (c ≤ next k s number heard call c) × (next k s number heard call c ≤ suc c)
+  pub next-near : (heard : ℕ) (call : Call) (c : ℕ) → (c ≤ next k s number heard call c) × (next k s number heard call c ≤ suc c)
   next-near heard call c = near (next-moved k s number heard call c)
 
   -- the same call, with as much room and as many messages at least

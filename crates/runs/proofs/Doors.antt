@@ -78,7 +78,12 @@ module _ (k : ℕ) (s : Settings) (serial : ℕ) (h : PartyInput) (m : List ℕ)
   unfolding outcome sendCall
   send-go out e =
       record {
-        state-is = rw (e, ← message-sized k (x .side) (x .work), take-at (message k (x .side) (x .work)) (drop (length (message k (x .side) (x .work))) out) (length (message k (x .side) (x .work))) refl);
+        state-is = rw (
+          e,
+          ← message-sized k (x .side) (x .work),
+          take-at (message k (x .side) (x .work)) (drop (length (message k (x .side) (x .work))) out)
+              (length (message k (x .side) (x .work))) refl,
+        );
         went-is = rw e;
       }
 

@@ -41,12 +41,12 @@ unfolding headerNumber
 next-header sender s round serial e = omega (arith, e)
 
 -- a message of the round before is told by length or header
-pub result : (k sender : ℕ) (s : Settings) (serial : ℕ) (msg : List ℕ) (round : ℕ)
+pub of-another-round : (k sender : ℕ) (s : Settings) (serial : ℕ) (msg : List ℕ) (round : ℕ)
     → length msg ≡ messageLength k (paramsIn s) round
     → headerIn (fieldCount k (paramsIn s) round) msg ≡ headerNumber (headerWith sender s round serial)
     → (eqb (length msg) (messageLength k (paramsIn s) (suc round))
     && eqb (headerIn (fieldCount k (paramsIn s) (suc round)) msg) (headerNumber (headerWith sender s (suc round) serial))) ≡ false
-result k sender s serial msg round l h = by (eqb (length msg) (messageLength k (paramsIn s) (suc round))) refl
+of-another-round k sender s serial msg round l h = by (eqb (length msg) (messageLength k (paramsIn s) (suc round))) refl
   where
     by : (d : Bool) → eqb (length msg) (messageLength k (paramsIn s) (suc round)) ≡ d
         → (eqb (length msg) (messageLength k (paramsIn s) (suc round)) && eqb (headerIn (fieldCount k (paramsIn s) (suc round)) msg) (headerNumber (headerWith sender s (suc round) serial))) ≡ false

@@ -27,7 +27,7 @@ use Rattle.runs.specs.Progress.{sideAt, partyAt}
 use Rattle.runs.specs.Honest.{Meets}
 use Rattle.runs.proofs.Doors.{Leaves, Sound, send-go, send-stay, send-not, send-due, take-go, take-stay, take-not, take-due, begin-spent}
 use Rattle.runs.proofs.PartyStates.{Which, FieldsPass, state, slice, send-in, take-in, at-send, at-take, at-end, which-below}
-use Rattle.runs.proofs.Laws.{result}
+use Rattle.runs.proofs.Laws.{of-another-round}
 
 -- a no by length or header is neither 0 nor 13
 pub late-0 : (a b : Bool) (rest : ℕ) → (a && b) ≡ false → eqb (ask a 10 (ask b 11 rest)) 0 ≡ false
@@ -81,7 +81,7 @@ module _ (k : ℕ) (s : Settings) (serial : ℕ) (numbers : ℕ → List ℕ) (h
   -- one of the round before has not
   pub late : (messages : ℕ → List ℕ) → Heard messages → (R : ℕ) → R < rounds → isOf (suc R) (messages (suc R)) ≡ false
   late messages z R r =
-      result k (1 - h .number) s serial (messages (suc R)) (suc R) (z .sized R r) (z .meets .header R r)
+      of-another-round k (1 - h .number) s serial (messages (suc R)) (suc R) (z .sized R r) (z .meets .header R r)
 
   module _ (u : Which h) (v : Kept) where
     abbrev pub at : ℕ → PartyState

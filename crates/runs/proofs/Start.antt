@@ -23,9 +23,9 @@ use Rattle.book.specs.Book.{bookValue}
 use Rattle.book.specs.Books.{multipliers, serverBook, phoneBook}
 use Rattle.book.specs.Theorems.{Books}
 use Rattle.slice.specs.Layout.{column, maskedIn, begunPlace, begunWork}
+use Rattle.slice.proofs.Begun.{begun-length, begun-at}
 use Rattle.column.specs.Run.{plainBook, plainStart}
 use Rattle.column.specs.Theorems.{JoinedWork}
-use Rattle.column.proofs.Begun.{begun-length, begun-at}
 use Rattle.runs.specs.Records.{missingShares}
 
 -- ---- Inputs: what is missing to the secret

@@ -14,7 +14,7 @@ use Rattle.runs.proofs.Runs.{runs}
 
 module _ (k : ℕ) where
   -- the honest run, by ColumnsJoin, messages and books
-  honest : Runs k
+  pub honest : Runs k
   honest = runs k work-joins round-trip laws
 
   pub progress : Progress k

@@ -1,5 +1,5 @@
 -- The weights of the columns, and the numbers that a slice keeps, as the code has them.
-use mathlib.Core.Path.{_≡_, _∙_}
+use mathlib.Core.Path.{_≡_}
 use mathlib.Core.Bool.{Bool, true, false, cond}
 use mathlib.Core.List.{List, _∷_, _++_}
 use Prim.Native.Nat.{ℕ, _+_, _*_, _<_}
@@ -28,7 +28,10 @@ masked-is work z ys h e c = go (decLt c 8)
   where
     go : Dec (c < 8) → getD ys c 0 ≡ cond (ltb c 8) (getD work (1376 + c) 0) 0
     go (yes p) = rw (lt-ltb c 8 p, e) (front-at z 8 (λ (j : ℕ). getD work (1376 + j) 0) c (omega arith) p)
-    go (no p) = rw (le-ltb c 8 (omega arith), e) (List·getD-eq-default (fill z 0 8 (λ (j : ℕ). getD work (1376 + j) 0)) 0 {n = c} (omega (arith, length-fill z 0 8 (λ (j : ℕ). getD work (1376 + j) 0))))
+    go (no p) =
+        rw (le-ltb c 8 (omega arith), e)
+        (List·getD-eq-default (fill z 0 8 (λ (j : ℕ). getD work (1376 + j) 0)) 0 {n = c}
+        (omega (arith, length-fill z 0 8 (λ (j : ℕ). getD work (1376 + j) 0))))
 
 -- own numbers copied from the slice
 pub own-is : (work out : List ℕ) (c n : ℕ) → fill out 0 n (λ (j : ℕ). getD work (c * 1536 + 1344 + j) 0) ≡ fill out 0 n (ownIn work c)

@@ -6,37 +6,38 @@ use native.Mathlib.Omega.{arith}
 use native.Mathlib.Decide.{decLt}
 use borrow.Author.Tests.{lt-ltb, le-ltb, ne-eqb}
 use lib.ListN.{length, take, drop, length-take, length-drop}
-use Rattle.stream.specs.Stream.{lineLength, heldAfter, heldOf, atLine, nextLine}
+use Rattle.lists.specs.Lists.{lengthBefore}
+use Rattle.lists.proofs.Bytes.{length-before-most}
+use Rattle.stream.specs.Stream.{heldAfter, heldOf, atLine, nextLine}
 use Rattle.stream.specs.declared.Stream.{Stream}
 use Rattle.stream.specs.Theorems.{State, afterCall, afterCalls}
-use Rattle.stream.proofs.Onto.{length-line}
 
 module _ (s : Stream) (kept bytes : List ℕ) where
   -- a call uses one byte at least, and no more than there are
   pub some-used : 0 < length bytes → 0 < nextLine s kept bytes .used
   unfolding nextLine
-  some-used h = go (decLt (lineLength bytes) (length bytes))
+  some-used h = go (decLt (lengthBefore 10 bytes) (length bytes))
     where
-      go : Dec (lineLength bytes < length bytes) → 0 < nextLine s kept bytes .used
-      go (yes l) = rw (lt-ltb (lineLength bytes) (length bytes) l) (omega arith)
-      go (no l) = rw (le-ltb (lineLength bytes) (length bytes) (omega arith)) (omega arith)
+      go : Dec (lengthBefore 10 bytes < length bytes) → 0 < nextLine s kept bytes .used
+      go (yes l) = rw (lt-ltb (lengthBefore 10 bytes) (length bytes) l) (omega arith)
+      go (no l) = rw (le-ltb (lengthBefore 10 bytes) (length bytes) (omega arith)) (omega arith)
 
   pub used-fits : nextLine s kept bytes .used ≤ length bytes
   unfolding nextLine
-  used-fits = go (decLt (lineLength bytes) (length bytes))
+  used-fits = go (decLt (lengthBefore 10 bytes) (length bytes))
     where
-      go : Dec (lineLength bytes < length bytes) → nextLine s kept bytes .used ≤ length bytes
-      go (yes l) = rw (lt-ltb (lineLength bytes) (length bytes) l) (omega arith)
-      go (no l) = rw (le-ltb (lineLength bytes) (length bytes) (omega arith)) (length-line bytes)
+      go : Dec (lengthBefore 10 bytes < length bytes) → nextLine s kept bytes .used ≤ length bytes
+      go (yes l) = rw (lt-ltb (lengthBefore 10 bytes) (length bytes) l) (omega arith)
+      go (no l) = rw (le-ltb (lengthBefore 10 bytes) (length bytes) (omega arith)) (length-before-most 10 bytes)
 
   -- no more bytes are held than have room
   pub held-fits : nextLine s kept bytes .stream .held ≤ length kept
   unfolding nextLine
-  held-fits = go (decLt (lineLength bytes) (length bytes)) (omega (arith, length-take (length kept) (heldOf (atLine s) kept ++ take (lineLength bytes) bytes)))
+  held-fits = go (decLt (lengthBefore 10 bytes) (length bytes)) (omega (arith, length-take (length kept) (heldOf (atLine s) kept ++ take (lengthBefore 10 bytes) bytes)))
     where
-      go : Dec (lineLength bytes < length bytes) → length (heldAfter s kept bytes) ≤ length kept → nextLine s kept bytes .stream .held ≤ length kept
-      go (yes l) h = rw (lt-ltb (lineLength bytes) (length bytes) l) h
-      go (no l) h = rw (le-ltb (lineLength bytes) (length bytes) (omega arith)) h
+      go : Dec (lengthBefore 10 bytes < length bytes) → length (heldAfter s kept bytes) ≤ length kept → nextLine s kept bytes .stream .held ≤ length kept
+      go (yes l) h = rw (lt-ltb (lengthBefore 10 bytes) (length bytes) l) h
+      go (no l) h = rw (le-ltb (lengthBefore 10 bytes) (length bytes) (omega arith)) h
 
 module _ (answer : ℕ → List ℕ → List ℕ) where
   pub no-calls : (fuel : ℕ) (a : State) → afterCalls answer fuel a [] ≡ a

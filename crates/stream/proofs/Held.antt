@@ -6,13 +6,12 @@ use mathlib.Core.List.{List, _++_}
 use native.Mathlib.Omega.{arith}
 use native.Mathlib.Decide.{decLt}
 use borrow.Author.Tests.{lt-ltb, le-ltb}
-use native.Mathlib.Numerals.{add-one}
-use lib.ListN.{length, getD, set, take, length-take}
-use lib.Seq.{paste, paste-suc, take-all, take-append-add, length-paste-head}
-use Rattle.lists.specs.Lists.{inFront}
+use lib.ListN.{length, take, length-take}
+use lib.Seq.{paste, take-all, take-append-add, length-paste-head}
 use Rattle.stream.specs.declared.Stream.{Stream}
 use Rattle.stream.specs.declared.Step.{Step}
-use Rattle.stream.specs.Stream.{atLine, lineLength, withBytes, keptAfter, nextLine}
+use Rattle.lists.specs.Lists.{inFront, lengthBefore}
+use Rattle.stream.specs.Stream.{atLine, withBytes, keptAfter, nextLine}
 
 pub take-min : (m n : ℕ) (l : List ℕ) → n ≡ min m (length l) → take n l ≡ take m l
 take-min m n l e = go (decLt m (length l))
@@ -37,17 +36,9 @@ module _ (kept bytes : List ℕ) (held from n : ℕ) (front : from ≡ min held 
   pub kept-held : (k : List ℕ) → k ≡ paste kept from bytes n → k ≡ inFront (withBytes kept held bytes) kept
   kept-held k e = rw (held-is, length-paste-head kept from bytes n (omega arith) (omega arith)) e
 
--- ---- the loop that copies
-
-pub copy-more : (d k s : List ℕ) (at i : ℕ) → at + i < length d → i < length s → k ≡ paste d at s i → set k (at + i) (getD s i 0) ≡ paste d at s (i + 1)
-copy-more d k s at i h l e = rw (e, add-one i) (paste-suc d at s i 0 h l)
-
-pub copy-done : (d k s : List ℕ) (at i n : ℕ) → i ≤ n → n ≤ i → k ≡ paste d at s i → k ≡ paste d at s n
-copy-done d k s at i n h l e = let f : i ≡ n = omega arith in rw f at e
-
 -- ---- a call, from its parts
 
-module _ (s line : Stream) (kept bytes : List ℕ) (n held : ℕ) (e : line ≡ atLine s) (f : n ≡ lineLength bytes) (g : held ≡ length (withBytes kept (line .held) (take n bytes))) where
+module _ (s line : Stream) (kept bytes : List ℕ) (n held : ℕ) (e : line ≡ atLine s) (f : n ≡ lengthBefore 10 bytes) (g : held ≡ length (withBytes kept (line .held) (take n bytes))) where
   pub line-ended : n < length bytes
       → _≡_ {A = Step} (record { used = n + 1; stream = record { number = line .number; held = held; ended = true } }) (nextLine s kept bytes)
   unfolding nextLine

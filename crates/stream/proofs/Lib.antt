@@ -1,5 +1,4 @@
 -- The laws of lines and parts.
-pub mod Lengths
 pub mod Standing
 pub mod Held
 pub mod Splitting

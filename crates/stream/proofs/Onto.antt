@@ -1,14 +1,13 @@
 -- The lines of an input whose first bytes have been read.
-use Prim.Native.Nat.{ℕ, suc, _+_, _≤_, _<_}
+use Prim.Native.Nat.{ℕ, suc, _≤_, _<_}
 use mathlib.Core.Path.{_≡_, refl, ap}
 use mathlib.Core.Bool.{Bool, true, false, cond}
 use mathlib.Core.List.{List, [], _∷_, _++_}
 use native.Mathlib.Omega.{arith}
 use lib.Dec.{eqb}
 use lib.ListN.{length, take, drop}
-use Rattle.lists.specs.Lists.{toFirst}
+use Rattle.lists.specs.Lists.{toFirst, lengthBefore}
 use Rattle.stream.specs.Input.{linesOf}
-use Rattle.stream.specs.Stream.{lineLength}
 
 -- the lines with these bytes put in front of the first
 unfoldable pub onto : List ℕ → List (List ℕ) → List (List ℕ)
@@ -32,34 +31,25 @@ unfolding onto toFirst
 onto-none x [] = refl
 onto-none x (y ∷ xs) = ap (toFirst x) (onto-none y xs)
 
-pub length-line : (bs : List ℕ) → lineLength bs ≤ length bs
-unfolding lineLength
-length-line [] = omega arith
-length-line (b ∷ bs) = go (eqb b 10) (length-line bs)
-  where
-    go : (t : Bool) → lineLength bs ≤ length bs → cond t 0 (suc (lineLength bs)) ≤ suc (length bs)
-    go true ih = omega arith
-    go false ih = omega arith
-
 -- bytes with a line end among them: they end a line
-pub lines-ended : (bs rest : List ℕ) → lineLength bs < length bs → linesOf (bs ++ rest) ≡ onto (take (lineLength bs) bs) ([] ∷ linesOf (drop (suc (lineLength bs)) bs ++ rest))
-unfolding lineLength linesOf onto
+pub lines-ended : (bs rest : List ℕ) → lengthBefore 10 bs < length bs → linesOf (bs ++ rest) ≡ onto (take (lengthBefore 10 bs) bs) ([] ∷ linesOf (drop (suc (lengthBefore 10 bs)) bs ++ rest))
+unfolding lengthBefore linesOf onto
 lines-ended [] rest h = absurd (omega arith)
 lines-ended (b ∷ bs) rest h = go (eqb b 10) refl h (lines-ended bs rest)
   where
-    go : (t : Bool) → eqb b 10 ≡ t → cond t 0 (suc (lineLength bs)) < suc (length bs)
-        → (lineLength bs < length bs → linesOf (bs ++ rest) ≡ onto (take (lineLength bs) bs) ([] ∷ linesOf (drop (suc (lineLength bs)) bs ++ rest)))
-        → linesOf (b ∷ (bs ++ rest)) ≡ onto (take (lineLength (b ∷ bs)) (b ∷ bs)) ([] ∷ linesOf (drop (suc (lineLength (b ∷ bs))) (b ∷ bs) ++ rest))
+    go : (t : Bool) → eqb b 10 ≡ t → cond t 0 (suc (lengthBefore 10 bs)) < suc (length bs)
+        → (lengthBefore 10 bs < length bs → linesOf (bs ++ rest) ≡ onto (take (lengthBefore 10 bs) bs) ([] ∷ linesOf (drop (suc (lengthBefore 10 bs)) bs ++ rest)))
+        → linesOf (b ∷ (bs ++ rest)) ≡ onto (take (lengthBefore 10 (b ∷ bs)) (b ∷ bs)) ([] ∷ linesOf (drop (suc (lengthBefore 10 (b ∷ bs))) (b ∷ bs) ++ rest))
     go true e l ih = rw e refl
     go false e l ih = rw e (ap (toFirst b) (ih (omega arith)))
 
 -- bytes without one are the start of a line
-pub lines-open : (bs rest : List ℕ) → length bs ≤ lineLength bs → linesOf (bs ++ rest) ≡ onto bs (linesOf rest)
-unfolding lineLength linesOf onto
+pub lines-open : (bs rest : List ℕ) → length bs ≤ lengthBefore 10 bs → linesOf (bs ++ rest) ≡ onto bs (linesOf rest)
+unfolding lengthBefore linesOf onto
 lines-open [] rest h = refl
 lines-open (b ∷ bs) rest h = go (eqb b 10) refl h (lines-open bs rest)
   where
-    go : (t : Bool) → eqb b 10 ≡ t → suc (length bs) ≤ cond t 0 (suc (lineLength bs))
-        → (length bs ≤ lineLength bs → linesOf (bs ++ rest) ≡ onto bs (linesOf rest)) → linesOf (b ∷ (bs ++ rest)) ≡ onto (b ∷ bs) (linesOf rest)
+    go : (t : Bool) → eqb b 10 ≡ t → suc (length bs) ≤ cond t 0 (suc (lengthBefore 10 bs))
+        → (length bs ≤ lengthBefore 10 bs → linesOf (bs ++ rest) ≡ onto bs (linesOf rest)) → linesOf (b ∷ (bs ++ rest)) ≡ onto (b ∷ bs) (linesOf rest)
     go true e l ih = absurd (omega arith)
     go false e l ih = rw e (ap (toFirst b) (ih (omega arith)))

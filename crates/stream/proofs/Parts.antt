@@ -10,10 +10,12 @@ use borrow.Author.Tests.{lt-ltb, le-ltb, ne-eqb}
 use lib.ListN.{length, take, drop, length-take, length-append, length-drop}
 use lib.Seq.{take-append-seam, take-append-le, take-nil, take-take, take-all, drop-length}
 use Rattle.stream.specs.Input.{linesOf, answersFrom, outputOf}
-use Rattle.stream.specs.Stream.{atStart, lineLength, atLine, heldOf, heldAfter, keptAfter, nextLine}
+use Rattle.lists.specs.Lists.{lengthBefore}
+use Rattle.lists.proofs.Bytes.{length-before-most}
+use Rattle.stream.specs.Stream.{atStart, atLine, heldOf, heldAfter, keptAfter, nextLine}
 use Rattle.stream.specs.Theorems.{State, afterCall, afterCalls, afterParts, afterEnd, writtenFor, concatenated, WritesTheOutput}
 use Rattle.stream.proofs.Standing.{same-line, left-none, left-is}
-use Rattle.stream.proofs.Onto.{onto, onto-append, onto-line, onto-none, lines-ended, lines-open, length-line}
+use Rattle.stream.proofs.Onto.{onto, onto-append, onto-line, onto-none, lines-ended, lines-open}
 
 -- the most lines that have numbers of their own
 abbrev most : ℕ
@@ -45,7 +47,7 @@ module _ (answer : ℕ → List ℕ → List ℕ) (room : ℕ) (cut : (k : ℕ) 
   -- one call, on the number of the line and the bytes that are held then
   module _ (a : State) (bytes rest : List ℕ) (st : Stands a (bytes ++ rest)) where
     abbrev n : ℕ
-    n = lineLength bytes
+    n = lengthBefore 10 bytes
 
     -- the line as far as it goes
     abbrev grown : List ℕ
@@ -125,7 +127,7 @@ module _ (answer : ℕ → List ℕ → List ℕ) (room : ℕ) (cut : (k : ℕ) 
 
     used-open : length bytes ≤ n → nextLine (a .stream) (a .kept) bytes .used ≡ length bytes
     unfolding nextLine
-    used-open h = rw (le-ltb n (length bytes) h) (omega (arith, length-line bytes))
+    used-open h = rw (le-ltb n (length bytes) h) (omega (arith, length-before-most 10 bytes))
 
     lines-same : length bytes ≤ n → onto (st .line) (linesOf (bytes ++ rest)) ≡ onto grown (linesOf rest)
     lines-same h =
@@ -156,13 +158,13 @@ module _ (answer : ℕ → List ℕ → List ℕ) (room : ℕ) (cut : (k : ℕ) 
   one-more : (fuel : ℕ) → Enough fuel → Enough (suc fuel)
   unfolding afterCalls
   one-more fuel more a [] rest h st = st
-  one-more fuel more a (b ∷ bytes) rest h st = rw (ne-eqb (suc (length bytes)) 0 (λ e. omega arith)) (go (decLt (lineLength (b ∷ bytes)) (suc (length bytes))))
+  one-more fuel more a (b ∷ bytes) rest h st = rw (ne-eqb (suc (length bytes)) 0 (λ e. omega arith)) (go (decLt (lengthBefore 10 (b ∷ bytes)) (suc (length bytes))))
     where
-      go : Dec (lineLength (b ∷ bytes) < suc (length bytes))
+      go : Dec (lengthBefore 10 (b ∷ bytes) < suc (length bytes))
           → Stands (afterCalls answer fuel (afterCall answer a (b ∷ bytes)) (drop (nextLine (a .stream) (a .kept) (b ∷ bytes) .used) (b ∷ bytes))) rest
       go (yes l) =
           rw (called-ended a (b ∷ bytes) rest st l, used-ended a (b ∷ bytes) rest st l)
-          (more _ (drop (lineLength (b ∷ bytes)) bytes) rest (omega (arith, length-drop (lineLength (b ∷ bytes)) bytes)) (stands-ended a (b ∷ bytes) rest st l))
+          (more _ (drop (lengthBefore 10 (b ∷ bytes)) bytes) rest (omega (arith, length-drop (lengthBefore 10 (b ∷ bytes)) bytes)) (stands-ended a (b ∷ bytes) rest st l))
       go (no l) =
           rw (called-open a (b ∷ bytes) rest st (omega arith), used-open a (b ∷ bytes) rest st (omega arith), drop-length bytes)
           (more _ [] rest (omega arith) (stands-open a (b ∷ bytes) rest st (omega arith)))

@@ -1,21 +1,16 @@
 -- How the code goes through an input that comes in parts.
-use Prim.Native.Nat.{ℕ, suc, _+_, min}
+use Prim.Native.Nat.{ℕ, _+_, min}
 use mathlib.Core.Bool.{Bool, true, false, cond}
-use mathlib.Core.List.{List, [], _∷_, _++_}
-use lib.Dec.{eqb, ltb}
+use mathlib.Core.List.{List, _++_}
+use lib.Dec.{ltb}
 use lib.ListN.{length, take}
-use Rattle.lists.specs.Lists.{inFront}
+use Rattle.lists.specs.Lists.{inFront, lengthBefore}
 use Rattle.stream.specs.declared.Stream.{Stream}
 use Rattle.stream.specs.declared.Step.{Step}
 
 -- before the first byte
 abbrev pub atStart : Stream
 atStart = record { number = 1; held = 0; ended = false }
-
--- the bytes before the first line end, or all
-unfoldable pub lineLength : List ℕ → ℕ
-lineLength [] = 0
-lineLength (b ∷ bs) = cond (eqb b 10) 0 (suc (lineLength bs))
 
 -- the next line's number; the count stops at the largest number of 64 bits
 abbrev pub numberAfter : ℕ → ℕ
@@ -35,7 +30,7 @@ withBytes kept held bytes = take (length kept) (take held kept ++ bytes)
 
 -- the bytes of the line with those that come before the first line end
 abbrev pub heldAfter : Stream → List ℕ → List ℕ → List ℕ
-heldAfter s kept bytes = withBytes kept (atLine s .held) (take (lineLength bytes) bytes)
+heldAfter s kept bytes = withBytes kept (atLine s .held) (take (lengthBefore 10 bytes) bytes)
 
 -- the slice that holds them
 abbrev pub keptAfter : Stream → List ℕ → List ℕ → List ℕ
@@ -44,7 +39,7 @@ keptAfter s kept bytes = inFront (heldAfter s kept bytes) kept
 -- one call: the bytes up to the first line end, and it too
 unfoldable pub nextLine : Stream → List ℕ → List ℕ → Step
 nextLine s kept bytes =
-    let n = lineLength bytes in
+    let n = lengthBefore 10 bytes in
     let held = length (heldAfter s kept bytes) in
     let number = atLine s .number in
     cond (ltb n (length bytes))

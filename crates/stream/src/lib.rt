@@ -1,10 +1,11 @@
 // Lines of an input that is read one part after another: a part may end anywhere in a line.
 ghost use mathlib.Core.Path.{_≡_};
-ghost use Prim.Native.Nat.{_+_, _≤_, min};
 ghost use lib.ListN.{length};
-ghost use lib.Seq.{paste};
 ghost use Rattle.lists.specs.Lists.{inFront};
-ghost use Rattle.stream.specs.Stream.{atStart, lineLength, numberAfter, atLine, withBytes, keptAfter, nextLine, isLeft};
+ghost use Rattle.stream.specs.Stream.{atStart, numberAfter, atLine, withBytes, keptAfter, nextLine, isLeft};
+use lists::copy_bytes;
+use lists::least;
+use lists::length_before;
 
 // Where an input stands: the number of the line that is being read, from 1; how many of its bytes are held; whether it has ended.
 pub struct Stream {
@@ -22,7 +23,7 @@ pub struct Step {
 const LINE_END: u8 = 10;
 
 // Before the first byte.
-pub fn start() -> Stream
+pub fn start_stream() -> Stream
     ensures { λ r. ⌜ r ≡ atStart ⌝ }
 {
     Stream {
@@ -30,21 +31,6 @@ pub fn start() -> Stream
         held: 0,
         ended: false,
     }
-}
-
-// The bytes before the first line end, or all.
-fn line_length(bytes: &[u8]) -> usize
-    ensures { λ r. ⌜ r ≡ lineLength (now (bytes .entry)) ⌝ }
-    ensures { λ r. ⌜ r ≤ length (now (bytes .entry)) ⌝ }
-{
-    let mut i = 0;
-    while i < bytes.len() {
-        if bytes[i] == LINE_END {
-            return i;
-        }
-        i += 1;
-    }
-    i
 }
 
 // The next line's number. The count stops at the largest number.
@@ -71,29 +57,6 @@ fn at_line(stream: Stream) -> Stream
     stream
 }
 
-// The smaller of the two.
-pub fn least(a: usize, b: usize) -> usize
-    ensures { λ r. ⌜ r ≡ min a b ⌝ }
-{
-    if a < b {
-        return a;
-    }
-    b
-}
-
-// Copies the first n bytes to the places from `at` on.
-fn copy_to(kept: &mut [u8], at: usize, bytes: &[u8], n: usize)
-    requires { ⌜ at + n ≤ length (now kept) ⌝ }
-    requires { ⌜ n ≤ length (now bytes) ⌝ }
-    ensures { λ _. ⌜ now (kept .exit) ≡ paste (now (kept .entry)) at (now (bytes .entry)) n ⌝ }
-{
-    let mut i = 0;
-    while i < n {
-        kept[at + i] = bytes[i];
-        i += 1;
-    }
-}
-
 // Puts as many bytes as have room behind the first `held` of `kept`, and says how many are held then.
 pub fn hold(kept: &mut [u8], held: usize, bytes: &[u8]) -> usize
     ensures { λ r. ⌜ r ≡ length (withBytes (now (kept .entry)) held (now (bytes .entry))) ⌝ }
@@ -101,7 +64,7 @@ pub fn hold(kept: &mut [u8], held: usize, bytes: &[u8]) -> usize
 {
     let from = least(held, kept.len());
     let n = least(kept.len() - from, bytes.len());
-    copy_to(kept, from, bytes, n);
+    copy_bytes(kept, from, bytes, n);
     from + n
 }
 
@@ -112,7 +75,7 @@ pub fn next_line(stream: Stream, kept: &mut [u8], bytes: &[u8]) -> Step
     ensures { λ _. ⌜ now (kept .exit) ≡ keptAfter stream (now (kept .entry)) (now (bytes .entry)) ⌝ }
 {
     let line = at_line(stream);
-    let n = line_length(bytes);
+    let n = length_before(bytes, LINE_END);
     let held = hold(kept, line.held, &bytes[..n]);
     if n < bytes.len() {
         return Step {

@@ -1,9 +1,7 @@
 -- The laws of input lines and output lines.
 pub mod Rows
-pub mod Numbers
 pub mod Words
 pub mod Readings
-pub mod Texts
+pub mod Answers
 pub mod Splitting
-pub mod RoundTrip
 pub mod Samples

@@ -7,19 +7,18 @@ use native.Mathlib.Numerals.{add-one}
 use native.Mathlib.Omega.{arith}
 use lib.ListN.{length, getD, take, drop, length-append, length-drop}
 use lib.Seq.{getD-drop, take-all}
-use Rattle.lists.specs.Lists.{every, listFrom}
+use Rattle.lists.specs.Lists.{every, listFrom, lengthBefore}
 use Rattle.syntax.specs.Rows.{row}
 use Rattle.syntax.specs.Line.{fieldAt, fieldsFrom, allGood, valuesOf, orderOf, requested}
-use Rattle.syntax.specs.Reading.{startReading, withWord, withWords, finish}
+use Rattle.syntax.specs.Reading.{startWords, withWord, withWords, finish}
 use Rattle.syntax.specs.declared.Request.{Request}
-use Rattle.syntax.specs.declared.Reading.{Reading}
-use Rattle.syntax.specs.declared.Field.{Field}
+use Rattle.syntax.specs.declared.WordsRead.{WordsRead}
+use Rattle.text.specs.declared.ReadNumber.{ReadNumber}
 use Rattle.lists.proofs.Questions.{and-true}
-use Rattle.syntax.specs.Reading.{wordLength}
 use Rattle.syntax.proofs.Rows.{set-row, getD-row, row-cong}
 use Rattle.syntax.proofs.Words.{rest, rest-more, rest-end}
 
-abbrev reading : Bool → ℕ → List ℕ → Reading
+abbrev reading : Bool → ℕ → List ℕ → WordsRead
 reading g n vs = record { good = g; count = n; values = vs }
 
 same-reading : {g h : Bool} {n m : ℕ} {vs us : List ℕ} → g ≡ h → n ≡ m → vs ≡ us → reading g n vs ≡ reading h m us
@@ -36,7 +35,7 @@ words-on : (g : Bool) (vs : List ℕ) (ws : List (List ℕ))
 unfolding withWords withWord fieldsFrom allGood valuesOf every
 words-on g vs [] = same-reading (sym (and-true g)) (omega arith) (ap (row 11) (sym (append-nil vs)))
 words-on g vs (w ∷ ws) =
-    let f : Field = fieldAt (length vs) w in
+    let f : ReadNumber = fieldAt (length vs) w in
     let us : List ℕ = vs ++ f .value ∷ [] in
     let e : length us ≡ suc (length vs) = length-append vs (f .value ∷ []) ∙ add-one _ in
     let s : withWord (reading g (length vs) (row 11 vs)) w ≡ reading (g && f .good) (length us) (row 11 us) =
@@ -72,32 +71,32 @@ unfolding requested
 ordered-row n vs =
     rw (getD-row 11 vs 0 (omega arith), getD-row 11 vs 1 (omega arith), getD-row 11 vs 2 (omega arith), kept vs) refl
 
-start-row : startReading ≡ reading true 0 (row 11 [])
+start-row : startWords ≡ reading true 0 (row 11 [])
 unfolding row listFrom
 start-row = refl
 
-pub read-all : (ws : List (List ℕ)) → finish (withWords startReading ws) ≡ orderOf ws
+pub read-all : (ws : List (List ℕ)) → finish (withWords startWords ws) ≡ orderOf ws
 unfolding finish orderOf
 read-all ws =
-    let s : withWords startReading ws ≡ reading (allGood (fieldsFrom 0 ws)) (length ws) (row 11 (valuesOf (fieldsFrom 0 ws))) =
+    let s : withWords startWords ws ≡ reading (allGood (fieldsFrom 0 ws)) (length ws) (row 11 (valuesOf (fieldsFrom 0 ws))) =
     ap (λ r. withWords r ws) start-row ∙ words-on true [] ws ∙ same-reading refl (omega arith) refl in
     rw (s, ordered-row) refl
 
 -- ---- the loop over words
 
-pub words-more : (s r t : Reading) (line : List ℕ) (i n : ℕ) → i ≤ length line → n ≡ wordLength (take (length line - i) (drop i line)) → withWords s (rest line i) ≡ t
+pub words-more : (s r t : WordsRead) (line : List ℕ) (i n : ℕ) → i ≤ length line → n ≡ lengthBefore 32 (take (length line - i) (drop i line)) → withWords s (rest line i) ≡ t
     → r ≡ withWord s (take (i + n - i) (drop i line)) → withWords r (rest line (i + n + 1)) ≡ t
 unfolding withWords
 words-more s r t line i n h l e p =
     let k : i + n + 1 ≡ i + suc n = omega arith in
     let m : i + n - i ≡ n = omega arith in
-    let f : n ≡ wordLength (drop i line) = l ∙ ap wordLength (take-all (length line - i) (drop i line) (omega (arith, length-drop i line))) in
+    let f : n ≡ lengthBefore 32 (drop i line) = l ∙ ap (lengthBefore 32) (take-all (length line - i) (drop i line) (omega (arith, length-drop i line))) in
     rw (p, k, m) (rw (rest-more line i n h f) at e)
 
-pub words-done : (s t : Reading) (line : List ℕ) (i : ℕ) → length line < i → withWords s (rest line i) ≡ t → s ≡ t
+pub words-done : (s t : WordsRead) (line : List ℕ) (i : ℕ) → length line < i → withWords s (rest line i) ≡ t → s ≡ t
 unfolding withWords
 words-done s t line i h e = rw (rest-end line i h) at e
 
-pub counted : (s r : Reading) (w : List ℕ) → r ≡ withWord s w → r .count ≡ s .count + 1
+pub counted : (s r : WordsRead) (w : List ℕ) → r ≡ withWord s w → r .count ≡ s .count + 1
 unfolding withWord
-counted s r w e = ap (λ (k : Reading). k .count) e
+counted s r w e = ap (λ (k : WordsRead). k .count) e

@@ -3,16 +3,14 @@ use Prim.Native.Nat.{ℕ, suc, _+_, _≤_, _<_}
 use mathlib.Core.Path.{_≡_, refl, sym, ap, _∙_}
 use mathlib.Core.Bool.{Bool, true, false, cond}
 use mathlib.Core.List.{List, [], _∷_}
-use native.Mathlib.Numerals.{add-one}
 use native.Mathlib.Omega.{arith}
 use native.Mathlib.Decide.{decLt}
 use lib.Dec.{eqb, leb}
-use borrow.Author.Tests.{le-leb, lt-leb, eq-eqb, ne-eqb}
-use lib.ListN.{length, getD, take, drop, length-drop, drop-of-length-le}
-use lib.Seq.{drop-cons, drop-drop}
-use Rattle.lists.specs.Lists.{toFirst}
+use borrow.Author.Tests.{le-leb, lt-leb}
+use lib.ListN.{length, take, drop, length-drop}
+use lib.Seq.{drop-drop}
+use Rattle.lists.specs.Lists.{toFirst, lengthBefore}
 use Rattle.syntax.specs.Line.{words}
-use Rattle.syntax.specs.Reading.{wordLength}
 
 -- the words from byte i on; behind the last word there are none
 unfoldable pub rest : List ℕ → ℕ → List (List ℕ)
@@ -38,15 +36,15 @@ rest-cons b s i = go (decLt (length s) i)
     go (no l) = rest-in (b ∷ s) (suc i) (omega arith) ∙ sym (rest-in s i (omega arith))
 
 -- the first word, and the words behind the blank that ends it
-pub words-first : (s : List ℕ) → words s ≡ take (wordLength s) s ∷ rest s (suc (wordLength s))
-unfolding words wordLength toFirst
+pub words-first : (s : List ℕ) → words s ≡ take (lengthBefore 32 s) s ∷ rest s (suc (lengthBefore 32 s))
+unfolding words lengthBefore toFirst
 words-first [] = ap (λ ws. [] ∷ ws) (sym (rest-end [] 1 (omega arith)))
 words-first (b ∷ s) = go (eqb b 32) refl (words-first s)
   where
-    go : (t : Bool) → eqb b 32 ≡ t → words s ≡ take (wordLength s) s ∷ rest s (suc (wordLength s))
-        → words (b ∷ s) ≡ take (wordLength (b ∷ s)) (b ∷ s) ∷ rest (b ∷ s) (suc (wordLength (b ∷ s)))
+    go : (t : Bool) → eqb b 32 ≡ t → words s ≡ take (lengthBefore 32 s) s ∷ rest s (suc (lengthBefore 32 s))
+        → words (b ∷ s) ≡ take (lengthBefore 32 (b ∷ s)) (b ∷ s) ∷ rest (b ∷ s) (suc (lengthBefore 32 (b ∷ s)))
     go true e ih = rw e (ap (λ ws. [] ∷ ws) (sym (rest-cons b s 0 ∙ rest-all s)))
-    go false e ih = rw (e, ih) (ap (λ ws. (b ∷ take (wordLength s) s) ∷ ws) (sym (rest-cons b s (suc (wordLength s)))))
+    go false e ih = rw (e, ih) (ap (λ ws. (b ∷ take (lengthBefore 32 s) s) ∷ ws) (sym (rest-cons b s (suc (lengthBefore 32 s)))))
 
 rest-drop : (s : List ℕ) (i j : ℕ) → i ≤ length s → rest (drop i s) j ≡ rest s (i + j)
 rest-drop s i j h = go (decLt (length s) (i + j))
@@ -56,25 +54,5 @@ rest-drop s i j h = go (decLt (length s) (i + j))
     go (no l) = rest-in (drop i s) j (omega (arith, length-drop i s)) ∙ ap words (drop-drop j i s) ∙ sym (rest-in s (i + j) (omega arith))
 
 -- one word more
-pub rest-more : (s : List ℕ) (i n : ℕ) → i ≤ length s → n ≡ wordLength (drop i s) → rest s i ≡ take n (drop i s) ∷ rest s (i + suc n)
-rest-more s i n h e = rw e (rest-in s i h ∙ words-first (drop i s) ∙ ap (λ ws. take (wordLength (drop i s)) (drop i s) ∷ ws) (rest-drop s i (suc (wordLength (drop i s))) h))
-
--- ---- the loop that looks for a blank
-
-pub length-more : (s : List ℕ) (i t : ℕ) → i < length s → (getD s i 0 ≡ 32 → ⊥) → i + wordLength (drop i s) ≡ t → (i + 1) + wordLength (drop (i + 1) s) ≡ t
-unfolding wordLength
-length-more s i t h n e =
-    let f : i + suc (wordLength (drop (suc i) s)) ≡ t = rw (drop-cons s i 0 h, ne-eqb (getD s i 0) 32 n) at e in
-    rw add-one (omega (arith, f))
-
-pub length-found : (s : List ℕ) (i t : ℕ) → i < length s → getD s i 0 ≡ 32 → i + wordLength (drop i s) ≡ t → i ≡ t
-unfolding wordLength
-length-found s i t h n e =
-    let f : i + 0 ≡ t = rw (drop-cons s i 0 h, eq-eqb (getD s i 0) 32 n) at e in
-    omega (arith, f)
-
-pub length-end : (s : List ℕ) (i t : ℕ) → length s ≤ i → i + wordLength (drop i s) ≡ t → i ≡ t
-unfolding wordLength
-length-end s i t h e =
-    let f : i + 0 ≡ t = rw (drop-of-length-le s h) at e in
-    omega (arith, f)
+pub rest-more : (s : List ℕ) (i n : ℕ) → i ≤ length s → n ≡ lengthBefore 32 (drop i s) → rest s i ≡ take n (drop i s) ∷ rest s (i + suc n)
+rest-more s i n h e = rw e (rest-in s i h ∙ words-first (drop i s) ∙ ap (λ ws. take (lengthBefore 32 (drop i s)) (drop i s) ∷ ws) (rest-drop s i (suc (lengthBefore 32 (drop i s))) h))

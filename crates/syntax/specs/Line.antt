@@ -1,12 +1,13 @@
 -- What an input line asks for: its words, and what each must be.
-use Prim.Native.Nat.{ℕ, suc, _+_, _*_, _-_}
+use Prim.Native.Nat.{ℕ, suc, _-_}
 use mathlib.Core.Bool.{Bool, true, false, cond}
 use mathlib.Core.List.{List, [], _∷_, map}
-use lib.Dec.{eqb, leb, ltb}
+use lib.Dec.{eqb, ltb}
 use lib.ListN.{length, getD, drop, replicate}
 use Rattle.lists.specs.Lists.{every, toFirst}
 use Rattle.syntax.specs.Rows.{row}
-use Rattle.syntax.specs.declared.Field.{Field}
+use Rattle.text.specs.Decimal.{fit, unfit, numberIn}
+use Rattle.text.specs.declared.ReadNumber.{ReadNumber}
 use Rattle.syntax.specs.declared.Request.{Request}
 
 -- "one blank between": a line's words, split at each blank (byte 32). A blank at an end, or next to another, leaves an empty word
@@ -14,66 +15,34 @@ unfoldable pub words : List ℕ → List (List ℕ)
 words [] = [] ∷ []
 words (b ∷ bs) = cond (eqb b 32) ([] ∷ words bs) (toFirst b (words bs))
 
--- a word that has its form, with the number that it stands for, and one that has not
-abbrev pub fit : ℕ → Field
-fit v = record { good = true; value = v }
-
-abbrev pub unfit : Field
-unfit = record { good = false; value = 0 }
-
--- `0` to `9`
-unfoldable pub digitByte : ℕ → Bool
-digitByte b = cond (ltb b 48) false (leb b 57)
-
--- the number whose digits are those of v and then these
-unfoldable pub valueFrom : ℕ → List ℕ → ℕ
-valueFrom v [] = v
-valueFrom v (b ∷ bs) = valueFrom (v * 10 + (b - 48)) bs
-
-abbrev pub valueOf : List ℕ → ℕ
-valueOf w = valueFrom 0 w
-
--- the first number that is too large: 2^32
-abbrev pub tooLarge : ℕ
-tooLarge = 4294967296
-
--- "Numbers are unsigned decimals of 1 to 10 digits, at most 2^32 − 1"
-unfoldable pub numberIn : List ℕ → Field
-numberIn w =
-    cond (eqb (length w) 0) unfit
-    (cond (ltb 10 (length w)) unfit
-    (cond (every digitByte w)
-    (cond (leb tooLarge (valueOf w)) unfit (fit (valueOf w)))
-    unfit))
-
 -- is the word this one byte?
 unfoldable pub isByte : ℕ → List ℕ → Bool
 isByte b w = cond (eqb (length w) 1) (eqb (getD w 0 0) b) false
 
 -- "H or B": 0 for HIGH, 1 for BOUND
-unfoldable pub kindIn : List ℕ → Field
+unfoldable pub kindIn : List ℕ → ReadNumber
 kindIn w = cond (isByte 72 w) (fit 0) (cond (isByte 66 w) (fit 1) unfit)
 
 -- "set or `-` (meaning 0)"
-unfoldable pub setIn : List ℕ → Field
+unfoldable pub setIn : List ℕ → ReadNumber
 setIn w = cond (isByte 45 w) (fit 0) (numberIn w)
 
 -- "H or B, set or `-` (meaning 0), B, then coefficients": the word at place k
-unfoldable pub fieldAt : ℕ → List ℕ → Field
+unfoldable pub fieldAt : ℕ → List ℕ → ReadNumber
 fieldAt k w = cond (eqb k 0) (kindIn w) (cond (eqb k 1) (setIn w) (numberIn w))
 
 -- the words from place k on
-unfoldable pub fieldsFrom : ℕ → List (List ℕ) → List Field
+unfoldable pub fieldsFrom : ℕ → List (List ℕ) → List ReadNumber
 fieldsFrom k [] = []
 fieldsFrom k (w ∷ ws) = fieldAt k w ∷ fieldsFrom (suc k) ws
 
 -- have all words their form?
-unfoldable pub allGood : List Field → Bool
-allGood fs = every (λ (f : Field). f .good) fs
+unfoldable pub allGood : List ReadNumber → Bool
+allGood fs = every (λ (f : ReadNumber). f .good) fs
 
 -- their numbers
-unfoldable pub valuesOf : List Field → List ℕ
-valuesOf fs = map (λ (f : Field). f .value) fs
+unfoldable pub valuesOf : List ReadNumber → List ℕ
+valuesOf fs = map (λ (f : ReadNumber). f .value) fs
 
 -- the request of a malformed line
 abbrev pub malformed : Request

@@ -1,16 +1,17 @@
--- Text that is put into a lent slice, byte behind byte.
-use Prim.Native.Nat.{ℕ, _+_, _/_, _%_}
-use mathlib.Core.Path.{_≡_}
+-- Text that is put into a lent slice, byte behind byte; numbers and bytes as text.
+use Prim.Native.Nat.{ℕ, zero, suc, _+_, _/_, _%_}
 use mathlib.Core.Bool.{cond}
-use mathlib.Core.List.{List, [], _∷_}
+use mathlib.Core.List.{List, [], _∷_, _++_}
 use lib.Dec.{ltb}
 use lib.ListN.{length, set}
-use Rattle.io.specs.Digits.{digits, Fewest}
 
 -- the slice, and the place of the next byte
 pub record Text : Type 0 where
   pub bytes : List ℕ
   pub at : ℕ
+
+abbrev pub textAt : List ℕ → ℕ → Text
+textAt bytes at = record { bytes = bytes; at = at }
 
 -- one byte more, if there is room
 unfoldable pub put : Text → ℕ → Text
@@ -21,21 +22,34 @@ unfoldable pub puts : Text → List ℕ → Text
 puts t [] = t
 puts t (b ∷ bs) = puts (put t b) bs
 
+-- the last digit
+abbrev pub lastDigit : ℕ → ℕ
+lastDigit n = 48 + n % 10
+
+-- a number in decimal: one below 10 is its digit; any other is its tenth, rounded down, in decimal, and then its last digit.
+-- k is how many digits more than one it may have
+unfoldable pub decimalIn : ℕ → ℕ → List ℕ
+decimalIn zero n = lastDigit n ∷ []
+decimalIn (suc k) n = cond (ltb n 10) (lastDigit n ∷ []) (decimalIn k (n / 10) ++ lastDigit n ∷ [])
+
+-- a number below 10^20, so any of 64 bits
+unfoldable pub decimal : ℕ → List ℕ
+decimal n = decimalIn 19 n
+
+-- "one blank between numbers": a blank before each
+unfoldable pub numbersText : List ℕ → List ℕ
+numbersText [] = []
+numbersText (n ∷ ns) = 32 ∷ decimal n ++ numbersText ns
+
 -- the digit of a number below 16: `0` to `9`, then `a` to `f`
 unfoldable pub hexDigit : ℕ → ℕ
 hexDigit d = cond (ltb d 10) (48 + d) (87 + d)
 
 -- a byte as two digits
-unfoldable pub putHex : Text → ℕ → Text
-putHex t b = put (put t (hexDigit (b / 16))) (hexDigit (b % 16))
+abbrev pub hexByte : ℕ → List ℕ
+hexByte b = hexDigit (b / 16) ∷ hexDigit (b % 16) ∷ []
 
 -- bytes in hexadecimal
-unfoldable pub putsHex : Text → List ℕ → Text
-putsHex t [] = t
-putsHex t (b ∷ bs) = putsHex (putHex t b) bs
-
--- u is t with a number in decimal behind it, in the fewest digits
-pub record Decimal (t : Text) (n : ℕ) (u : Text) : Type 0 where
-  pub places : ℕ
-  pub fewest : Fewest 10 1 n places
-  pub text : u ≡ puts t (digits 10 places n)
+unfoldable pub hexBytes : List ℕ → List ℕ
+hexBytes [] = []
+hexBytes (b ∷ bs) = hexByte b ++ hexBytes bs

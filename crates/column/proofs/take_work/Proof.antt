@@ -4,7 +4,7 @@ use Prim.Native.Nat.{ℕ}
 use Rattle.settings.specs.Settings.{paramsOf, termsOf}
 use native.Mathlib.Omega.{arith}
 use Rattle.steps.proofs.Bounds.{open-first}
-use Rattle.slice.specs.Layout.{column, maskedIn}
+use Rattle.slice.specs.Layout.{maskedIn}
 use Rattle.column.proofs.Written.{held-first, held-same, work-first, work-later}
 use borrow.Author.Needs.{needs}
 use Rattle.column.proofs.take_work.Statement.{statement}

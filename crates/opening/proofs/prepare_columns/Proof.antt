@@ -34,13 +34,14 @@ prepare-column-requires c κs = (c .before .before .before .before .before .pre 
 loop-again : tie.Need-loop-again Inv-loop μ-loop
 unfolding columnsTo
 loop-again c =
+    let loop = c .before .before .before .before .before .loop in
     let a = c .before .before .before .before .before .before .before .before .args in
-    let m = c .before .before .before .before .before .loop .c in
+    let m = loop .c in
     let few = openings-most (paramsIn (a .side .settings)) (a .side .round) (c .before .before .before .before .before .before .before .before .pre .0 .ready .shape .most) in
-    let more : _ ≡ fill (c .before .before .before .before .before .loop .own) (mostOpenings * m) (openings (paramsIn (a .side .settings)) (a .side .round)) (prepared keyCount (a .side) (a .work .now) m) =
-    ap (λ (l : List ℕ). putMid (mostOpenings * m) (mostOpenings * m + mostOpenings - mostOpenings * m) (c .before .before .before .before .before .loop .own) l) (c .before .before .prepare-column .ensures)
-    ∙ fill-part (c .before .before .before .before .before .loop .own) (mostOpenings * m) (mostOpenings * m + mostOpenings - mostOpenings * m) (prepared keyCount (a .side) (a .work .now) m) (omega arith) _ (omega arith) in
-    (omega arith, rw (add-one m, ← c .before .before .before .before .before .loop .inv .1) more, ap length more ∙ length-fill _ _ _ _ ∙ c .before .before .before .before .before .loop .inv .2)
+    let more : _ ≡ fill (loop .own) (mostOpenings * m) (openings (paramsIn (a .side .settings)) (a .side .round)) (prepared keyCount (a .side) (a .work .now) m) =
+    ap (λ (l : List ℕ). putMid (mostOpenings * m) (mostOpenings * m + mostOpenings - mostOpenings * m) (loop .own) l) (c .before .before .prepare-column .ensures)
+    ∙ fill-part (loop .own) (mostOpenings * m) (mostOpenings * m + mostOpenings - mostOpenings * m) (prepared keyCount (a .side) (a .work .now) m) (omega arith) _ (omega arith) in
+    (omega arith, rw (add-one m, ← loop .inv .1) more, ap length more ∙ length-fill _ _ _ _ ∙ loop .inv .2)
 
 returns : tie.Need-returns Inv-loop μ-loop
 returns c =

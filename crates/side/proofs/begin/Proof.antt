@@ -21,7 +21,8 @@ begin-work-requires c κs =
 returns-2 : tie.Need-returns-2
 unfolding beginCall
 returns-2 c =
-    rw (← c .before .before .before .before .before .before .before .begin-no .ensures, eq-eqb (c .before .before .before .before .before .before .before .begin-no .result) 0 (c .before .before .before .before .before .before .if1 .left))
+    let begin-no = c .before .before .before .before .before .before .before .begin-no in
+    rw (← begin-no .ensures, eq-eqb (begin-no .result) 0 (c .before .before .before .before .before .before .if1 .left))
     (ap₂ (after 0) (c .begun .ensures) (c .before .before .before .begin-work .ensures))
 
 pub begin-spec : {M : Type 1} → statement M

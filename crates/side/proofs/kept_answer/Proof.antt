@@ -28,7 +28,8 @@ returns c =
     let count = openings (paramsIn (a .side .settings)) (a .side .round) in
     let held : ℕ → ℕ = λ j. getD (a .opened .now) j 0 in
     rw (eq-eqb (a .side .round) _ (c .before .before .before .before .if1 .taken))
-    (c .before .copy-numbers .ensures ∙ from-start (a .side .answer) (a .opened .now) 0 _ ∙ ap (λ (n : ℕ). fill (a .side .answer) 0 n held) (c .before .before .before .openings-in .ensures .0) ∙ front-is (a .side .answer) count held (omega arith))
+    (c .before .copy-numbers .ensures ∙ from-start (a .side .answer) (a .opened .now) 0 _ ∙ ap (λ (n : ℕ). fill (a .side .answer) 0 n held) (c .before .before .before .openings-in .ensures .0)
+    ∙ front-is (a .side .answer) count held (omega arith))
 
 returns-2 : tie.Need-returns-2
 returns-2 c = rw (ne-eqb (c .before .before .before .before .args .side .round) _ (c .if1 .left))

@@ -21,7 +21,9 @@ unfolding sendNo
 returns-3 c = search walk depth 8
 
 message-length-requires : tie.Need-message-length-requires
-message-length-requires c κs = send-whole (c .before .before .before .before .before .before .before .args .side) (sym (c .before .before .before .before .send-due .ensures) ∙ not-false _ (c .before .before .before .if1 .left)) .ready .shape .most
+message-length-requires c κs =
+    send-whole (c .before .before .before .before .before .before .before .args .side)
+    (sym (c .before .before .before .before .send-due .ensures) ∙ not-false _ (c .before .before .before .if1 .left)) .ready .shape .most
 
 returns-4 : tie.Need-returns-4
 unfolding sendNo

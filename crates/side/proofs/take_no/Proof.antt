@@ -22,10 +22,15 @@ unfolding takeDoor
 returns-3 c = search walk depth 8
 
 due-header-requires : tie.Need-due-header-requires
-due-header-requires c κs = due-whole (c .before .before .before .before .before .before .before .args .side) (sym (c .before .before .before .before .take-due .ensures) ∙ not-false _ (c .before .before .before .if1 .left)) .side2
+due-header-requires c κs =
+    due-whole (c .before .before .before .before .before .before .before .args .side)
+    (sym (c .before .before .before .before .take-due .ensures) ∙ not-false _ (c .before .before .before .if1 .left)) .side2
 
 form-no-requires : tie.Need-form-no-requires
-form-no-requires c κs = rw (c .due-header .ensures) (whole-fits (c .before .before .before .before .before .before .before .before .args .side) (due-whole (c .before .before .before .before .before .before .before .before .args .side) (sym (c .before .before .before .before .before .take-due .ensures) ∙ not-false _ (c .before .before .before .before .if1 .left))))
+form-no-requires c κs =
+    let a = c .before .before .before .before .before .before .before .before .args in
+    rw (c .due-header .ensures) (whole-fits (a .side) (due-whole (a .side)
+    (sym (c .before .before .before .before .before .take-due .ensures) ∙ not-false _ (c .before .before .before .before .if1 .left))))
 
 returns-4 : tie.Need-returns-4
 unfolding takeDoor

@@ -15,17 +15,21 @@ use Rattle.slice.proofs.begin_work.Tie as tie
 
 load-columns-requires : tie.Need-load-columns-requires
 load-columns-requires c κs =
-    let long : length (c .before .before .before .before .clear .last .0) ≡ workLength keyCount = ap length (c .before .before .before .before .clear .ensures) ∙ length-fill _ _ _ _ ∙ c .before .before .before .before .before .before .before .before .before .before .pre .1 .2 in
-    (long, c .before .before .before .before .before .before .shared-of .ensures .1, c .before .before .before .before .before .before .before .before .before .before .pre .0 .most, omega (arith, c .before .before .before .before .before .before .shared-of .ensures .0), omega arith)
+    let clear = c .before .before .before .before .clear in
+    let p = c .before .before .before .before .before .before .before .before .before .before .pre in
+    let shared-of = c .before .before .before .before .before .before .shared-of in
+    let long : length (clear .last .0) ≡ workLength keyCount = ap length (clear .ensures) ∙ length-fill _ _ _ _ ∙ p .1 .2 in
+    (long, shared-of .ensures .1, p .0 .most, omega (arith, shared-of .ensures .0), omega arith)
 
 returns : tie.Need-returns
 returns c =
+    let p = c .before .before .before .before .before .before .before .before .before .before .before .before .before .pre in
     let a = c .before .before .before .before .before .before .before .before .before .before .before .before .before .args in
     let few = c .before .before .before .before .before .before .before .before .before .shared-of .ensures in
     c .before .before .load-columns .ensures
     ∙ ap₂ (λ (m : ℕ) (s : List ℕ). loaded m (a .shape .n) width (a .inputs .now) (a .book .now) s width) (few .0) (c .before .before .before .before .before .before .before .clear .ensures)
-    ∙ loaded-begun (paramsOf (a .shape)) width (a .inputs .now) (a .book .now) _ (omega arith) (c .before .before .before .before .before .before .before .before .before .before .before .before .before .pre .0 .most)
-    (length-fill _ _ _ _ ∙ c .before .before .before .before .before .before .before .before .before .before .before .before .before .pre .1 .2) (cleared-at (a .work .now))
+    ∙ loaded-begun (paramsOf (a .shape)) width (a .inputs .now) (a .book .now) _ (omega arith) (p .0 .most)
+    (length-fill _ _ _ _ ∙ p .1 .2) (cleared-at (a .work .now))
 
 pub begin-work-spec : {M : Type 1} → statement M
 begin-work-spec =

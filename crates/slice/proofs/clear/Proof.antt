@@ -26,4 +26,5 @@ returns c =
 pub clear-spec : {M : Type 1} → statement M
 clear-spec =
     tie.close
-    (tie.spec Inv-loop μ-loop (λ c. (omega arith, sym (fill-none _ _ _), refl)) (λ c. omega arith) (λ c. omega arith) (λ c. omega arith) (λ c. simp length-set (omega arith)) loop-again (λ c. search needs) returns)
+    (tie.spec Inv-loop μ-loop (λ c. (omega arith, sym (fill-none _ _ _), refl)) (λ c. omega arith) (λ c. omega arith) (λ c. omega arith) (λ c. simp length-set (omega arith)) loop-again
+    (λ c. search needs) returns)

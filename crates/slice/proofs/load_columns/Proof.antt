@@ -23,7 +23,14 @@ loop-holds c = (omega arith, refl, refl)
 
 loop-again : tie.Need-loop-again Inv-loop μ-loop
 unfolding loaded
-loop-again c = (omega arith, rw (add-one (c .before .before .before .before .before .before .before .before .before .loop .c), ← c .before .before .before .before .before .before .before .before .before .loop .inv .1, ← c .before .before .before .before .before .before .load .ensures) (c .before .before .load2 .ensures), ap length (c .before .before .load2 .ensures) ∙ length-fill _ _ _ _ ∙ ap length (c .before .before .before .before .before .before .load .ensures) ∙ length-fill _ _ _ _ ∙ c .before .before .before .before .before .before .before .before .before .loop .inv .2)
+loop-again c =
+    let loop = c .before .before .before .before .before .before .before .before .before .loop in
+    let load = c .before .before .before .before .before .before .load in (
+      omega arith,
+      rw (add-one (loop .c), ← loop .inv .1, ← load .ensures) (c .before .before .load2 .ensures),
+      ap length (c .before .before .load2 .ensures) ∙ length-fill _ _ _ _
+          ∙ ap length (load .ensures) ∙ length-fill _ _ _ _ ∙ loop .inv .2,
+    )
 
 returns : tie.Need-returns Inv-loop μ-loop
 returns c =
@@ -33,4 +40,5 @@ returns c =
 pub load-columns-spec : {M : Type 1} → statement M
 load-columns-spec =
     tie.close
-    (tie.spec Inv-loop μ-loop loop-holds (λ c. omega arith) (λ c κs. omega arith) (λ c. omega arith) (λ c. omega arith) (λ c κs. omega arith) (λ c. omega arith) (λ c. omega arith) loop-again (λ c. search needs) returns)
+    (tie.spec Inv-loop μ-loop loop-holds (λ c. omega arith) (λ c κs. omega arith) (λ c. omega arith) (λ c. omega arith) (λ c κs. omega arith) (λ c. omega arith) (λ c. omega arith) loop-again
+    (λ c. search needs) returns)

@@ -22,7 +22,8 @@ openings-up-to-requires c κs =
 returns-2 : tie.Need-returns-2
 unfolding countCall
 returns-2 c =
-    rw (← c .before .before .before .is-whole .ensures, not-false (c .before .before .before .is-whole .result) (c .before .before .if1 .left), ← c .before .rounds-taken .ensures .0) (c .openings-up-to .ensures)
+    let is-whole = c .before .before .before .is-whole in
+    rw (← is-whole .ensures, not-false (is-whole .result) (c .before .before .if1 .left), ← c .before .rounds-taken .ensures .0) (c .openings-up-to .ensures)
 
 pub opening-count-spec : {M : Type 1} → statement M
 opening-count-spec = tie.close (tie.spec (λ c κs. search needs) returns rounds-taken-requires openings-up-to-requires returns-2)

@@ -8,8 +8,11 @@ returns : tie.Need-returns
 returns c =
     let a = c .before .before .before .before .before .before .before .before .args in
     let from = c .before .before .before .before .before .least in
-    let room = c .before .before .before .before .least2 in
-    (count-held (a .kept .now) (a .bytes .now) (a .held) (from .result) (room .result) (from .ensures) (room .ensures), kept-held (a .kept .now) (a .bytes .now) (a .held) (from .result) (room .result) (from .ensures) (room .ensures) _ (c .before .before .copy-to .ensures))
+    let room = c .before .before .before .before .least2 in (
+      count-held (a .kept .now) (a .bytes .now) (a .held) (from .result) (room .result) (from .ensures .0) (room .ensures .0),
+      kept-held (a .kept .now) (a .bytes .now) (a .held) (from .result) (room .result)
+          (from .ensures .0) (room .ensures .0) _ (c .before .before .copy-bytes .ensures),
+    )
 
 pub hold-spec : {M : Type 1} → statement M
 hold-spec =

@@ -1,4 +1,4 @@
--- `syntax::field_at` meets its contract. Assumes nothing.
+-- `syntax::field_at` meets its contract.
 use Rattle.lists.proofs.Choices.{choices}
 use Rattle.syntax.specs.Line.{fieldAt}
 use borrow.Author.Needs.{needs}

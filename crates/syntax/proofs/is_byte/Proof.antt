@@ -1,4 +1,4 @@
--- `syntax::is_byte` meets its contract. Assumes nothing.
+-- `syntax::is_byte` meets its contract.
 use Rattle.lists.proofs.Choices.{choices}
 use Rattle.syntax.specs.Line.{isByte}
 use borrow.Author.Needs.{needs}

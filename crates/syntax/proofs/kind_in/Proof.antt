@@ -1,4 +1,4 @@
--- `syntax::kind_in` meets its contract. Assumes nothing.
+-- `syntax::kind_in` meets its contract.
 use Rattle.lists.proofs.Choices.{choices}
 use Rattle.syntax.specs.Line.{kindIn}
 use borrow.Author.Needs.{needs}
@@ -20,12 +20,4 @@ returns-3 c = search choices
 pub kind-in-spec : {M : Type 1} → statement M
 kind-in-spec =
     tie.close
-    (tie.spec
-    (λ c κs. search needs)
-    (λ c κs. search needs)
-    returns
-    (λ c κs. search needs)
-    (λ c κs. search needs)
-    returns-2
-    (λ c κs. search needs)
-    returns-3)
+    (tie.spec (λ c κs. search needs) returns (λ c κs. search needs) returns-2 returns-3)

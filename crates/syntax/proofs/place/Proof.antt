@@ -1,4 +1,4 @@
--- `syntax::place` meets its contract. Assumes nothing.
+-- `syntax::place` meets its contract.
 use mathlib.Core.Path.{sym}
 use native.Mathlib.Omega.{arith}
 use lib.Seq.{set-out}

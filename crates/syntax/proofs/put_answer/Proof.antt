@@ -1,17 +1,22 @@
--- `syntax::put_answer` meets its contract. Assumes nothing.
-use borrow.Author.Tests.{eq-eqb, ne-eqb}
-use Rattle.syntax.specs.Answer.{answerPart}
+-- `syntax::put_answer` meets its contract.
 use borrow.Author.Needs.{needs}
+use Rattle.syntax.proofs.Answers.{answer-parts}
 use Rattle.syntax.proofs.put_answer.Statement.{statement}
 use Rattle.syntax.proofs.put_answer.Tie as tie
 
 returns : tie.Need-returns
-unfolding answerPart
-returns c = rw (eq-eqb _ 0 (c .before .if1 .taken)) (c .put-numbers .ensures)
-
-returns-2 : tie.Need-returns-2
-unfolding answerPart
-returns-2 c = rw (ne-eqb _ 0 (c .before .if1 .left)) (c .put-refusal .ensures)
+returns c =
+    let a = c .before .before .before .before .before .before .before .before .before .before .before .before .before .before .args in
+    answer-parts (a .number) (a .refused) (a .numbers .now) _ _ _ _
+    (c .before .before .before .before .before .before .before .before .before .before .put-number .ensures)
+    (c .before .before .before .before .before .before .put-result .ensures) (c .before .before .put-byte .ensures)
 
 pub put-answer-spec : {M : Type 1} → statement M
-put-answer-spec = tie.close (tie.spec (λ c κs. search needs) returns (λ c κs. search needs) returns-2)
+put-answer-spec =
+    tie.close
+    (tie.spec
+    (λ c κs. search needs)
+    (λ c κs. search needs)
+    (λ c κs. search needs)
+    (λ c. search needs)
+    returns)

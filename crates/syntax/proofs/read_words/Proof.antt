@@ -1,6 +1,6 @@
--- `syntax::read_words` meets its contract. Assumes nothing.
+-- `syntax::read_words` meets its contract.
 use Rattle.syntax.specs.Line.{words}
-use Rattle.syntax.specs.Reading.{withWords, startReading}
+use Rattle.syntax.specs.Reading.{withWords, startWords}
 use Rattle.syntax.proofs.Words.{rest, rest-all}
 use Rattle.syntax.proofs.Readings.{words-more, words-done, counted}
 use Prim.Native.Nat.{_≤_, _-_, _+_}
@@ -11,26 +11,30 @@ use Rattle.syntax.proofs.read_words.Statement.{statement}
 use Rattle.syntax.proofs.read_words.Tie as tie
 
 abbrev Inv-loop : tie.InvT-loop
-Inv-loop line reading₀ at₀ reading at =
-    (at ≤ length line + 1) × (reading .count ≤ at) × (withWords reading (rest line at) ≡ withWords startReading (words line))
+Inv-loop line read₀ at₀ read at =
+    (at ≤ length line + 1) × (read .count ≤ at) × (withWords read (rest line at) ≡ withWords startWords (words line))
 
 abbrev μ-loop : tie.MeasureT-loop
-μ-loop line reading₀ at₀ reading at = length line + 1 - at
+μ-loop line read₀ at₀ read at = length line + 1 - at
 
 loop-holds : tie.Need-loop-holds Inv-loop μ-loop
-loop-holds c = (omega arith, omega arith, ap (withWords startReading) (rest-all _))
+loop-holds c = (omega arith, omega arith, ap (withWords startWords) (rest-all _))
 
-word-length-requires : tie.Need-word-length-requires Inv-loop μ-loop
-word-length-requires c κs = tt
+length-before-requires : tie.Need-length-before-requires Inv-loop μ-loop
+length-before-requires c κs = tt
 
 loop-again : tie.Need-loop-again Inv-loop μ-loop
 loop-again c =
     let loop = c .before .before .before .before .before .loop in
-    let line = c .before .before .before .before .before .before .before .args .line .now in
-    (omega arith, omega (arith, counted _ _ _ (c .take-word .ensures)), words-more (loop .reading) _ _ line (loop .at) (c .before .before .word-length .result) (omega arith) (c .before .before .word-length .ensures .0) (loop .inv .2) (c .take-word .ensures))
+    let line = c .before .before .before .before .before .before .before .args .line .now in (
+      omega arith,
+      omega (arith, counted _ _ _ (c .take-word .ensures)),
+      words-more (loop .read) _ _ line (loop .at) (c .before .before .length-before .result) (omega arith)
+          (c .before .before .length-before .ensures .0) (loop .inv .2) (c .take-word .ensures),
+    )
 
 returns : tie.Need-returns Inv-loop μ-loop
-returns c = (words-done (c .before .loop .reading) _ (c .before .before .before .args .line .now) (c .before .loop .at) (omega arith) (c .before .loop .inv .2), omega arith)
+returns c = (words-done (c .before .loop .read) _ (c .before .before .before .args .line .now) (c .before .loop .at) (omega arith) (c .before .loop .inv .2), omega arith)
 
 pub read-words-spec : {M : Type 1} → statement M
 read-words-spec =
@@ -42,7 +46,7 @@ read-words-spec =
     (λ c. omega arith)
     (λ c. omega arith)
     (λ c. omega arith)
-    word-length-requires
+    length-before-requires
     (λ c. omega arith)
     (λ c. omega arith)
     (λ c. omega arith)

@@ -1,4 +1,4 @@
--- `syntax::order_of` meets its contract. Assumes nothing.
+-- `syntax::request_of` meets its contract.
 use Rattle.syntax.proofs.Readings.{order-is}
 use borrow.Author.Needs.{needs}
 use Rattle.syntax.proofs.request_of.Statement.{statement}

@@ -1,4 +1,4 @@
--- `syntax::set_in` meets its contract. Assumes nothing.
+-- `syntax::set_in` meets its contract.
 use Rattle.lists.proofs.Choices.{choices}
 use Rattle.syntax.specs.Line.{setIn}
 use borrow.Author.Needs.{needs}
@@ -15,4 +15,4 @@ returns-2 c = search choices
 
 pub set-in-spec : {M : Type 1} → statement M
 set-in-spec =
-    tie.close (tie.spec (λ c κs. search needs) (λ c κs. search needs) returns (λ c κs. search needs) returns-2)
+    tie.close (tie.spec (λ c κs. search needs) returns (λ c κs. search needs) returns-2)

@@ -1,4 +1,4 @@
--- `syntax::take_word` meets its contract. Assumes nothing.
+-- `syntax::take_word` meets its contract.
 use mathlib.Core.Path.{refl}
 use Rattle.syntax.specs.Reading.{withWord}
 use borrow.Author.Needs.{needs}

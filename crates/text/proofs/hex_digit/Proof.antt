@@ -1,4 +1,4 @@
--- `text::hex_digit` meets its contract. Assumes nothing.
+-- `text::hex_digit` meets its contract.
 use Rattle.lists.proofs.Choices.{choices}
 use Rattle.text.specs.Text.{hexDigit}
 use borrow.Author.Needs.{needs}

@@ -1,4 +1,4 @@
--- `text::is_blank` meets its contract. Assumes nothing.
+-- `text::is_blank` meets its contract.
 use Rattle.lists.proofs.Choices.{choices}
 use Rattle.text.specs.Numbers.{blankByte}
 use Rattle.text.proofs.is_blank.Statement.{statement}

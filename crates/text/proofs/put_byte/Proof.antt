@@ -1,16 +1,16 @@
--- `text::put_byte` meets its contract. Assumes nothing.
+-- `text::put_byte` meets its contract.
 use Rattle.lists.proofs.Choices.{choices}
-use Rattle.text.specs.Text.{put}
+use Rattle.text.specs.Text.{put, puts}
 use borrow.Author.Needs.{needs}
 use Rattle.text.proofs.put_byte.Statement.{statement}
 use Rattle.text.proofs.put_byte.Tie as tie
 
 returns : tie.Need-returns
-unfolding put
+unfolding put puts
 returns c = search choices
 
 returns-2 : tie.Need-returns-2
-unfolding put
+unfolding put puts
 returns-2 c = search choices
 
 pub put-byte-spec : {M : Type 1} → statement M

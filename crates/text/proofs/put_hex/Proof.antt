@@ -1,17 +1,17 @@
--- `text::put_hex` meets its contract. Assumes nothing.
+-- `text::put_hex` meets its contract.
 use Prim.Native.Nat.{_≤_, _-_}
 use mathlib.Core.Path.{_≡_, refl}
 use native.Mathlib.Omega.{arith}
 use borrow.Author.Needs.{needs}
 use lib.ListN.{length, drop}
-use Rattle.text.specs.Text.{putsHex}
-use Rattle.text.proofs.Texts.{putsHex-more, putsHex-done}
+use Rattle.text.specs.Text.{textAt, puts, hexBytes}
+use Rattle.text.proofs.Puts.{hex-more, hex-done}
 use Rattle.text.proofs.put_hex.Statement.{statement}
 use Rattle.text.proofs.put_hex.Tie as tie
 
 abbrev Inv-loop : tie.InvT-loop
 Inv-loop out₀ at bytes next₀ i₀ out next i =
-    (i ≤ length bytes) × (length out ≡ length out₀) × (putsHex (record { bytes = out; at = next }) (drop i bytes) ≡ putsHex (record { bytes = out₀; at = at }) bytes)
+    (i ≤ length bytes) × (length out ≡ length out₀) × (puts (textAt out next) (hexBytes (drop i bytes)) ≡ puts (textAt out₀ at) (hexBytes bytes))
 
 abbrev μ-loop : tie.MeasureT-loop
 μ-loop out₀ at bytes next₀ i₀ out next i = length bytes - i
@@ -19,20 +19,17 @@ abbrev μ-loop : tie.MeasureT-loop
 loop-holds : tie.Need-loop-holds Inv-loop μ-loop
 loop-holds c = (omega arith, refl, refl)
 
-put-hex-byte-requires : tie.Need-put-hex-byte-requires Inv-loop μ-loop
-put-hex-byte-requires c κs = tt
-
 loop-again : tie.Need-loop-again Inv-loop μ-loop
 loop-again c =
     let loop = c .before .before .before .before .before .before .loop in
     let bytes = c .before .before .before .before .before .before .before .before .before .args .bytes .now in
-    (omega arith, search needs, putsHex-more (record { bytes = loop .out; at = loop .next }) _ _ bytes (loop .i) (omega arith) (loop .inv .2) (c .before .before .put-hex-byte .ensures))
+    (omega arith, search needs, hex-more (textAt (loop .out) (loop .next)) _ _ bytes (loop .i) (omega arith) (loop .inv .2) (c .before .before .put-hex-byte .ensures))
 
 returns : tie.Need-returns Inv-loop μ-loop
 returns c =
     let loop = c .before .loop in
     let bytes = c .before .before .before .before .args .bytes .now in
-    putsHex-done (record { bytes = loop .out; at = loop .next }) _ bytes (loop .i) (omega arith) (loop .inv .2)
+    hex-done (textAt (loop .out) (loop .next)) _ bytes (loop .i) (omega arith) (loop .inv .2)
 
 pub put-hex-spec : {M : Type 1} → statement M
 put-hex-spec =
@@ -42,7 +39,7 @@ put-hex-spec =
     μ-loop
     loop-holds
     (λ c. omega arith)
-    put-hex-byte-requires
+    (λ c κs. tt)
     (λ c. omega arith)
     (λ c. omega arith)
     loop-again

@@ -1,11 +1,11 @@
--- `text::put_hex_byte` meets its contract. Assumes nothing.
-use Rattle.text.specs.Text.{putHex}
+-- `text::put_hex_byte` meets its contract.
+use Rattle.text.specs.Text.{puts}
 use borrow.Author.Needs.{needs}
 use Rattle.text.proofs.put_hex_byte.Statement.{statement}
 use Rattle.text.proofs.put_hex_byte.Tie as tie
 
 returns : tie.Need-returns
-unfolding putHex
+unfolding puts
 returns c = cc
 
 pub put-hex-byte-spec : {M : Type 1} → statement M

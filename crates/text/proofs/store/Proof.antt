@@ -1,4 +1,4 @@
--- `text::store` meets its contract. Assumes nothing.
+-- `text::store` meets its contract.
 use Rattle.lists.proofs.Choices.{choices}
 use Rattle.text.specs.Numbers.{stored}
 use borrow.Author.Needs.{needs}

@@ -1,0 +1,83 @@
+use borrow.Author.Needs.{needs}
+use Rattle.execution.proofs.begin_and_play.Statement.{statement}
+use Rattle.execution.proofs.begin_and_play.Tie as tie
+use Rattle.execution.proofs.begin_and_play.Reads as reads
+use Rattle.execution.proofs.begin_and_play.Lts as lts
+use Rattle.execution.proofs.begin_phone.Reads as begin-phone-reads
+use Rattle.execution.proofs.begin_server.Reads as begin-server-reads
+use Rattle.execution.proofs.cuts_of.Reads as cuts-of-reads
+use Rattle.execution.proofs.play_rounds.Reads as play-rounds-reads
+use Rattle.execution.proofs.run_at.Reads as run-at-reads
+
+cuts-of-requires : tie.Need-cuts-of-requires
+cuts-of-requires c κs = search needs
+
+run-at-requires : tie.Need-run-at-requires
+run-at-requires c κs = search needs
+
+run-at-requires-2 : tie.Need-run-at-requires-2
+run-at-requires-2 c κs = search needs
+
+slice-aggregate-begin-server : tie.Need-slice-aggregate-begin-server
+slice-aggregate-begin-server c = ?
+
+slice-aggregate-begin-server-2 : tie.Need-slice-aggregate-begin-server-2
+slice-aggregate-begin-server-2 c = search needs
+
+begin-server-requires : tie.Need-begin-server-requires
+begin-server-requires c κs = search needs
+
+mul-begin-phone : tie.Need-mul-begin-phone
+mul-begin-phone c = ?
+
+sub-begin-phone : tie.Need-sub-begin-phone
+sub-begin-phone c = search needs
+
+part-begin-phone-start : tie.Need-part-begin-phone-start
+part-begin-phone-start c = search needs
+
+part-begin-phone-end : tie.Need-part-begin-phone-end
+part-begin-phone-end c = search needs
+
+slice-aggregate-begin-phone : tie.Need-slice-aggregate-begin-phone
+slice-aggregate-begin-phone c = search needs
+
+begin-phone-requires : tie.Need-begin-phone-requires
+begin-phone-requires c κs = search needs
+
+slice-aggregate-play-rounds : tie.Need-slice-aggregate-play-rounds
+slice-aggregate-play-rounds c = search needs
+
+slice-aggregate-play-rounds-2 : tie.Need-slice-aggregate-play-rounds-2
+slice-aggregate-play-rounds-2 c = search needs
+
+play-rounds-requires : tie.Need-play-rounds-requires
+play-rounds-requires c κs = ?
+
+same-length : tie.Need-same-length
+same-length c = search needs
+
+returns : tie.Need-returns
+returns c = ?
+
+pub begin-and-play-spec : {M : Type 1} → statement M
+begin-and-play-spec =
+    tie.close
+    (tie.spec
+    cuts-of-requires
+    run-at-requires
+    run-at-requires-2
+    slice-aggregate-begin-server
+    slice-aggregate-begin-server-2
+    begin-server-requires
+    mul-begin-phone
+    sub-begin-phone
+    part-begin-phone-start
+    part-begin-phone-end
+    slice-aggregate-begin-phone
+    begin-phone-requires
+    slice-aggregate-play-rounds
+    slice-aggregate-play-rounds-2
+    play-rounds-requires
+    same-length
+    returns)

@@ -1,0 +1,62 @@
+use borrow.Author.Needs.{needs}
+use Rattle.execution.proofs.execute_in.Statement.{statement}
+use Rattle.execution.proofs.execute_in.Tie as tie
+use Rattle.execution.proofs.execute_in.Reads as reads
+use Rattle.execution.proofs.execute_in.Lts as lts
+use Rattle.dealer.proofs.deal.Reads as deal-reads
+use Rattle.execution.proofs.begin_and_play.Reads as begin-and-play-reads
+use Rattle.execution.proofs.cuts_of.Reads as cuts-of-reads
+use Rattle.execution.proofs.start.Reads as start-reads
+
+cuts-of-requires : tie.Need-cuts-of-requires
+cuts-of-requires c κs = search needs
+
+mul-deal : tie.Need-mul-deal
+mul-deal c = search needs
+
+sub-deal : tie.Need-sub-deal
+sub-deal c = search needs
+
+part-deal-start : tie.Need-part-deal-start
+part-deal-start c = search needs
+
+part-deal-end : tie.Need-part-deal-end
+part-deal-end c = search needs
+
+deal-requires : tie.Need-deal-requires
+deal-requires c κs = search needs
+
+start-requires : tie.Need-start-requires
+start-requires c κs = search needs
+
+begin-and-play-requires : tie.Need-begin-and-play-requires
+begin-and-play-requires c κs = ?
+
+same-length : tie.Need-same-length
+same-length c = search needs
+
+same-length-2 : tie.Need-same-length-2
+same-length-2 c = search needs
+
+same-length-3 : tie.Need-same-length-3
+same-length-3 c = search needs
+
+returns : tie.Need-returns
+returns c = ?
+
+pub execute-in-spec : {M : Type 1} → statement M
+execute-in-spec =
+    tie.close
+    (tie.spec
+    cuts-of-requires
+    mul-deal
+    sub-deal
+    part-deal-start
+    part-deal-end
+    deal-requires
+    start-requires
+    begin-and-play-requires
+    same-length
+    same-length-2
+    same-length-3
+    returns)

@@ -1,0 +1,141 @@
+-- A run carried through in order, up to the first refusal: the deal, both begins, and the seven rounds.
+use Prim.Native.Nat.{ℕ, zero, suc, _*_}
+use mathlib.Core.Bool.{cond}
+use mathlib.Core.List.{List, [], _∷_, _++_}
+use lib.Dec.{eqb}
+use lib.ListN.{take, drop, replicate}
+use Rattle.settings.specs.declared.Shape.{Shape}
+use Rattle.settings.specs.declared.Settings.{Settings}
+use Rattle.settings.specs.Sizes.{keyCount, mostBytes, bookSize, inputSize, workLength}
+use Rattle.settings.specs.Schedule.{rounds}
+use Rattle.dealer.specs.Deal.{dealNo}
+use Rattle.state.specs.State.{freshSide}
+use Rattle.runs.specs.Records.{PartyInput, PartyState, JointState, Party, Call, ScheduledCall, Observation, Outcome, partyInput, outcome, step}
+use Rattle.runs.specs.Records.Party.{observer, peer}
+use Rattle.runs.specs.Records.Call.{begin, send, takeLatest}
+use Rattle.runs.specs.Records.Observation.{began, sent, took, answered, counted}
+use Rattle.runs.specs.Demands.{scheduled, partyNumber}
+use Rattle.execution.specs.declared.RunTerms.{RunTerms}
+use Rattle.execution.specs.declared.Refusal.{Refusal}
+use Rattle.execution.specs.declared.CallKind.{CallKind}
+use Rattle.execution.specs.declared.CallKind.the-variants.{Deal, Begin, Send, Take, Answer}
+
+-- ---- The calls of a run in order. The observer is the server, the peer the phone
+
+-- the output that each send is lent: it has room for any message
+abbrev pub messageRoom : List ℕ
+messageRoom = replicate (mostBytes keyCount) 0
+
+-- so many rounds: "the server sends ..; the phone checks, then sends its own"
+abbrev pub roundCalls : ℕ → List ScheduledCall
+roundCalls zero = []
+roundCalls (suc n) =
+    scheduled observer (send messageRoom)
+    ∷ scheduled peer takeLatest
+    ∷ scheduled peer (send messageRoom)
+    ∷ scheduled observer takeLatest
+    ∷ roundCalls n
+
+abbrev pub runCalls : List ScheduledCall
+runCalls = scheduled observer begin ∷ scheduled peer begin ∷ roundCalls rounds
+
+-- ---- Refusals
+
+-- the call, the party (0 server or dealer, 1 phone) and the number of the first no; number 0: no refusal
+abbrev pub noRefusal : Refusal
+noRefusal = record { call = Deal; party = 0; number = 0 }
+
+unfoldable pub refusalOf : CallKind → ℕ → ℕ → Refusal
+refusalOf call party number = cond (eqb number 0) noRefusal (record { call = call; party = party; number = number })
+
+-- what a party's call adds to its record, as a refusal, and as a message sent
+abbrev pub refusalIn : ℕ → Observation → Refusal
+refusalIn party (began r) = refusalOf Begin party r
+refusalIn party (sent r m) = refusalOf Send party r
+refusalIn party (took r m) = refusalOf Take party r
+refusalIn party (answered r ns) = refusalOf Answer party r
+refusalIn party (counted n) = noRefusal
+
+abbrev pub messageIn : Observation → List ℕ
+messageIn (began r) = []
+messageIn (sent r m) = m
+messageIn (took r m) = []
+messageIn (answered r ns) = []
+messageIn (counted n) = []
+
+-- ---- A run as far as it was carried
+
+-- the first refusal, both parties, and all messages sent, one behind the other
+pub record Carried : Type 0 where
+  pub refusal : Refusal
+  pub parties : JointState
+  pub messages : List ℕ
+
+-- h: what the server's begin is handed; o: the phone's
+module _ (s : Settings) (serial : ℕ) (h o : PartyInput) where
+  -- what a call gives at its party
+  unfoldable pub outcomeAt : JointState → Party → Call → Outcome
+  outcomeAt w observer call = outcome keyCount s serial h (w .peer .latest) (w .observer) call
+  outcomeAt w peer call = outcome keyCount s serial o (w .observer .latest) (w .peer) call
+
+  -- one call more, unless one was refused
+  unfoldable pub carry : Carried → Party → Call → Carried
+  carry x party call =
+      let event = outcomeAt (x .parties) party call .observation in
+      cond (eqb (x .refusal .number) 0)
+      (record {
+        refusal = refusalIn (partyNumber party) event;
+        parties = step keyCount s serial h o (x .parties) party call;
+        messages = x .messages ++ messageIn event;
+      })
+      x
+
+  unfoldable pub carryAll : Carried → List ScheduledCall → Carried
+  carryAll x [] = x
+  carryAll x (m ∷ ms) = carryAll (carry x (m .party) (m .call)) ms
+
+-- ---- The whole run, from its terms and its numbers: the server's inputs, the phone's, and then the draw
+
+abbrev pub serverInputs : Shape → List ℕ → List ℕ
+serverInputs a numbers = take (inputSize a) numbers
+
+abbrev pub phoneInputs : Shape → List ℕ → List ℕ
+phoneInputs a numbers = take (inputSize a) (drop (inputSize a) numbers)
+
+abbrev pub drawIn : Shape → List ℕ → List ℕ
+drawIn a numbers = drop (inputSize a) (drop (inputSize a) numbers)
+
+-- what the begins are handed: each side's own keys and inputs, and its book of the deal
+abbrev pub serverInput : RunTerms → List ℕ → PartyInput
+serverInput t numbers =
+    let a = t .settings .shape in
+    partyInput keyCount (t .settings) 0 (t .keys0) (t .keys1) (drawIn a numbers) (serverInputs a numbers)
+
+abbrev pub phoneInput : RunTerms → List ℕ → PartyInput
+phoneInput t numbers =
+    let a = t .settings .shape in
+    partyInput keyCount (t .settings) 1 (t .keys0) (t .keys1) (drawIn a numbers) (phoneInputs a numbers)
+
+-- the working slices before a run
+abbrev pub zeroWork : List ℕ
+zeroWork = replicate (workLength keyCount) 0
+
+-- a fresh side that has sent nothing
+abbrev pub freshParty : PartyState
+freshParty = record { side = freshSide; work = zeroWork; latest = [] }
+
+-- after a deal, before the first begin
+abbrev pub notBegun : Refusal → Carried
+notBegun refusal = record { refusal = refusal; parties = record { observer = freshParty; peer = freshParty }; messages = [] }
+
+-- the first no of the deal, whose lent books have the size that the shape asks for
+abbrev pub dealNoOf : RunTerms → List ℕ → ℕ
+dealNoOf t numbers =
+    let a = t .settings .shape in
+    dealNo keyCount a (t .keys0) (t .keys1) (drawIn a numbers) (replicate (bookSize a) 0) (replicate (bookSize a) 0)
+
+-- dealt, begun by both, the server first, and played round by round
+unfoldable pub executed : RunTerms → List ℕ → Carried
+executed t numbers =
+    carryAll (t .settings) (t .serial) (serverInput t numbers) (phoneInput t numbers)
+    (notBegun (refusalOf Deal 0 (dealNoOf t numbers))) runCalls
