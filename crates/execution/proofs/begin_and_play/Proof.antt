@@ -8,6 +8,10 @@ use Rattle.execution.proofs.begin_server.Reads as begin-server-reads
 use Rattle.execution.proofs.cuts_of.Reads as cuts-of-reads
 use Rattle.execution.proofs.play_rounds.Reads as play-rounds-reads
 use Rattle.execution.proofs.run_at.Reads as run-at-reads
+use mathlib.Core.Path.{_≡_, refl, sym, ap, _∙_}
+use native.Mathlib.Omega.{arith}
+use lib.Seq.{length-take-le}
+use Rattle.execution.proofs.Whole.{server-part, phone-part, plays-from}
 
 cuts-of-requires : tie.Need-cuts-of-requires
 cuts-of-requires c κs = search needs
@@ -19,7 +23,7 @@ run-at-requires-2 : tie.Need-run-at-requires-2
 run-at-requires-2 c κs = search needs
 
 slice-aggregate-begin-server : tie.Need-slice-aggregate-begin-server
-slice-aggregate-begin-server c = ?
+slice-aggregate-begin-server c = sym (length-take-le _ _ (omega (arith, c .before .before .before .cuts-of .ensures .phone-is)))
 
 slice-aggregate-begin-server-2 : tie.Need-slice-aggregate-begin-server-2
 slice-aggregate-begin-server-2 c = search needs
@@ -28,7 +32,7 @@ begin-server-requires : tie.Need-begin-server-requires
 begin-server-requires c κs = search needs
 
 mul-begin-phone : tie.Need-mul-begin-phone
-mul-begin-phone c = ?
+mul-begin-phone c = omega (arith, c .before .before .before .before .before .before .cuts-of .ensures .phone-is, c .before .before .before .before .before .before .cuts-of .ensures .draw-is, c .before .before .before .before .before .before .cuts-of .ensures .within, c .before .before .before .before .before .before .before .before .before .before .before .good)
 
 sub-begin-phone : tie.Need-sub-begin-phone
 sub-begin-phone c = search needs
@@ -52,13 +56,18 @@ slice-aggregate-play-rounds-2 : tie.Need-slice-aggregate-play-rounds-2
 slice-aggregate-play-rounds-2 c = search needs
 
 play-rounds-requires : tie.Need-play-rounds-requires
-play-rounds-requires c κs = ?
+play-rounds-requires c κs = c .before .before .before .before .begin-phone .ensures .fits _ 14 (c .before .before .before .before .before .before .before .before .begin-server .ensures .fits _ 14 (c .before .before .before .before .before .before .before .before .before .before .before .before .before .before .before .before .before .before .pre))
 
 same-length : tie.Need-same-length
 same-length c = search needs
 
 returns : tie.Need-returns
-returns c = ?
+returns c =
+    let a = c .before .before .before .before .before .before .before .before .before .before .before .before .before .before .before .before .before .before .before .before .before .before .before .args in
+    let cut = c .before .before .before .before .before .before .before .before .before .before .before .before .before .before .before .before .before .before .cuts-of .ensures in
+    let one = rw (c .before .before .before .before .before .before .before .before .before .before .before .before .before .before .before .before .before .run-at .ensures, server-part (a .terms .settings .shape) (a .numbers .now) _ _ (cut .phone-is) (cut .draw-is)) at (c .before .before .before .before .before .before .before .before .before .before .before .before .before .begin-server .ensures) in
+    let two = rw (c .before .before .before .before .before .before .before .before .before .before .before .before .before .before .before .before .run-at2 .ensures, phone-part (a .terms .settings .shape) (a .numbers .now) _ _ (cut .phone-is) (cut .draw-is)) at (c .before .before .before .before .before .before .before .before .before .begin-phone .ensures) in
+    plays-from (a .dealt) (a .terms) (a .numbers .now) (a .book0 .now) (a .book1 .now) (a .messages .now) _ _ _ _ one two (c .before .before .before .before .before .before .before .before .before .before .before .before .before .before .before .before .before .before .before .before .before .before .before .pre) _ _ _ _ (c .before .before .before .before .play-rounds .ensures)
 
 pub begin-and-play-spec : {M : Type 1} → statement M
 begin-and-play-spec =

@@ -25,14 +25,8 @@ array-borrow-prefix-book1 c = omega (arith, c .before .book-size .ensures, book-
 slice-aggregate-execute-in-2 : tie.Need-slice-aggregate-execute-in-2
 slice-aggregate-execute-in-2 c = sym (length-take-le _ _ (omega (arith, c .before .before .book-size .ensures, book-most (c .before .before .before .before .before .args .terms .settings .shape))))
 
-slice-aggregate-execute-in-3 : tie.Need-slice-aggregate-execute-in-3
-slice-aggregate-execute-in-3 c = search needs
-
-slice-aggregate-execute-in-4 : tie.Need-slice-aggregate-execute-in-4
-slice-aggregate-execute-in-4 c = search needs
-
 execute-in-requires : tie.Need-execute-in-requires
-execute-in-requires c κs = (length-take-le _ _ (omega (arith, c .before .before .before .before .before .book-size .ensures, book-most (c .before .before .before .before .before .before .before .before .args .terms .settings .shape))) ∙ c .before .before .before .before .before .book-size .ensures, length-take-le _ _ (omega (arith, c .before .before .before .before .before .book-size .ensures, book-most (c .before .before .before .before .before .before .before .before .args .terms .settings .shape))) ∙ c .before .before .before .before .before .book-size .ensures, c .before .before .before .before .before .before .before .before .pre)
+execute-in-requires c κs = (length-take-le _ _ (omega (arith, c .before .before .before .book-size .ensures, book-most (c .before .before .before .before .before .before .args .terms .settings .shape))) ∙ c .before .before .before .book-size .ensures, length-take-le _ _ (omega (arith, c .before .before .before .book-size .ensures, book-most (c .before .before .before .before .before .before .args .terms .settings .shape))) ∙ c .before .before .before .book-size .ensures, c .before .before .before .before .before .before .pre)
 
 same-length : tie.Need-same-length
 same-length c = search needs
@@ -49,8 +43,6 @@ execute-spec =
     slice-aggregate-execute-in
     array-borrow-prefix-book1
     slice-aggregate-execute-in-2
-    slice-aggregate-execute-in-3
-    slice-aggregate-execute-in-4
     execute-in-requires
     same-length
     returns)

@@ -7,6 +7,8 @@ use Rattle.dealer.proofs.deal.Reads as deal-reads
 use Rattle.execution.proofs.begin_and_play.Reads as begin-and-play-reads
 use Rattle.execution.proofs.cuts_of.Reads as cuts-of-reads
 use Rattle.execution.proofs.start.Reads as start-reads
+use mathlib.Core.Path.{_≡_, refl, sym, ap, _∙_}
+use Rattle.execution.proofs.Whole.{draw-part, start-fits, whole-run}
 
 cuts-of-requires : tie.Need-cuts-of-requires
 cuts-of-requires c κs = search needs
@@ -30,7 +32,7 @@ start-requires : tie.Need-start-requires
 start-requires c κs = search needs
 
 begin-and-play-requires : tie.Need-begin-and-play-requires
-begin-and-play-requires c κs = ?
+begin-and-play-requires c κs = rw (c .before .before .before .start .ensures) (start-fits (c .before .before .before .before .before .before .before .before .deal .result) _ (c .before .before .before .before .before .before .before .before .before .before .before .before .before .before .before .before .before .before .before .before .pre .2))
 
 same-length : tie.Need-same-length
 same-length c = search needs
@@ -42,7 +44,12 @@ same-length-3 : tie.Need-same-length-3
 same-length-3 c = search needs
 
 returns : tie.Need-returns
-returns c = ?
+returns c =
+    let a = c .before .before .before .before .before .before .before .before .before .before .before .before .before .before .before .before .before .before .before .before .before .before .before .args in
+    let cut = c .before .before .before .before .before .before .before .before .before .before .before .before .before .before .before .cuts-of .ensures in
+    let dealt = rw (draw-part (a .terms .settings .shape) (a .numbers .now) _ _ (cut .phone-is) (cut .draw-is)) at (c .before .before .before .before .before .before .before .before .before .before .before .deal .ensures) in
+    let played = rw (c .before .before .before .before .before .before .start .ensures) at (c .before .before .begin-and-play .ensures) in
+    whole-run (a .terms) (a .numbers .now) (a .book0 .now) (a .book1 .now) (c .before .before .before .before .before .before .before .before .before .before .before .before .before .before .before .before .before .before .before .before .before .before .before .pre .0) (c .before .before .before .before .before .before .before .before .before .before .before .before .before .before .before .before .before .before .before .before .before .before .before .pre .1) (c .before .before .before .before .before .before .before .before .before .before .before .deal .result) _ _ dealt _ _ _ played
 
 pub execute-in-spec : {M : Type 1} → statement M
 execute-in-spec =
