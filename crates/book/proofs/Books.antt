@@ -1,6 +1,6 @@
 -- What stands in the two books of a deal, that their numbers are below the modulus, and that they add up.
 use mathlib.Core.Path.{_≡_, refl, sym, ap, ap₂, _∙_}
-use mathlib.Core.Bool.{true, false, true≢false}
+use mathlib.Core.Bool.{true, true≢false}
 use mathlib.Core.List.{List}
 use Prim.Native.Nat.{ℕ, _+_, _*_, _/_, _%_, _<_}
 use native.Mathlib.Nat.{mod-lt, mul-le-mul-right}
@@ -20,7 +20,7 @@ use Rattle.settings.specs.Sizes.{shared}
 use Rattle.rounding.specs.Digits.{digit}
 use Rattle.book.specs.Book.{Entry, groupGap, entryOf, maskAt, groupAt, isDrawn, drawn, phoneNumber, bookValue, entryValue}
 use Rattle.book.specs.Book.Entry.{mask, place, left, right, product, groupMask, groupPlace}
-use Rattle.book.specs.Deal.{inOrder, serverNumber, phoneBook, serverBook}
+use Rattle.book.specs.Books.{inOrder, serverNumber, phoneBook, serverBook}
 use Rattle.book.specs.Theorems.{Holds, Books, Values}
 use Rattle.book.proofs.Places.{places}
 

@@ -1,10 +1,11 @@
 -- The draw's cursor: where the numbers of a place begin, and how far the draw goes.
-use mathlib.Core.Path.{_≡_, refl, ap}
+use mathlib.Core.Path.{_≡_}
 use mathlib.Core.List.{List, [], _∷_}
 use Prim.Native.Nat.{ℕ, zero, suc, _+_, _≤_, _<_}
 use native.Mathlib.Nat.{mul-le-mul-right}
 use native.Mathlib.Omega.{arith}
 use lib.ListN.{length, getD, take}
+use lib.Seq.{take-length}
 use Rattle.lists.specs.Answers.{bit}
 use Rattle.settings.specs.Settings.{Params}
 use Rattle.settings.specs.Sizes.{shared, drawLength}
@@ -26,10 +27,6 @@ drawnIn-take es zero = omega arith
 drawnIn-take [] (suc k) = omega arith
 drawnIn-take (e ∷ es) (suc k) = omega (arith, drawnIn-take es k)
 
-take-all : {A : Type 0} (es : List A) → take (length es) es ≡ es
-take-all [] = refl
-take-all (e ∷ es) = ap (λ r. e ∷ r) (take-all es)
-
 module _ (p : Params) (width : ℕ) where
   pub drawAt-none : drawAt p width 0 ≡ 0
   unfolding drawAt drawnIn
@@ -46,7 +43,7 @@ module _ (p : Params) (width : ℕ) where
 
   pub drawAt-end : drawAt p width (shared p) ≡ drawLength p width
   unfolding drawAt drawLength
-  drawAt-end = rw (← plan-length p, take-all (plan p), ← drawn-is p)
+  drawAt-end = rw (← plan-length p, take-length (plan p), ← drawn-is p)
 
   pub cursor : Cursor p width
   cursor = record { none = drawAt-none; more = drawAt-more; inside = drawAt-inside; end = drawAt-end }

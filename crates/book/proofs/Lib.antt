@@ -1,8 +1,7 @@
--- Laws of books, draws and the deal.
+-- Laws of books and draws.
 pub mod Places
 pub mod Draws
 pub mod Sizes
 pub mod Books
 pub mod Starts
-pub mod Door
 pub mod Laws

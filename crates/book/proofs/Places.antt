@@ -2,9 +2,8 @@
 use mathlib.Core.Path.{_≡_, refl, sym, ap, ap₂, _∙_, subst}
 use mathlib.Core.List.{List, [], _∷_, _++_}
 use mathlib.Core.Bool.{Bool, true, false, cond}
-use mathlib.Core.Logic.{_⊎_, inl, inr}
-use Prim.Native.Nat.{ℕ, zero, suc, _+_, _*_, _≤_, _<_}
-use native.Mathlib.Nat.{mul-le-mul-right, eq-or-lt-of-le, zero-add, add-zero}
+use Prim.Native.Nat.{ℕ, zero, suc, _+_, _*_, _<_}
+use native.Mathlib.Nat.{mul-le-mul-right, zero-add, add-zero}
 use native.Mathlib.Omega.{arith}
 use lib.Dec.{eqb}
 use lib.ListN.{length, getD, length-append, List·getD-append}
@@ -12,6 +11,7 @@ use lib.Seq.{getD-append-add}
 use Rattle.lists.specs.Lists.{listFrom, listTo, joinFrom, joinTo}
 use Rattle.lists.proofs.Lists.{length-listFrom, getD-listFrom, getD-listTo, ahead, ahead-more, join-at, ahead-fixed}
 use Rattle.field.specs.Sums.{sumTo}
+use Rattle.field.proofs.Sums.{sum-within}
 use Rattle.settings.specs.Sets.{Scale, base}
 use Rattle.settings.specs.Settings.{Params}
 use Rattle.settings.specs.Sizes.{stride, shared, groups}
@@ -64,15 +64,6 @@ module _ (P : ℕ → Entry → Type 0) where
 
 -- ---- lengths
 
-pub sum-within : (f : ℕ → ℕ) (m i : ℕ) → i < m → sumTo i f + f i ≤ sumTo m f
-unfolding sumTo
-sum-within f zero i h = absurd (omega arith)
-sum-within f (suc m) i h = go (eq-or-lt-of-le h) (λ l. sum-within f m i l)
-  where
-    go : (suc i ≡ suc m) ⊎ (suc i < suc m) → (i < m → sumTo i f + f i ≤ sumTo m f) → sumTo i f + f i ≤ sumTo m f + f m
-    go (inl e) ih = let z : i ≡ m = omega arith in rw z (omega arith)
-    go (inr l) ih = omega (arith, ih (omega arith))
-
 module _ (p : Scale) where
   pub ahead-vectors : (c k : ℕ) → ahead 0 k (λ (i : ℕ). listTo (base p i) (place c i)) ≡ sumTo k (base p)
   unfolding joinFrom sumTo
@@ -104,7 +95,14 @@ module _ (p : Params) where
   pub length-coefficient : (c : ℕ) → length (coefficient p c) ≡ stride p
   unfolding stride
   length-coefficient c =
-      omega (arith, length-append (vectors (p .scale) c ++ triples c) (cond (eqb (p .kind) 0) (group 5 c) []), length-append (vectors (p .scale) c) (triples c), length-vectors (p .scale) c, ahead-triples c 8, length-tail c)
+      omega (
+        arith,
+        length-append (vectors (p .scale) c ++ triples c) (cond (eqb (p .kind) 0) (group 5 c) []),
+        length-append (vectors (p .scale) c) (triples c),
+        length-vectors (p .scale) c,
+        ahead-triples c 8,
+        length-tail c,
+      )
 
   pub ahead-coefficients : (k : ℕ) → ahead 0 k (coefficient p) ≡ maskAt p k
   ahead-coefficients k = ahead-fixed (stride p) k (coefficient p) length-coefficient
@@ -155,7 +153,8 @@ module _ (p : Params) where
   at-coefficient c h =
       let s : suc (maskAt p c) ≡ maskAt p c + 1 = omega arith in
       let v : length (vectors (p .scale) c) ≡ digits (p .scale) = length-vectors (p .scale) c in
-      let l : suc (maskAt p c) + length (vectors (p .scale) c ++ triples c) ≡ maskAt p c + 1 + digits (p .scale) + 3 * 8 = omega (arith, length-append (vectors (p .scale) c) (triples c), ahead-triples c 8) in
+      let l : suc (maskAt p c) + length (vectors (p .scale) c ++ triples c) ≡ maskAt p c + 1 + digits (p .scale) + 3 * 8 =
+      omega (arith, length-append (vectors (p .scale) c) (triples c), ahead-triples c 8) in
       stands-more Here (maskAt p c) (mask c) (vectors (p .scale) c ++ triples c ++ cond (eqb (p .kind) 0) (group 5 c) []) (at-mask h refl)
       (stands-append Here (suc (maskAt p c)) (vectors (p .scale) c ++ triples c) (cond (eqb (p .kind) 0) (group 5 c) [])
       (stands-append Here (suc (maskAt p c)) (vectors (p .scale) c) (triples c)
@@ -213,7 +212,8 @@ module _ (p : Params) where
       let l : length (triples c) ≡ 8 * 3 = ahead-triples c 8 in
       let a : ahead 0 t (λ (t : ℕ). left c t ∷ right c t ∷ product c t ∷ []) ≡ 3 * t = omega (arith, ahead-triples c t) in
       List·getD-append (vectors (p .scale) c ++ triples c) _ (mask 0) (digits (p .scale) + (3 * t + x)) (omega (arith, length-append (vectors (p .scale) c) (triples c)))
-      ∙ subst (λ k. getD (vectors (p .scale) c ++ triples c) (k + (3 * t + x)) (mask 0) ≡ getD (triples c) (3 * t + x) (mask 0)) v (getD-append-add (vectors (p .scale) c) (triples c) (3 * t + x) (mask 0))
+      ∙ subst (λ k. getD (vectors (p .scale) c ++ triples c) (k + (3 * t + x)) (mask 0) ≡ getD (triples c) (3 * t + x) (mask 0)) v
+      (getD-append-add (vectors (p .scale) c) (triples c) (3 * t + x) (mask 0))
       ∙ subst (λ k. getD (triples c) (k + x) (mask 0) ≡ getD (left c t ∷ right c t ∷ product c t ∷ []) x (mask 0)) a
       (join-at 8 (λ (t : ℕ). left c t ∷ right c t ∷ product c t ∷ []) (mask 0) t x h (omega arith))
 
@@ -278,4 +278,13 @@ module _ (p : Params) where
 
   pub places : Places p
   places =
-      record { every = at-entry; of-mask = holds-mask; of-vector = holds-place; of-left = holds-left; of-right = holds-right; of-product = holds-product; of-group = holds-ρ; of-groupPlace = holds-groupPlace }
+      record {
+        every = at-entry;
+        of-mask = holds-mask;
+        of-vector = holds-place;
+        of-left = holds-left;
+        of-right = holds-right;
+        of-product = holds-product;
+        of-group = holds-ρ;
+        of-groupPlace = holds-groupPlace;
+      }

@@ -2,12 +2,10 @@
 use mathlib.Core.Path.{_≡_, refl, ap₂, _∙_}
 use mathlib.Core.Bool.{Bool, true, false, cond}
 use mathlib.Core.List.{List, [], _∷_, _++_}
-use mathlib.Core.Logic.{_≢_}
-use Prim.Native.Nat.{ℕ, zero, suc, _+_, _*_, _≤_, _<_}
-use native.Mathlib.Nat.{mul-le-mul, le-div-iff-mul-le}
+use Prim.Native.Nat.{ℕ, zero, suc, _+_, _*_, _≤_}
+use native.Mathlib.Nat.{le-div-iff-mul-le}
 use native.Mathlib.Omega.{arith}
 use lib.Dec.{eqb}
-use borrow.Author.Tests.{eq-eqb, ne-eqb}
 use Rattle.lists.specs.Answers.{bit}
 use Rattle.lists.specs.Lists.{listFrom, listTo, joinFrom, joinTo}
 use Rattle.field.specs.Field.{q}
@@ -70,7 +68,8 @@ module _ (p : Params) where
   unfolding plan drawnIn
   drawn-is =
       drawnIn-append (joinTo (p .n) (coefficient p)) (cond (eqb (p .kind) 0) [] (group (p .n) 0))
-      ∙ ap₂ (λ a b. a + b) (drawnIn-join (17 + cond (eqb (p .kind) 0) 1 0) 0 (p .n) (coefficient p) drawnIn-coefficient) (drawnIn-cond (eqb (p .kind) 0) [] (group (p .n) 0) 0 1 refl (drawnIn-group (p .n) 0))
+      ∙ ap₂ (λ a b. a + b) (drawnIn-join (17 + cond (eqb (p .kind) 0) 1 0) 0 (p .n) (coefficient p) drawnIn-coefficient)
+      (drawnIn-cond (eqb (p .kind) 0) [] (group (p .n) 0) 0 1 refl (drawnIn-group (p .n) 0))
       ∙ by (eqb (p .kind) 0)
     where
       by : (b : Bool) → p .n * (17 + cond b 1 0) + cond b 0 1 ≡ 17 * p .n + cond b (p .n) 1

@@ -1,4 +1,4 @@
--- Books, draws and the deal.
+-- Books and draws.
 pub mod Book
-pub mod Deal
+pub mod Books
 pub mod Theorems

@@ -1,4 +1,5 @@
-// Books of shared numbers: where each number stands.
+// Books of shared numbers: where each number stands, and the K and gap of their zero checks; what a draw holds, and both sides' books
+// from it.
 ghost use mathlib.Core.Path.{_≡_};
 ghost use Prim.Native.Nat.{_+_, _*_, _/_, _≤_, _<_};
 ghost use Rattle.field.specs.Sums.{sumTo};
@@ -9,71 +10,52 @@ use field::Q;
 use settings::Shape;
 use settings::stride_of;
 
-// ---- Places, counted in shared numbers, for crates dealer, stock, steps and side and those above, which ask questions 1 and 2 first.
+// ---- Places, counted in shared numbers. Who calls has asked questions 1 and 2.
 
-// Set 0, behind the mask of a coefficient: where digit i's vector begins, or for 5 the triples. (The compiler makes one table of a
-// match; it would write out a constant array at each call.)
-fn start_of_first(i: usize) -> usize
-    requires { ⌜ i < 6 ⌝ }
-    ensures { λ r. ⌜ (r ≡ 1 + sumTo i (base (scaleOf 0))) × (r ≤ 133) ⌝ }
+// Behind the mask of a coefficient: where digit i's vector begins, or for 5 the triples. (The compiler makes one table of a match; it
+// would write out a constant array at each call.)
+fn start_of(set: u32, i: usize) -> usize
+    requires { ⌜ (set < 2) × (i < 6) ⌝ }
+    ensures { λ r. ⌜ (r ≡ 1 + sumTo i (base (scaleOf set))) × (r ≤ 133) ⌝ }
 {
-    match i {
+    match 6 * set as usize + i {
         0 => 1,
         1 => 17,
         2 => 33,
         3 => 57,
         4 => 88,
-        _ => 133,
-    }
-}
-
-// The same for set 1.
-fn start_of_second(i: usize) -> usize
-    requires { ⌜ i < 6 ⌝ }
-    ensures { λ r. ⌜ (r ≡ 1 + sumTo i (base (scaleOf 1))) × (r ≤ 133) ⌝ }
-{
-    match i {
-        0 => 1,
-        1 => 17,
-        2 => 49,
-        3 => 80,
-        4 => 113,
+        5 => 133,
+        6 => 1,
+        7 => 17,
+        8 => 49,
+        9 => 80,
+        10 => 113,
         _ => 130,
     }
 }
 
-fn start_of(set: u32, i: usize) -> usize
-    requires { ⌜ (set < 2) × (i < 6) ⌝ }
-    ensures { λ r. ⌜ (r ≡ 1 + sumTo i (base (scaleOf set))) × (r ≤ 133) ⌝ }
+// Mask r of coefficient j, or for j = n the end of the coefficients.
+pub fn mask_at(shape: Shape, j: usize) -> usize
+    requires { ⌜ (shape .set < 2) × (j ≤ 8) ⌝ }
+    ensures { λ r. ⌜ (r ≡ maskAt (paramsOf shape) j) × (r ≤ 165 * j) ⌝ }
 {
-    if set == 0 {
-        return start_of_first(i);
-    }
-    start_of_second(i)
-}
-
-// Mask r of coefficient c, or for c = n the end of the coefficients.
-pub fn mask_at(shape: Shape, c: usize) -> usize
-    requires { ⌜ (shape .set < 2) × (c ≤ 8) ⌝ }
-    ensures { λ r. ⌜ (r ≡ maskAt (paramsOf shape) c) × (r ≤ 165 * c) ⌝ }
-{
-    c * stride_of(shape)
+    j * stride_of(shape)
 }
 
 // The vector of digit i of r.
-pub fn vector_at(shape: Shape, c: usize, i: usize) -> usize
-    requires { ⌜ (shape .set < 2) × (c < 8) × (i < 5) ⌝ }
-    ensures { λ r. ⌜ (r ≡ vectorAt (paramsOf shape) c i) × (r ≤ 1320) ⌝ }
+pub fn vector_at(shape: Shape, j: usize, i: usize) -> usize
+    requires { ⌜ (shape .set < 2) × (j < 8) × (i < 5) ⌝ }
+    ensures { λ r. ⌜ (r ≡ vectorAt (paramsOf shape) j i) × (r ≤ 1320) ⌝ }
 {
-    mask_at(shape, c) + start_of(shape.set, i)
+    mask_at(shape, j) + start_of(shape.set, i)
 }
 
-// Triple t: a; b and c follow.
-pub fn triple_at(shape: Shape, c: usize, t: usize) -> usize
-    requires { ⌜ (shape .set < 2) × (c < 8) × (t ≤ 8) ⌝ }
-    ensures { λ r. ⌜ (r ≡ tripleAt (paramsOf shape) c t) × (r ≤ 1320) ⌝ }
+// Triple t: a; b and a × b follow.
+pub fn triple_at(shape: Shape, j: usize, t: usize) -> usize
+    requires { ⌜ (shape .set < 2) × (j < 8) × (t ≤ 8) ⌝ }
+    ensures { λ r. ⌜ (r ≡ tripleAt (paramsOf shape) j t) × (r ≤ 1320) ⌝ }
 {
-    mask_at(shape, c) + start_of(shape.set, 5) + 3 * t
+    mask_at(shape, j) + start_of(shape.set, 5) + 3 * t
 }
 
 // Group g: ρ; its vector follows.

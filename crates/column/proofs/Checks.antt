@@ -13,7 +13,8 @@ use Rattle.lists.proofs.Indicators.{eq-one, eq-zero}
 use Rattle.field.specs.Field.{sub}
 use Rattle.field.specs.Sums.{sumTo}
 use Rattle.field.specs.Forms.{Registers, value}
-use Rattle.field.proofs.Division.{mod-sub}
+use Rattle.field.proofs.Sums.{sum-most, sum-front}
+use Rattle.field.proofs.Differences.{less-is}
 use Rattle.settings.specs.Settings.{Params, paramsWith}
 use Rattle.settings.specs.Sets.{Scale}
 use Rattle.rounding.specs.Rounds.{nonzeroCount, gap, checkOpens, checkResult, insideResult}
@@ -53,15 +54,6 @@ module _ {p : Params} (ok : Lawful (p .scale)) (bound : ℕ) (masked : ℕ → �
       (index-below (p .scale .modulus) (groupK p) (omega arith) (group-gaps p ok gaps) x h)
 
 -- ---- what is checked
-
--- a public number less a form, where nothing is lost
-less-is : (m k x : ℕ) → k < m → x ≤ k → sub m (1 * k % m) x ≡ k - x
-less-is m k x h l = rw (one-mul k, mod-eq-of-lt {n = k} {m = m} h, mod-eq-of-lt {n = x} {m = m} (omega arith)) (mod-sub m k x h l)
-
-sum-most : (n : ℕ) (f : ℕ → ℕ) → ((j : ℕ) → j < n → f j ≤ 1) → sumTo n f ≤ n
-unfolding sumTo
-sum-most zero f h = omega arith
-sum-most (suc n) f h = omega (arith, sum-most n f (λ j l. h j (omega arith)), h n (omega arith))
 
 -- ys are the y of the coefficients, rs their masks
 module _ (p : Scale) (ok : Lawful p) (n bound : ℕ) (masked ys rs : ℕ → ℕ) (v : Registers) where
@@ -109,11 +101,6 @@ module _ (p : Scale) (ok : Lawful p) (n bound : ℕ) (masked ys rs : ℕ → ℕ
 data Full (n count b : ℕ) : Type 0 where
   full : count ≡ n → b ≡ 1 → Full n count b
   short : count < n → b ≡ 0 → Full n count b
-
-sum-front : (n : ℕ) (f : ℕ → ℕ) → sumTo (suc n) f ≡ f 0 + sumTo n (λ j. f (suc j))
-unfolding sumTo
-sum-front zero f = omega arith
-sum-front (suc n) f = omega (arith, sum-front n f)
 
 full-more : (t u : Bool) (n count : ℕ) → Full n count (bit u) → Full (suc n) (bit t + count) (bit (t && u))
 unfolding bit

@@ -8,10 +8,10 @@ use native.Mathlib.Nat.{mod-eq-of-lt, mod-lt, mul-le-mul-left, add-zero, zero-ad
 use lib.Dec.{eqb, leb, ltb}
 use borrow.Author.Tests.{lt-ltb, le-ltb, le-leb, lt-leb}
 use Rattle.lists.specs.Answers.{bit}
-use Rattle.lists.proofs.Indicators.{bit-le, lt-zero, off, on, bit-view}
+use Rattle.lists.proofs.Indicators.{bit-le, lt-zero}
 use Rattle.field.specs.Field.{sub}
 use Rattle.field.specs.Sums.{sumTo}
-use Rattle.field.proofs.Solve.{at, _⊕_, _⊖_, _⊗_, red, solve}
+use Rattle.field.proofs.Differences.{choice-is}
 use Rattle.settings.specs.Settings.{Params, Terms, paramsWith}
 use Rattle.settings.specs.Sets.{Scale, base}
 use Rattle.rounding.specs.Digits.{digit}
@@ -82,14 +82,6 @@ module _ (p : Scale) (ok : Lawful p) where
 
 -- ---- HIGH: a carry chooses between the sums without and with it
 
--- S + x + c × (x′ − x), where x = f d and x′ = f (d + 1)
-choose : (m S c d : ℕ) (f : ℕ → ℕ) → 0 < m → c ≤ 1 → ((S + f d) % m + c * sub m (f (d + 1)) (f d)) % m ≡ (S + f (d + c)) % m
-choose m S c d f pos h =
-    elim (bit-view c h) [
-      | off e ↦ rw (e, add-zero d) (solve m pos (red (at S ⊕ at (f d)) ⊕ at 0 ⊗ red (at (f (d + 1)) ⊖ at (f d))) (at S ⊕ at (f d)) (omega arith) .path)
-      | on e ↦ rw e (solve m pos (red (at S ⊕ at (f d)) ⊕ at 1 ⊗ red (at (f (d + 1)) ⊖ at (f d))) (at S ⊕ at (f (d + 1))) (omega arith) .path)
-    ]
-
 module _ (p : Scale) (ok : Lawful p) (n bound y r : ℕ) (hy : y < p .modulus) (hr : r < p .modulus) where
   -- the weight of digit i for gate k, where the public digit is x
   abbrev weighed : ℕ → ℕ → ℕ → ℕ
@@ -151,7 +143,7 @@ module _ (p : Scale) (ok : Lawful p) (n bound y r : ℕ) (hy : y < p .modulus) (
   high-gate i k h l =
       let pos : 0 < p .modulus = omega arith in
       rw (high-carry i (omega arith))
-      (choose (p .modulus) (kept i k) (carryInto p y r i) (digit p y i) (weighed i k) pos (carry-le p ok y r i (omega arith))
+      (choice-is (p .modulus) (kept i k) (carryInto p y r i) (digit p y i) (weighed i k) pos (carry-le p ok y r i (omega arith))
       ∙ ap (λ (x : ℕ). x % p .modulus) (sym (high-next i k h l)) ∙ mod-eq-of-lt (high-below i k h l))
 
   -- ---- BOUND: one digit more is compared
@@ -197,7 +189,8 @@ module _ {p : Scale} (ok : Lawful p) (n bound y r : ℕ) (hy : y < p .modulus) (
 
   -- rounds 2 to 5
   pub gate-clear : (kind i k : ℕ) → kind < 2 → i < 5 → k < 2
-      → (clearAddend p n bound y r kind i k + clearFactor (termsWith p kind n bound) y r i k 0 * clearFactor (termsWith p kind n bound) y r i k 1) % p .modulus ≡ clearRunning (termsWith p kind n bound) y r (suc i) k
+      → (clearAddend p n bound y r kind i k + clearFactor (termsWith p kind n bound) y r i k 0 * clearFactor (termsWith p kind n bound) y r i k 1) % p .modulus
+      ≡ clearRunning (termsWith p kind n bound) y r (suc i) k
   unfolding lookedAt clearFactor ruleOf weigh
   gate-clear zero i zero h a l =
       let x : ℕ = plainWeight p n bound y r 0 i 0 in

@@ -1,26 +1,25 @@
 -- What the forms of rounds 1 to 5 are worth on a plain column that holds the book: one law for all gates.
-use mathlib.Core.Path.{_≡_, refl, ap, _∙_}
+use mathlib.Core.Path.{_≡_, ap, _∙_}
 use mathlib.Core.Bool.{Bool, true, false, cond, _&&_}
 use mathlib.Core.List.{List}
 use Prim.Native.Nat.{ℕ, zero, suc, _+_, _-_, _*_, _/_, _%_, _≤_, _<_}
 use native.Mathlib.Omega.{arith}
-use native.Mathlib.Nat.{mod-eq-of-lt, add-zero, one-mul, add-mod-mod, mod-add-mod}
+use native.Mathlib.Nat.{add-zero, one-mul, add-mod-mod, mod-add-mod}
 use lib.Dec.{eqb}
 use Rattle.lists.specs.Answers.{bit}
-use Rattle.lists.proofs.Indicators.{eq-one, eq-zero, eq-swap}
+use Rattle.lists.proofs.Indicators.{eq-swap}
 use Rattle.field.specs.Field.{sub}
-use Rattle.field.specs.Forms.{Registers, reg, sum, _⊞_, _⊟_, value}
-use Rattle.field.proofs.Congruence.{≈-eq, ≈-trans, ≈-mod}
-use Rattle.field.proofs.Solve.{at, _⊕_, _⊖_, _⊗_, red, solve-by}
-use Rattle.field.proofs.Sums.{select}
+use Rattle.field.specs.Forms.{Registers, reg, _⊞_, _⊟_, value}
+use Rattle.field.proofs.Solve.{at}
+use Rattle.field.proofs.Forms.{unit-sum}
+use Rattle.field.proofs.Differences.{product-of-opened}
 use Rattle.settings.specs.Settings.{Params}
 use Rattle.settings.specs.Sets.{base}
 use Rattle.rounding.specs.Digits.{digit}
 use Rattle.settings.specs.Theorems.{Lawful}
 use Rattle.rounding.proofs.Radix.{digit-below}
-use Rattle.book.specs.Book.{groupK, groupGap, maskAt, vectorAt, tripleAt, groupAt, drawn}
+use Rattle.book.specs.Book.{groupK, groupGap, maskAt, vectorAt, tripleAt, groupAt, drawn, bookValue}
 use Rattle.settings.specs.Sizes.{shared, groups}
-use Rattle.book.specs.Book as Book
 use Rattle.book.proofs.Places.{places}
 use Rattle.book.proofs.Books.{values}
 use Rattle.slice.specs.Layout.{inputAt, runningAt}
@@ -40,7 +39,7 @@ pub record Held (p : Params) (v : Registers) (d : ℕ → ℕ) : Type 0 where
   pub marks : (g j : ℕ) → g < groups p → j < groupK p + 2 → v (groupAt p g + 1 + j) ≡ bit (eqb j (d (groupAt p g) / groupGap p))
 
 -- so does every column with the book's values in front
-pub held : (p : Params) (width : ℕ) (draw : List ℕ) (v : Registers) → ((k : ℕ) → k < shared p → v k ≡ Book.bookValue p width draw k)
+pub held : (p : Params) (width : ℕ) (draw : List ℕ) (v : Registers) → ((k : ℕ) → k < shared p → v k ≡ bookValue p width draw k)
     → Held p v (drawn p width draw)
 held p width draw v same =
     let at = places p in
@@ -61,21 +60,6 @@ held p width draw v same =
     two c t (suc (suc part)) h k l = absurd (omega arith)
 
 -- ---- a sum against a vector, and a gate whose factors were opened
-
-sum-is : (q : ℕ) (v : Registers) (n place d : ℕ) (f : ℕ → ℕ) → d < n → ((j : ℕ) → j < n → v (place + j) ≡ bit (eqb j d)) → f d < q → value q 1 v (sum n place f) ≡ f d
-sum-is q v n place d f l h b =
-    ap (λ (x : ℕ). x % q) (select n d f (λ j. v (place + j)) l (h d l ∙ eq-one {a = d} {b = d} refl) (λ j m ne. h j m ∙ eq-zero ne))
-    ∙ mod-eq-of-lt b
-
--- addend + u × v; the triple is taken out again
-gate-is : (q h u v a b c : ℕ) → 0 < q → c ≡ a * b % q
-    → sub q (((((h + sub q u a * v % q) % q) + sub q v b * u % q) % q + c) % q) (1 * (sub q u a * sub q v b % q) % q) ≡ (h + u * v) % q
-gate-is q h u v a b c pos t =
-    let e = red (at u ⊖ at a) in
-    let f = red (at v ⊖ at b) in
-    solve-by q pos (at c) (at a ⊗ at b) (≈-trans (≈-eq t) (≈-mod (a * b)))
-    (red (red (red (at h ⊕ red (e ⊗ at v)) ⊕ red (f ⊗ at u)) ⊕ at c) ⊖ red (at 1 ⊗ red (e ⊗ f)))
-    (at h ⊕ at u ⊗ at v) (omega arith) .path
 
 -- round 1 opens the input, shifted and masked
 pub input-is : {p : Params} (bound : ℕ) (masked : ℕ → ℕ) {v : Registers} {d : ℕ → ℕ} → Held p v d → (c : ℕ) → c < p .n
@@ -106,7 +90,8 @@ module _ {p : Params} (ok : Lawful (p .scale)) (bound : ℕ) (masked : ℕ → �
   pub sum-weight : (i k up : ℕ) → i < 5 → up ≤ 1 → value (p .scale .modulus) 1 v (vectorSum w c i k up) ≡ weigh (ruleOf (p .kind) i k) (limitOf (p .scale) i) (seen i k + up) (digit (p .scale) r i)
   unfolding vectorSum
   sum-weight i k up h l =
-      sum-is (p .scale .modulus) v (base (p .scale) i) (vectorAt p c i) (digit (p .scale) r i) (weigh (ruleOf (p .kind) i k) (limitOf (p .scale) i) (seen i k + up)) (digit-below (p .scale) ok r i hr h)
+      unit-sum (p .scale .modulus) v (base (p .scale) i) (vectorAt p c i) (digit (p .scale) r i)
+      (weigh (ruleOf (p .kind) i k) (limitOf (p .scale) i) (seen i k + up)) (digit-below (p .scale) ok r i hr h)
       (λ j b. book .vector c i j here h b)
       (weight-below (p .scale) ok (p .kind) i k (seen i k + up) (digit (p .scale) r i) h (omega (arith, seen-below i k h)) (digit-below (p .scale) ok r i hr h))
 
@@ -118,7 +103,8 @@ module _ {p : Params} (ok : Lawful (p .scale)) (bound : ℕ) (masked : ℕ → �
     unfolding factorU clearFactor
     u-is k = go (eqb (p .kind) 0)
       where
-        go : (b : Bool) → value (p .scale .modulus) 1 v (cond b (reg (runningAt 0 c)) (reg (vectorAt p c i + seen i k))) ≡ cond b (clearRunning (termsFor p bound) y r i 0) (bit (eqb (digit (p .scale) r i) (seen i k)))
+        go : (b : Bool) → value (p .scale .modulus) 1 v (cond b (reg (runningAt 0 c)) (reg (vectorAt p c i + seen i k)))
+            ≡ cond b (clearRunning (termsFor p bound) y r i 0) (bit (eqb (digit (p .scale) r i) (seen i k)))
         go true = before 0 (omega arith)
         go false = book .vector c i (seen i k) here most (seen-below i k most) ∙ eq-swap (seen i k) (digit (p .scale) r i)
 
@@ -127,7 +113,8 @@ module _ {p : Params} (ok : Lawful (p .scale)) (bound : ℕ) (masked : ℕ → �
     v-is k l = go (eqb (p .kind) 0)
       where
         go : (b : Bool) → value (p .scale .modulus) 1 v (cond b (vectorSum w c i k 1 ⊟ vectorSum w c i k 0) (reg (runningAt k c)))
-            ≡ cond b (sub (p .scale .modulus) (weigh (ruleOf (p .kind) i k) (limitOf (p .scale) i) (seen i k + 1) (digit (p .scale) r i)) (plainWeight (p .scale) (p .n) bound y r (p .kind) i k)) (clearRunning (termsFor p bound) y r i k)
+            ≡ cond b (sub (p .scale .modulus) (weigh (ruleOf (p .kind) i k) (limitOf (p .scale) i) (seen i k + 1) (digit (p .scale) r i))
+            (plainWeight (p .scale) (p .n) bound y r (p .kind) i k)) (clearRunning (termsFor p bound) y r i k)
         go true = rw (sum-weight i k 1 most (omega arith), sum-plain i k most)
         go false = before k l
 
@@ -155,6 +142,6 @@ module _ {p : Params} (ok : Lawful (p .scale)) (bound : ℕ) (masked : ℕ → �
     unfolding gateResult openFactor
     gate-next kinds k l =
         let t : ℕ = tripleAt p c (2 * (i - 1) + k) in
-        gate-is (p .scale .modulus) (value (p .scale .modulus) 1 v (addend w c i k)) (value (p .scale .modulus) 1 v (factorU w c i k)) (value (p .scale .modulus) 1 v (factorV w c i k))
+        product-of-opened (p .scale .modulus) (value (p .scale .modulus) 1 v (addend w c i k)) (value (p .scale .modulus) 1 v (factorU w c i k)) (value (p .scale .modulus) 1 v (factorV w c i k))
         (v (t + 0)) (v (t + 1)) (v (t + 2)) (omega arith) (book .product c (2 * (i - 1) + k) here (omega arith))
         ∙ (rw (addend-is k, u-is k, v-is k l) (gate-clear ok (p .n) bound y r hy hr (p .kind) i k kinds most l))

@@ -1,20 +1,22 @@
 -- ColumnsJoin: joined columns stay joined, through every opening and every round; in one column, and in whole working slices.
 use mathlib.Core.Path.{_≡_, refl, sym, fun-ext, _∙_}
 use mathlib.Core.Bool.{Bool, true, false, cond}
-use mathlib.Core.List.{List, [], _∷_, _++_}
+use mathlib.Core.List.{List, [], _∷_}
 use Prim.Native.Nat.{ℕ, zero, suc, _+_, _*_, _≤_, _<_}
 use native.Mathlib.Omega.{arith}
-use native.Mathlib.Nat.{mod-lt, add-zero, zero-add}
-use lib.Dec.{eqb, ltb}
-use lib.ListN.{length, getD, set, replicate, length-append, length-replicate}
+use lib.Dec.{eqb}
+use lib.ListN.{length, getD, replicate, length-append, length-replicate}
 use Rattle.lists.specs.Lists.{fill}
-use Rattle.field.specs.Forms.{Registers, Form, num, reg, sum, _⊞_, _⊟_, _⊠_, value, Adds, Join}
+use Rattle.lists.proofs.Lists.{padded}
+use Rattle.lists.proofs.Fill.{fill-below}
+use Rattle.field.specs.Forms.{Form, value, Adds, Join}
 use Rattle.field.proofs.Congruence.{≈-eq}
-use Rattle.field.proofs.Forms.{join-value, join-put}
+use Rattle.field.proofs.Forms.{join-value, join-put, value-below}
 use Rattle.settings.specs.Settings.{Terms}
 use Rattle.settings.specs.Sizes.{openings, places}
-use Rattle.book.specs.Deal.{multipliers}
+use Rattle.book.specs.Books.{multipliers}
 use Rattle.slice.specs.Layout.{column, maskedIn, weights}
+use Rattle.slice.proofs.Kept.{column-below}
 use Rattle.steps.specs.Steps.{Public, publicOf, opening, running}
 use Rattle.steps.specs.Work.{openingOn, takenColumn, takenColumns, takenWork}
 use Rattle.column.specs.Theorems.{ColumnsJoin, JoinedWork, SlicesJoin}
@@ -29,16 +31,6 @@ column-joins =
     }
 
 -- ---- the weights of the columns add up to the multipliers
-
-getD-none : (n c : ℕ) → _≡_ {A = ℕ} (getD (replicate n 0) c 0) 0
-getD-none zero c = refl
-getD-none (suc n) zero = refl
-getD-none (suc n) (suc c) = getD-none n c
-
-padded : (xs ys : List ℕ) (n c : ℕ) → getD (xs ++ replicate n 0) c 0 + getD (replicate (length xs) 0 ++ ys) c 0 ≡ getD (xs ++ ys) c 0
-padded [] ys n c = rw (getD-none n c) (zero-add (getD ys c 0))
-padded (x ∷ xs) ys n zero = add-zero x
-padded (x ∷ xs) ys n (suc c) = padded xs ys n c
 
 module _ (keys0 keys1 : List ℕ) (same : length keys0 ≡ length keys1) where
   weights-join : (c : ℕ) → getD (weights (length keys0) 0 keys0) c 0 + getD (weights (length keys0) 1 keys1) c 0 ≡ getD (multipliers keys0 keys1) c 0
@@ -84,7 +76,8 @@ module _ (T : Terms) (keys0 keys1 w₁ w₂ plain : List ℕ) (pos : 0 < T .para
 
   module _ (most : (T .params .n) ≤ 8) (opened : ℕ → ℕ) where
     stepped-joins : (masked : ℕ → ℕ) (c i : ℕ) → c < length m → let w = publicOf T masked in
-        Adds (T .params .scale .modulus) (getD m c 0) (stepped w round opened (getD κ₁ c 0) (column w₁ c) i) (stepped w round opened (getD κ₂ c 0) (column w₂ c) i) (stepped w round opened 1 (column plain 0) i)
+        Adds (T .params .scale .modulus) (getD m c 0) (stepped w round opened (getD κ₁ c 0) (column w₁ c) i)
+        (stepped w round opened (getD κ₂ c 0) (column w₂ c) i) (stepped w round opened 1 (column plain 0) i)
     stepped-joins masked c i h =
         let w = publicOf T masked in
         join-put 1336 (T .params .n) _ _ _ (join-put 1328 (T .params .n) _ _ _ (joined c h) (λ x. join-value pos (joined c h) (running w round opened 0 x)))
@@ -114,34 +107,6 @@ module _ (T : Terms) (keys0 keys1 w₁ w₂ plain : List ℕ) (pos : 0 < T .para
         masked-plain c = masked-work T round opened (1 ∷ []) plain most (omega (arith, j .exact)) c
 
 -- ---- numbers below the modulus
-
-set-below : (s : List ℕ) (i x m : ℕ) → x < m → ((j : ℕ) → getD s j 0 < m) → (j : ℕ) → getD (set s i x) j 0 < m
-set-below [] i x m k h j = h j
-set-below (y ∷ s) zero x m k h zero = k
-set-below (y ∷ s) zero x m k h (suc j) = h (suc j)
-set-below (y ∷ s) (suc i) x m k h zero = h 0
-set-below (y ∷ s) (suc i) x m k h (suc j) = set-below s i x m k (λ j. h (suc j)) j
-
-fill-below : (s : List ℕ) (i n : ℕ) (f : ℕ → ℕ) (m : ℕ) → ((j : ℕ) → getD s j 0 < m) → ((j : ℕ) → f j < m) → (j : ℕ) → getD (fill s i n f) j 0 < m
-unfolding fill
-fill-below s i zero f m h k = h
-fill-below s i (suc n) f m h k = set-below (fill s i n f) (i + n) (f n) m (k n) (fill-below s i n f m h k)
-
-column-below : (s : List ℕ) (c m : ℕ) → 0 < m → ((j : ℕ) → getD s j 0 < m) → (i : ℕ) → column s c i < m
-unfolding column
-column-below s c m pos h i = go (ltb i 1344)
-  where
-    go : (b : Bool) → cond b (getD s (c * 1536 + i) 0) 0 < m
-    go true = h (c * 1536 + i)
-    go false = pos
-
-value-below : (m κ : ℕ) (r : Registers) → 0 < m → ((i : ℕ) → r i < m) → (f : Form) → value m κ r f < m
-value-below m κ r pos h (num k) = mod-lt (κ * k) pos
-value-below m κ r pos h (reg i) = h i
-value-below m κ r pos h (sum n place weight) = mod-lt _ pos
-value-below m κ r pos h (f ⊞ g) = mod-lt _ pos
-value-below m κ r pos h (f ⊟ g) = mod-lt _ pos
-value-below m κ r pos h (k ⊠ f) = mod-lt _ pos
 
 module _ (w : Public) (round : ℕ) (opened : ℕ → ℕ) (pos : 0 < w .params .scale .modulus) where
   abbrev q : ℕ

@@ -1,6 +1,5 @@
 -- Laws of the rounds: the code's writes, the slice at the start, joined columns (ColumnsJoin), the plain run (PlainRun).
 pub mod Written
-pub mod Begun
 pub mod Columns
 pub mod Slices
 pub mod Joins

@@ -12,7 +12,7 @@ use lib.ListN.{length, getD}
 use Rattle.lists.specs.Answers.{bit}
 use Rattle.lists.specs.Lists.{listFrom, listTo}
 use Rattle.lists.proofs.Indicators.{bit-le}
-use Rattle.lists.proofs.Lists.{listTo-cong, listTo-getD}
+use Rattle.lists.proofs.Lists.{listTo-cong, map-is}
 use Rattle.field.specs.Field.{sub}
 use Rattle.field.specs.Sums.{sumTo}
 use Rattle.field.specs.Forms.{Registers, value}
@@ -39,14 +39,6 @@ use Rattle.column.proofs.Rounds.{not-first, less-one}
 -- the two kinds, by the test that the definitions ask
 kind-one : (kind : ℕ) → kind ≡ 1 → eqb kind 0 ≡ false
 kind-one kind e = rw e
-
-map-listFrom : (f g : ℕ → ℕ) (i n : ℕ) → map f (listFrom i n g) ≡ listFrom i n (λ (k : ℕ). f (g k))
-unfolding listFrom
-map-listFrom f g i zero = refl
-map-listFrom f g i (suc n) = ap (λ (l : List ℕ). f (g i) ∷ l) (map-listFrom f g (suc i) n)
-
-map-is : (f : ℕ → ℕ) (xs : List ℕ) → listTo (length xs) (λ (k : ℕ). f (getD xs k 0)) ≡ map f xs
-map-is f xs = sym (map-listFrom f (λ (k : ℕ). getD xs k 0) 0 (length xs)) ∙ ap (map f) (listTo-getD xs)
 
 module _ {T : Terms} {k : ℕ} {draw secret : List ℕ} (s : Sound T k draw secret) where
   abbrev r : ℕ → ℕ
@@ -138,7 +130,8 @@ module _ {T : Terms} {k : ℕ} {draw secret : List ℕ} (s : Sound T k draw secr
   bound-settled e =
       let g : 0 < groups (T .params) = rw e (omega arith) in
       let sum : ℕ = sumTo (T .params .n) (λ (c : ℕ). insideResult (T .params .scale) (T .bound) (y c) (r c)) in
-      let x : value (T .params .scale .modulus) 1 (R 5) (checkEntry w 0 (O 5 0)) ≡ checkResult (T .params .scale .modulus) (T .params .n) (ρ 0) (checkOpens (T .params .scale .modulus) (T .params .n) (ρ 0) ((T .params .n) - sum)) = entry 0 g ∙ (unfold clearChecked in rw e) in
+      let x : value (T .params .scale .modulus) 1 (R 5) (checkEntry w 0 (O 5 0)) ≡ checkResult (T .params .scale .modulus) (T .params .n) (ρ 0)
+      (checkOpens (T .params .scale .modulus) (T .params .n) (ρ 0) ((T .params .n) - sum)) = entry 0 g ∙ (unfold clearChecked in rw e) in
       let l : length secret ≡ T .params .n = s .secret-size in
       settled 0 (some s)
       ∙ rw e x
@@ -191,7 +184,8 @@ module _ {T : Terms} {k : ℕ} {draw secret : List ℕ} (s : Sound T k draw secr
   unfolding plainOpened openedFrom openings opening
   answer-plain = go (eqb (T .params .kind) 0) refl
     where
-      go : (b : Bool) → eqb (T .params .kind) 0 ≡ b → listTo (cond b (T .params .n) 1) (λ (o : ℕ). R 6 (runningAt 0 o)) ≡ cond b (map (highPart (T .params .scale)) secret) (verdict (T .params .scale .modulus) (T .bound) secret ∷ [])
+      go : (b : Bool) → eqb (T .params .kind) 0 ≡ b → listTo (cond b (T .params .n) 1) (λ (o : ℕ). R 6 (runningAt 0 o))
+          ≡ cond b (map (highPart (T .params .scale)) secret) (verdict (T .params .scale .modulus) (T .bound) secret ∷ [])
       go true e =
           let l : length secret ≡ T .params .n = s .secret-size in
           listTo-cong (T .params .n) _ (λ (c : ℕ). highPart (T .params .scale) (getD secret c 0)) (λ c h. high-settled e c h) ∙ (rw l at (map-is (highPart (T .params .scale)) secret))

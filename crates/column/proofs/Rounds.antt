@@ -101,7 +101,8 @@ module _ {T : Terms} {k : ℕ} {draw secret : List ℕ} (s : Sound T k draw secr
 
     -- the factors of gate j
     pub open-factor : (j part : ℕ) → j < 2 → part < 2
-        → value (T .params .scale .modulus) 1 (R (suc t)) (openFactor w c (suc t) j part) ≡ sub (T .params .scale .modulus) (clearFactor T (y c) (r c) (suc t) j part) (d (tripleAt (T .params) c (2 * t + j) + part))
+        → value (T .params .scale .modulus) 1 (R (suc t)) (openFactor w c (suc t) j part)
+        ≡ sub (T .params .scale .modulus) (clearFactor T (y c) (r c) (suc t) j part) (d (tripleAt (T .params) c (2 * t + j) + part))
     open-factor j part a b =
         rw (masked-is t c h, less-one t) at
         (factor-is (s .lawful) (T .bound) (M (suc t)) (book (suc t)) c h masked-below (drawn-below _) (suc t) (omega arith) (omega arith) before-masked j part a b)

@@ -9,28 +9,19 @@ use lib.ListN.{length, getD}
 use Rattle.lists.proofs.Questions.{both-yes}
 use Rattle.lists.proofs.Lists.{getD-listTo}
 use Rattle.field.specs.Forms.{Registers, updated}
+use Rattle.field.proofs.Forms.{updated-before, updated-at}
 use Rattle.settings.specs.Settings.{Params, Terms}
 use Rattle.settings.specs.Sizes.{openings, shared, widthOf, places}
-use Rattle.book.specs.Book.{drawn}
-use Rattle.book.specs.Book as Book
+use Rattle.book.specs.Book.{drawn, bookValue}
 use Rattle.slice.specs.Layout.{inputAt, runningAt, column, maskedIn, begunPlace, begunWork}
 use Rattle.steps.specs.Steps.{publicOf}
 use Rattle.steps.specs.Work.{openingOn, runningOn}
 use Rattle.column.specs.Run.{plainBook, plainStart, openedFrom, plainAfter}
 use Rattle.column.specs.Theorems.{Sound}
-use Rattle.column.proofs.Begun.{begun-length, begun-at}
+use Rattle.slice.proofs.Begun.{begun-length, begun-at}
 use Rattle.column.proofs.Columns.{stepped, taking, maskedAfter}
 use Rattle.column.proofs.Slices.{length-work, column-work, masked-work}
 use Rattle.column.proofs.Gates.{Held, held}
-
--- registers outside a run stay
-updated-before : (r : Registers) (a n : ℕ) (f : ℕ → ℕ) (i : ℕ) → i < a → updated r a n f i ≡ r i
-updated-before r a n f i h = rw (lt-ltb i a h)
-
-updated-at : (r : Registers) (a n : ℕ) (f : ℕ → ℕ) (k : ℕ) → k < n → updated r a n f (a + k) ≡ f k
-updated-at r a n f k h =
-    let m : a + k - a ≡ k = omega arith in
-    rw (le-ltb (a + k) a (omega arith), lt-ltb (a + k) (a + n) (omega arith), m)
 
 -- ---- a slice of one column
 
@@ -102,7 +93,9 @@ module _ {T : Terms} {k : ℕ} {draw secret : List ℕ} (s : Sound T k draw secr
   step-running t j c l h = step-is t (runningAt j c) ∙ go j l
     where
       go : (j : ℕ) → j < 2 → updated (updated (regs t) 1328 (T .params .n) (next t 0)) 1336 (T .params .n) (next t 1) (runningAt j c) ≡ next t j c
-      go zero l = updated-before (updated (regs t) 1328 (T .params .n) (next t 0)) 1336 (T .params .n) (next t 1) (1328 + c) (omega (arith, few)) ∙ updated-at (regs t) 1328 (T .params .n) (next t 0) c h
+      go zero l =
+          updated-before (updated (regs t) 1328 (T .params .n) (next t 0)) 1336 (T .params .n) (next t 1) (1328 + c) (omega (arith, few))
+          ∙ updated-at (regs t) 1328 (T .params .n) (next t 0) c h
       go (suc zero) l = updated-at (updated (regs t) 1328 (T .params .n) (next t 0)) 1336 (T .params .n) (next t 1) c h
       go (suc (suc j)) l = absurd (omega arith)
 
@@ -121,7 +114,7 @@ module _ {T : Terms} {k : ℕ} {draw secret : List ℕ} (s : Sound T k draw secr
       held (T .params) (widthOf k) draw (regs t)
       (λ i h. regs-stay t i (omega arith)
       ∙ begun-book (T .params) secret (plainBook T (widthOf k) draw secret) (s .room) i h
-      ∙ getD-listTo (shared (T .params)) (Book.bookValue (T .params) (widthOf k) draw) i 0 h)
+      ∙ getD-listTo (shared (T .params)) (bookValue (T .params) (widthOf k) draw) i 0 h)
 
   pub input-held : (c : ℕ) → c < T .params .n → regs 0 (inputAt c) ≡ getD secret c 0
   unfolding plainAfter plainStart

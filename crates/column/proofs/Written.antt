@@ -1,18 +1,15 @@
--- Laws of a working slice in a round: the masked numbers, columns that a round leaves as they were, and the numbers made
--- elsewhere and copied in.
+-- Laws of a working slice in a round: columns that a round leaves as they were, and the numbers made elsewhere and copied in.
 use mathlib.Core.Path.{_≡_, refl, sym, ap, _∙_, subst, fun-ext}
 use mathlib.Core.Logic.{_≢_}
 use mathlib.Core.Bool.{cond}
 use mathlib.Core.List.{List}
 use Prim.Native.Nat.{ℕ, zero, suc, _+_, _*_, _≤_, _<_}
-use native.Mathlib.Nat.{zero-add}
-use native.Mathlib.Decide.{decLt}
 use native.Mathlib.Omega.{arith}
-use lib.Dec.{eqb, ltb}
-use lib.ListN.{length, getD, List·getD-eq-default}
-use borrow.Author.Tests.{lt-ltb, le-ltb, eq-eqb, ne-eqb}
+use lib.Dec.{ltb}
+use lib.ListN.{length, getD}
+use borrow.Author.Tests.{eq-eqb, ne-eqb}
 use Rattle.lists.specs.Lists.{fill}
-use Rattle.lists.proofs.Fill.{length-fill, front-at, fill-same, fill-behind, copy-two}
+use Rattle.lists.proofs.Fill.{fill-same, fill-behind, copy-two, from-start}
 use Rattle.field.specs.Forms.{value}
 use Rattle.settings.specs.Settings.{Terms}
 use Rattle.settings.specs.Sizes.{openings, places}
@@ -21,41 +18,6 @@ use Rattle.steps.specs.Steps.{Public, publicOf, openInput, opening, vectorSum, 
 use Rattle.steps.specs.Work.{openingOn, runningOn, takenColumn, takenColumns, takenWork}
 use Rattle.steps.specs.Calls.{Held, HeldAll}
 use Rattle.settings.proofs.Sizes.{openings-most}
-
--- ---- The masked numbers
-
--- eight numbers copied from the slice
-pub masked-is : (work z ys : List ℕ) → length z ≡ 8 → ys ≡ fill z 0 8 (λ (j : ℕ). getD work (1376 + j) 0) → (c : ℕ) → getD ys c 0 ≡ maskedIn work c
-unfolding maskedIn
-masked-is work z ys h e c = go (decLt c 8)
-  where
-    go : Dec (c < 8) → getD ys c 0 ≡ cond (ltb c 8) (getD work (1376 + c) 0) 0
-    go (yes p) = rw (lt-ltb c 8 p, e) (front-at z 8 (λ (j : ℕ). getD work (1376 + j) 0) c (omega arith) p)
-    go (no p) = rw (le-ltb c 8 (omega arith), e) (List·getD-eq-default (fill z 0 8 (λ (j : ℕ). getD work (1376 + j) 0)) 0 {n = c} (omega (arith, length-fill z 0 8 (λ (j : ℕ). getD work (1376 + j) 0))))
-
--- the first n of the opened numbers
-pub opened-is : (opened z ys : List ℕ) (n : ℕ) → n ≤ length z → ys ≡ fill z 0 n (λ (j : ℕ). getD opened (0 + j) 0) → (c : ℕ) → c < n → getD ys c 0 ≡ getD opened c 0
-opened-is opened z ys n h e c l =
-    rw e (front-at z n (λ (j : ℕ). getD opened (0 + j) 0) c h l ∙ ap (λ (k : ℕ). getD opened k 0) (zero-add c))
-
--- ---- Runs
-
--- a loop that ends after all n
-pub fill-count : (s t : List ℕ) (a n m : ℕ) (f : ℕ → ℕ) → t ≡ fill s a n f → n ≡ m → t ≡ fill s a m f
-fill-count s t a n m f e h = e ∙ ap (λ (k : ℕ). fill s a k f) h
-
--- a list copied from its first number on
-from-start : (s t : List ℕ) (a n : ℕ) → fill s a n (λ (j : ℕ). getD t (0 + j) 0) ≡ fill s a n (λ (j : ℕ). getD t j 0)
-from-start s t a n = fill-same s a n (λ (j : ℕ). getD t (0 + j) 0) (λ (j : ℕ). getD t j 0) (λ j l. ap (λ (k : ℕ). getD t k 0) (zero-add j))
-
--- three copies, one after the other
-pub put-is : (s s₁ s₂ s₃ t u : List ℕ) (a b c k n : ℕ) (f : ℕ → ℕ) → s₁ ≡ fill s a k f
-    → s₂ ≡ fill s₁ b n (λ (j : ℕ). getD t (0 + j) 0) → s₃ ≡ fill s₂ c n (λ (j : ℕ). getD u (0 + j) 0)
-    → s₃ ≡ fill (fill (fill s a k f) b n (λ (j : ℕ). getD t j 0)) c n (λ (j : ℕ). getD u j 0)
-put-is s s₁ s₂ s₃ t u a b c k n f e₁ e₂ e₃ =
-    e₃ ∙ from-start s₂ u c n
-    ∙ ap (λ (l : List ℕ). fill l c n (λ (j : ℕ). getD u j 0))
-    (e₂ ∙ from-start s₁ t b n ∙ ap (λ (l : List ℕ). fill l b n (λ (j : ℕ). getD t j 0)) e₁)
 
 -- registers worked out elsewhere and copied behind the own numbers: a column after a round
 pub taken-is : (w : Public) (round : ℕ) (opened : ℕ → ℕ) (c κ count : ℕ) (work own z₀ z₁ first second out : List ℕ)

@@ -1,9 +1,9 @@
 -- The plain run in closed form: each running register and each opened number, from the coefficients and the drawn numbers.
 -- y is the number that round 1 opens for a coefficient, r its mask.
-use Prim.Native.Nat.{ℕ, zero, suc, _+_, _*_, _-_, _/_, _%_}
+use Prim.Native.Nat.{ℕ, _+_, _*_, _-_, _/_, _%_}
 use mathlib.Core.Bool.{cond}
 use mathlib.Core.List.{List}
-use lib.Dec.{eqb, leb, ltb}
+use lib.Dec.{eqb, leb}
 use lib.ListN.{getD}
 use Rattle.lists.specs.Answers.{bit}
 use Rattle.field.specs.Field.{add, sub}
@@ -23,41 +23,41 @@ module _ (T : Terms) where
   abbrev kind : ℕ
   kind = T .params .kind
 
-  -- the running register k after so many rounds, 1 to 5.
+  -- the running register of a gate after so many rounds, 1 to 5.
   -- HIGH: the carry, at last F; the zeros so far, at last with G. BOUND: are the lowest digits of r below those of the threshold?
   unfoldable pub clearRunning : ℕ → ℕ → ℕ → ℕ → ℕ
-  clearRunning y r rounds k =
+  clearRunning y r rounds which =
       cond (eqb kind 0)
-      (cond (eqb k 0)
+      (cond (eqb which 0)
       (cond (leb rounds 4) (carryInto scale y r rounds) (top (scale .parts) (topSum scale y r)))
       (cond (leb rounds 4) (sumTo rounds (zeroDigit scale y r)) (sumTo 4 (zeroDigit scale y r) + over (scale .parts) (topSum scale y r))))
-      (belowUpTo scale r (threshold (scale .modulus) (T .bound) k y) rounds)
+      (belowUpTo scale r (threshold (scale .modulus) (T .bound) which y) rounds)
 
-  -- u (part 0) and v (part 1) of gate k of digit i, 1 to 4
+  -- u (part 0) and v (part 1) of a gate of digit i, 1 to 4
   unfoldable pub clearFactor : ℕ → ℕ → ℕ → ℕ → ℕ → ℕ
-  clearFactor y r i k part =
-      let j = digit scale r i in
-      let d = digit scale (lookedAt (scale .modulus) kind (T .bound) k y) i in
+  clearFactor y r i which part =
+      let x = digit scale r i in
+      let d = digit scale (lookedAt (scale .modulus) kind (T .bound) which y) i in
       cond (eqb kind 0)
       (cond (eqb part 0)
       (clearRunning y r i 0)
-      (sub (scale .modulus) (weigh (ruleOf kind i k) (limitOf scale i) (d + 1) j) (weigh (ruleOf kind i k) (limitOf scale i) d j)))
+      (sub (scale .modulus) (weigh (ruleOf kind i which) (limitOf scale i) (d + 1) x) (weigh (ruleOf kind i which) (limitOf scale i) d x)))
       (cond (eqb part 0)
-      (bit (eqb j d))
-      (clearRunning y r i k))
+      (bit (eqb x d))
+      (clearRunning y r i which))
 
   -- the n of zero check g, from all the y and r
   unfoldable pub clearChecked : (ℕ → ℕ) → (ℕ → ℕ) → ℕ → ℕ
   clearChecked ys rs g =
-      cond (eqb kind 0) (nonzeroCount scale (ys g) (rs g)) (T .params .n - sumTo (T .params .n) (λ (c : ℕ). insideResult scale (T .bound) (ys c) (rs c)))
+      cond (eqb kind 0) (nonzeroCount scale (ys g) (rs g)) (T .params .n - sumTo (T .params .n) (λ (j : ℕ). insideResult scale (T .bound) (ys j) (rs j)))
 
 module _ (T : Terms) (width : ℕ) (draw secret : List ℕ) where
-  -- r and y of coefficient c
+  -- r and y of coefficient j
   unfoldable pub maskOf : ℕ → ℕ
-  maskOf c = drawn (T .params) width draw (maskAt (T .params) c)
+  maskOf j = drawn (T .params) width draw (maskAt (T .params) j)
 
   unfoldable pub maskedOf : ℕ → ℕ
-  maskedOf c = sub (T .params .scale .modulus) (getD secret c 0 + shiftOf T) (maskOf c)
+  maskedOf j = sub (T .params .scale .modulus) (getD secret j 0 + shiftOf T) (maskOf j)
 
   -- opening o of rounds 1 to 6
   unfoldable pub clearOpened : ℕ → ℕ → ℕ

@@ -1,5 +1,5 @@
 -- What is proved of the rounds, as types: joined columns stay joined (ColumnsJoin), and the plain run opens the plain meaning (PlainRun).
-use Prim.Native.Nat.{ℕ, suc, _+_, _*_, _%_, _/_, _<_, _≤_}
+use Prim.Native.Nat.{ℕ, suc, _+_, _*_, _%_, _<_, _≤_}
 use mathlib.Core.Path.{_≡_}
 use mathlib.Core.Bool.{true, cond}
 use mathlib.Core.List.{List, [], _∷_, map}
@@ -13,7 +13,7 @@ use Rattle.rounding.specs.Plain.{highPart, verdict}
 use Rattle.rounding.specs.Rounds.{gap}
 use Rattle.settings.specs.Theorems.{Lawful}
 use Rattle.settings.specs.Sizes.{openings, shared, widthOf, drawLength, places}
-use Rattle.book.specs.Deal.{multipliers}
+use Rattle.book.specs.Books.{multipliers}
 use Rattle.slice.specs.Layout.{inputAt, runningAt, column, ownIn, maskedIn, weights}
 use Rattle.steps.specs.Steps.{Public, publicOf}
 use Rattle.steps.specs.Work.{openingOn, runningOn, takenWork}
@@ -27,14 +27,14 @@ pub record ColumnsJoin : Type 0 where
       → (round o : ℕ)
       → Adds (w .params .scale .modulus) m (openingOn w round κ₁ r₁ o) (openingOn w round κ₂ r₂ o) (openingOn w round 1 v o)
   pub running : (w : Public) → 0 < w .params .scale .modulus → {m κ₁ κ₂ : ℕ} {r₁ r₂ v : Registers} → Join (w .params .scale .modulus) m κ₁ κ₂ r₁ r₂ v
-      → (round : ℕ) (opened : ℕ → ℕ) (k c : ℕ)
-      → Adds (w .params .scale .modulus) m (runningOn w round opened κ₁ r₁ k c) (runningOn w round opened κ₂ r₂ k c) (runningOn w round opened 1 v k c)
+      → (round : ℕ) (opened : ℕ → ℕ) (which j : ℕ)
+      → Adds (w .params .scale .modulus) m (runningOn w round opened κ₁ r₁ which j) (runningOn w round opened κ₂ r₂ which j) (runningOn w round opened 1 v which j)
 
 -- two working slices and a plain column: every register adds up, and all three hold the same masked numbers
 pub record JoinedWork (m : ℕ) (keys0 keys1 w₁ w₂ plain : List ℕ) : Type 0 where
-  pub adds : (c i : ℕ) → c < length (multipliers keys0 keys1) → Adds m (getD (multipliers keys0 keys1) c 0) (column w₁ c i) (column w₂ c i) (column plain 0 i)
-  pub masked₁ : (c : ℕ) → maskedIn w₁ c ≡ maskedIn plain c
-  pub masked₂ : (c : ℕ) → maskedIn w₂ c ≡ maskedIn plain c
+  pub adds : (c place : ℕ) → c < length (multipliers keys0 keys1) → Adds m (getD (multipliers keys0 keys1) c 0) (column w₁ c place) (column w₂ c place) (column plain 0 place)
+  pub masked₁ : (j : ℕ) → maskedIn w₁ j ≡ maskedIn plain j
+  pub masked₂ : (j : ℕ) → maskedIn w₂ j ≡ maskedIn plain j
   pub exact₁ : length w₁ ≡ length (multipliers keys0 keys1) * places
   pub exact₂ : length w₂ ≡ length (multipliers keys0 keys1) * places
   pub exact : length plain ≡ places
@@ -66,9 +66,9 @@ pub record SlicesJoin : Type 0 where
   -- its numbers stay below the modulus, and its length stays
   pub bounded : (T : Terms) (round : ℕ) (opened : ℕ → ℕ) (κs work : List ℕ)
       → 0 < T .params .scale .modulus → T .params .n ≤ 8 → 1 ≤ T .params .n → length work ≡ length κs * places
-      → ((i : ℕ) → getD work i 0 < T .params .scale .modulus) → ((o : ℕ) → opened o < T .params .scale .modulus)
+      → ((x : ℕ) → getD work x 0 < T .params .scale .modulus) → ((o : ℕ) → opened o < T .params .scale .modulus)
       → (length (takenWork T round opened κs work) ≡ length work)
-      × ((i : ℕ) → getD (takenWork T round opened κs work) i 0 < T .params .scale .modulus)
+      × ((x : ℕ) → getD (takenWork T round opened κs work) x 0 < T .params .scale .modulus)
 
 -- ---- PlainRun: the plain run, whatever the draw
 
@@ -84,16 +84,16 @@ pub record Sound (T : Terms) (k : ℕ) (draw secret : List ℕ) : Type 0 where
   pub secret-size : length secret ≡ T .params .n
   pub secret-below : (j : ℕ) → getD secret j 0 < T .params .scale .modulus
   pub draw-size : length draw ≡ drawLength (T .params) (widthOf k)
-  pub draw-below : (j : ℕ) → getD draw j 0 < T .params .scale .modulus
+  pub draw-below : (x : ℕ) → getD draw x 0 < T .params .scale .modulus
 
 pub record PlainRun : Type 0 where
   -- the running registers after rounds 1 to 5
   pub running : (T : Terms) (k : ℕ) (draw secret : List ℕ)
       → Sound T k draw secret
-      → (rounds c j : ℕ)
-      → 1 ≤ rounds → rounds ≤ 5 → c < T .params .n → j < 2
-      → column (plainAfter T (widthOf k) draw secret rounds) 0 (runningAt j c)
-      ≡ clearRunning T (maskedOf T (widthOf k) draw secret c) (maskOf T (widthOf k) draw secret c) rounds j
+      → (rounds j which : ℕ)
+      → 1 ≤ rounds → rounds ≤ 5 → j < T .params .n → which < 2
+      → column (plainAfter T (widthOf k) draw secret rounds) 0 (runningAt which j)
+      ≡ clearRunning T (maskedOf T (widthOf k) draw secret j) (maskOf T (widthOf k) draw secret j) rounds which
   -- the openings of rounds 1 to 6
   pub opened : (T : Terms) (k : ℕ) (draw secret : List ℕ)
       → Sound T k draw secret

@@ -12,6 +12,7 @@ ghost use Rattle.steps.specs.Steps.{publicOf, running};
 ghost use Rattle.steps.specs.Work.{openingOn, runningOn, takenColumn, takenColumns, takenWork};
 ghost use Rattle.steps.specs.Calls.{publicIn, Held, HeldAll};
 ghost use Rattle.settings.specs.Questions.{Ready};
+use lists::copy_numbers;
 use settings::PLACES;
 use settings::Settings;
 use settings::openings_in;
@@ -19,6 +20,7 @@ use slice::FIRST;
 use slice::MASKED;
 use slice::OWN;
 use slice::SECOND;
+use slice::masked_in;
 use steps::Column;
 use steps::Known;
 use steps::opening_value;
@@ -36,11 +38,12 @@ fn openings_of(settings: Settings, round: u32) -> usize
     openings_in(settings.shape, round) as usize
 }
 
-// This side's numbers in one column for the round's openings, in front of `out`. Crate side has asked.
+// This side's numbers in one column for the round's openings, in front of `out`. The caller has asked the questions.
 pub fn prepare(out: &mut [u32], work: &[u32], col: Column, known: Known)
     requires { ⌜ Ready (known .settings) ⌝ }
     requires { ⌜ (1 ≤ known .round) × (known .round ≤ rounds) × ((col .index + 1) * places ≤ length (now work)) × (openings (paramsOf (known .settings .shape)) (known .round) ≤ length (now out)) ⌝ }
-    ensures { λ _. ⌜ now (out .exit) ≡ fill (now (out .entry)) 0 (openings (paramsOf (known .settings .shape)) (known .round)) (openingOn (publicIn known) (known .round) (col .weight) (column (now (work .entry)) (col .index))) ⌝ }
+    ensures { λ _. ⌜ now (out .exit) ≡ fill (now (out .entry)) 0 (openings (paramsOf (known .settings .shape)) (known .round))
+        (openingOn (publicIn known) (known .round) (col .weight) (column (now (work .entry)) (col .index))) ⌝ }
 {
     let count = openings_of(known.settings, known.round);
     let mut o = 0;
@@ -51,51 +54,37 @@ pub fn prepare(out: &mut [u32], work: &[u32], col: Column, known: Known)
     }
 }
 
-// Running registers k of all coefficients after the round, in front of `out`.
-fn running_into(out: &mut [u32], work: &[u32], col: Column, known: Known, opened: &[u32], k: usize)
+// The first (which = 0) or second (1) running registers of all coefficients after the round, in front of `out`.
+fn running_into(
+    out: &mut [u32],
+    work: &[u32],
+    col: Column,
+    known: Known,
+    opened: &[u32],
+    which: usize,
+)
     requires { ⌜ Ready (known .settings) ⌝ }
-    requires { ⌜ ((col .index + 1) * places ≤ length (now work)) × (1 ≤ known .round) × (k < 2) × (known .settings .shape .n ≤ length (now out)) ⌝ }
+    requires { ⌜ ((col .index + 1) * places ≤ length (now work)) × (1 ≤ known .round) × (which < 2) × (known .settings .shape .n ≤ length (now out)) ⌝ }
     requires { ⌜ (openings (paramsOf (known .settings .shape)) (known .round) ≤ length (now opened)) × ((o : ℕ) → getD (now opened) o 0 < q) ⌝ }
-    ensures { λ _. ⌜ now (out .exit) ≡ fill (now (out .entry)) 0 (known .settings .shape .n) (runningOn (publicIn known) (known .round) (λ (o : ℕ). getD (now (opened .entry)) o 0) (col .weight) (column (now (work .entry)) (col .index)) k) ⌝ }
+    ensures { λ _. ⌜ now (out .exit) ≡ fill (now (out .entry)) 0 (known .settings .shape .n)
+        (runningOn (publicIn known) (known .round) (λ (o : ℕ). getD (now (opened .entry)) o 0) (col .weight) (column (now (work .entry)) (col .index)) which) ⌝ }
 {
     let n = known.settings.shape.n as usize;
-    let mut c = 0;
-    while c < n {
-        let x = running_value(work, col, known, opened, k, c);
-        out[c] = x;
-        c += 1;
-    }
-}
-
-// n numbers of `from` from place `first` on, to the places of `to` from `at` on.
-fn copy(to: &mut [u32], at: usize, from: &[u32], first: usize, n: usize)
-    requires { ⌜ (at + n ≤ length (now to)) × (first + n ≤ length (now from)) ⌝ }
-    ensures { λ _. ⌜ now (to .exit) ≡ fill (now (to .entry)) at n (λ (j : ℕ). getD (now (from .entry)) (first + j) 0) ⌝ }
-{
     let mut j = 0;
     while j < n {
-        to[at + j] = from[first + j];
+        let x = running_value(work, col, known, opened, which, j);
+        out[j] = x;
         j += 1;
     }
-}
-
-// The masked numbers that the slice holds, whose length crate side has asked (question 5).
-pub fn masked_in(work: &[u32]) -> [u32; 8]
-    requires { ⌜ places ≤ length (now work) ⌝ }
-    ensures { λ r. ⌜ ((c : ℕ) → getD r c 0 ≡ maskedIn (now (work .entry)) c) ⌝ }
-{
-    let mut ys = [0u32; 8];
-    copy(&mut ys, 0, work, MASKED, 8);
-    ys
 }
 
 // The first n of the opened numbers, and 0 behind them.
 fn masked_opened(opened: &[u32], n: usize) -> [u32; 8]
     requires { ⌜ (n ≤ 8) × (n ≤ length (now opened)) ⌝ }
-    ensures { λ r. ⌜ ((c : ℕ) → c < n → getD r c 0 ≡ getD (now (opened .entry)) c 0) ⌝ }
+    ensures { λ r. ⌜ ((j : ℕ) → j < n → getD r j 0 ≡ getD (now (opened .entry)) j 0) ⌝ }
 {
     let mut ys = [0u32; 8];
-    copy(&mut ys, 0, opened, 0, n);
+    copy_numbers(&mut ys, 0, opened, 0, n);
     ys
 }
 
@@ -109,17 +98,20 @@ fn put_column(
     second: &[u32],
 )
     requires { ⌜ Ready (known .settings) ⌝ }
-    requires { ⌜ ((col + 1) * places ≤ length (now work)) × (32 * (col + 1) ≤ length (now own)) × (known .settings .shape .n ≤ length (now first)) × (known .settings .shape .n ≤ length (now second)) ⌝ }
-    ensures { λ _. ⌜ now (work .exit) ≡ fill (fill (fill (now (work .entry)) (col * places + ownAt 0) (openings (paramsOf (known .settings .shape)) (known .round)) (λ (o : ℕ). getD (now (own .entry)) (32 * col + o) 0))
-        (col * places + runningAt 0 0) (known .settings .shape .n) (λ (c : ℕ). getD (now (first .entry)) c 0))
-        (col * places + runningAt 1 0) (known .settings .shape .n) (λ (c : ℕ). getD (now (second .entry)) c 0) ⌝ }
+    requires { ⌜ ((col + 1) * places ≤ length (now work)) × (32 * (col + 1) ≤ length (now own)) × (known .settings .shape .n ≤ length (now first))
+        × (known .settings .shape .n ≤ length (now second)) ⌝ }
+    ensures { λ _. ⌜ now (work .exit) ≡ fill (fill (fill
+        (now (work .entry)) (col * places + ownAt 0) (openings (paramsOf (known .settings .shape)) (known .round))
+        (λ (o : ℕ). getD (now (own .entry)) (32 * col + o) 0))
+        (col * places + runningAt 0 0) (known .settings .shape .n) (λ (j : ℕ). getD (now (first .entry)) j 0))
+        (col * places + runningAt 1 0) (known .settings .shape .n) (λ (j : ℕ). getD (now (second .entry)) j 0) ⌝ }
 {
     let start = col * PLACES;
     let n = known.settings.shape.n as usize;
     let count = openings_of(known.settings, known.round);
-    copy(work, start + OWN, own, OWN_ROOM * col, count);
-    copy(work, start + FIRST, first, 0, n);
-    copy(work, start + SECOND, second, 0, n);
+    copy_numbers(work, start + OWN, own, OWN_ROOM * col, count);
+    copy_numbers(work, start + FIRST, first, 0, n);
+    copy_numbers(work, start + SECOND, second, 0, n);
 }
 
 // One column after the round. `own` holds its own numbers for the openings. The running registers are worked out before
@@ -144,7 +136,8 @@ fn take_columns(work: &mut [u32], known: Known, opened: &[u32], own: &[u32], wei
     requires { ⌜ (1 ≤ known .round) × (length (now work) ≡ length (now weights) * places) × (32 * length (now weights) ≤ length (now own)) ⌝ }
     requires { ⌜ (openings (paramsOf (known .settings .shape)) (known .round) ≤ length (now opened)) × ((o : ℕ) → getD (now opened) o 0 < q) ⌝ }
     requires { ⌜ HeldAll (publicIn known) (known .round) (now weights) (now work) (now own) ⌝ }
-    ensures { λ _. ⌜ now (work .exit) ≡ takenColumns (publicIn known) (known .round) (λ (o : ℕ). getD (now (opened .entry)) o 0) (now (weights .entry)) (now (work .entry)) (length (now (weights .entry))) ⌝ }
+    ensures { λ _. ⌜ now (work .exit) ≡ takenColumns (publicIn known) (known .round) (λ (o : ℕ). getD (now (opened .entry)) o 0) (now (weights .entry))
+        (now (work .entry)) (length (now (weights .entry))) ⌝ }
 {
     let mut i = 0;
     while i < weights.len() {
@@ -180,7 +173,7 @@ pub fn take_work(
             masked: masked_opened(opened, settings.shape.n as usize),
         };
         take_columns(work, known, opened, own, weights);
-        copy(work, MASKED, opened, 0, settings.shape.n as usize);
+        copy_numbers(work, MASKED, opened, 0, settings.shape.n as usize);
     } else {
         let known = Known {
             settings: settings,

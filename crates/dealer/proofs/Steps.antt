@@ -13,16 +13,17 @@ use lib.ListN.{getD}
 use Rattle.lists.specs.Answers.{bit}
 use Rattle.field.specs.Field.{q, mul}
 use Rattle.field.specs.Sums.{sumTo}
+use Rattle.field.proofs.Sums.{sum-within}
 use Rattle.settings.specs.Sets.{base}
 use Rattle.rounding.specs.Digits.{splitOf}
 use Rattle.rounding.specs.Rounds.{gap}
 use Rattle.rounding.specs.declared.Split.{Split}
 use Rattle.book.specs.Book.{Entry, groupK, maskAt, vectorAt, tripleAt, groupAt, isDrawn, drawn}
-use Rattle.settings.specs.Sizes.{stride, groups}
+use Rattle.settings.specs.Sizes.{stride, groups, width}
 use Rattle.book.specs.Theorems.{Holds}
-use Rattle.dealer.specs.Work.{width, paramsFor, sharedFor, cursorFor, Next, Draws, Vector}
+use Rattle.dealer.specs.Work.{paramsFor, sharedFor, cursorFor, Next, Draws, Vector}
 use Rattle.dealer.specs.declared.DealContext.{DealContext}
-use Rattle.book.proofs.Places.{places, sum-within}
+use Rattle.book.proofs.Places.{places}
 use Rattle.book.proofs.Books.{value-holds}
 use Rattle.settings.proofs.Sizes.{shared-high, shared-bound}
 

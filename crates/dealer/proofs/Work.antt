@@ -5,17 +5,18 @@ use Prim.Native.Nat.{ℕ, suc, _+_, _*_, _/_, _%_, _≤_, _<_}
 use native.Mathlib.Nat.{add-zero}
 use native.Mathlib.Omega.{arith}
 use lib.Dec.{eqb}
-use lib.ListN.{length, getD, set}
+use lib.ListN.{length, getD}
 use Rattle.lists.specs.Answers.{bit}
 use Rattle.lists.specs.Lists.{fill, listTo}
-use Rattle.lists.proofs.Fill.{fill-none, fill-more, fill-join, fill-same, length-fill, whole-is}
+use Rattle.lists.proofs.Fill.{fill-none, fill-join, fill-same, length-fill, whole-is}
 use Rattle.field.specs.Field.{q, sub, mul}
 use Rattle.book.specs.Book.{drawn, phoneNumber}
-use Rattle.book.specs.Deal.{serverNumber}
-use Rattle.dealer.specs.Work.{width, dealtInto, paramsFor, cursorFor, serverFor, phoneFor, DealSlices, Next, Draws, Vector, Wrote}
+use Rattle.book.specs.Books.{serverNumber}
+use Rattle.dealer.specs.Work.{dealtInto, paramsFor, cursorFor, serverFor, phoneFor, DealSlices, Next, Draws, Vector, Wrote}
 use Rattle.dealer.specs.declared.DealContext.{DealContext}
 use Rattle.book.proofs.Draws.{drawAt-none, drawAt-more, drawAt-inside}
 use Rattle.book.proofs.Books.{value-drawn}
+use Rattle.settings.specs.Sizes.{width}
 
 -- ---- lists
 
@@ -105,10 +106,6 @@ unfolding dealtInto
 wrote-place {o} {k = k} h s p =
     let e : k + 1 ≡ suc k = omega arith in
     record { server-is = s; phone-is = p; next = rw e (omega (arith, drawAt-more (paramsFor o) width k (h .inside))) }
-
--- a turn of the loop over the columns
-pub stored : (s₀ s : List ℕ) (i n x : ℕ) (f : ℕ → ℕ) → s ≡ fill s₀ i n f → x ≡ f n → set s (i + n) x ≡ fill s₀ i (n + 1) f
-stored s₀ s i n x f e h = rw (fill-more, e, h)
 
 -- ---- a drawn number
 

@@ -1,2 +1,3 @@
--- What the dealer's working functions are told and promise.
+-- The dealer's call; what its working functions are told and promise.
+pub mod Deal
 pub mod Work

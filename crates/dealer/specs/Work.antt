@@ -9,68 +9,64 @@ use Rattle.lists.specs.Answers.{bit}
 use Rattle.lists.specs.Lists.{fill}
 use Rattle.settings.specs.Settings.{Params, paramsOf}
 use Rattle.settings.specs.Questions.{ShapeReady}
-use Rattle.settings.specs.Sizes.{keyCount, widthOf, shared, drawLength}
+use Rattle.settings.specs.Sizes.{width, shared, drawLength}
 use Rattle.book.specs.Book.{Entry, entryOf, isDrawn, drawAt, bookValue, phoneNumber}
-use Rattle.book.specs.Deal.{serverNumber}
+use Rattle.book.specs.Books.{serverNumber}
 use Rattle.dealer.specs.declared.DealContext.{DealContext}
 
--- how many numbers a place has
-abbrev pub width : ℕ
-width = widthOf keyCount
-
--- s with the numbers of `count` places from place k on, x ↦ f x being the numbers of the whole book
+-- the book with the numbers of `count` places from place e on, x ↦ f x being the numbers of the whole book
 unfoldable pub dealtInto : List ℕ → (ℕ → ℕ) → ℕ → ℕ → List ℕ
-dealtInto s f k count = fill s (width * k) (width * count) (λ (x : ℕ). f (width * k + x))
+dealtInto book f e count = fill book (width * e) (width * count) (λ (x : ℕ). f (width * e + x))
 
-module _ (o : DealContext) where
+module _ (context : DealContext) where
   abbrev pub paramsFor : Params
-  paramsFor = paramsOf (o .shape)
+  paramsFor = paramsOf (context .shape)
 
   abbrev pub sharedFor : ℕ
   sharedFor = shared paramsFor
 
   abbrev pub entryFor : ℕ → Entry
-  entryFor k = entryOf paramsFor k
+  entryFor e = entryOf paramsFor e
 
   abbrev pub cursorFor : ℕ → ℕ
-  cursorFor k = drawAt paramsFor width k
+  cursorFor e = drawAt paramsFor width e
 
   abbrev pub valueFor : List ℕ → ℕ → ℕ
-  valueFor draw k = bookValue paramsFor width draw k
+  valueFor draw e = bookValue paramsFor width draw e
 
   -- number x of a side's book
   unfoldable pub serverFor : List ℕ → ℕ → ℕ
-  serverFor draw x = serverNumber paramsFor width (o .factors) draw (x / width) (x % width)
+  serverFor draw x = serverNumber paramsFor width (context .factors) draw (x / width) (x % width)
 
   unfoldable pub phoneFor : List ℕ → ℕ → ℕ
   phoneFor draw x = phoneNumber paramsFor width draw (x / width) (x % width)
 
   -- what the questions have told
   pub record DealSlices (draw server phone : List ℕ) : Type 0 where
-    pub ready : ShapeReady (o .shape)
+    pub ready : ShapeReady (context .shape)
     pub draw-size : length draw ≡ drawLength paramsFor width
     pub server-size : length server ≡ sharedFor * width
     pub phone-size : length phone ≡ sharedFor * width
 
-  -- place k is next: its own numbers begin at `at`, and its joined value is v
-  pub record Next (draw : List ℕ) (k at v : ℕ) : Type 0 where
-    pub inside : k < sharedFor
-    pub begins : at ≡ cursorFor k + bit (isDrawn (entryFor k))
-    pub is : v ≡ valueFor draw k
+  -- place e is next: its own numbers begin at `at`, and its joined value is v
+  pub record Next (draw : List ℕ) (e at v : ℕ) : Type 0 where
+    pub inside : e < sharedFor
+    pub begins : at ≡ cursorFor e + bit (isDrawn (entryFor e))
+    pub is : v ≡ valueFor draw e
 
-  -- a drawn number stands at place k
-  pub record Draws (k : ℕ) : Type 0 where
-    pub inside : k < sharedFor
-    pub draws : isDrawn (entryFor k) ≡ true
+  -- a drawn number stands at place e
+  pub record Draws (e : ℕ) : Type 0 where
+    pub inside : e < sharedFor
+    pub draws : isDrawn (entryFor e) ≡ true
 
-  -- the vector of the number d stands at the places from k on
-  pub record Vector (draw : List ℕ) (k size d : ℕ) : Type 0 where
-    pub inside : k + size ≤ sharedFor
-    pub draws : (j : ℕ) → j < size → isDrawn (entryFor (k + j)) ≡ false
-    pub is : (j : ℕ) → j < size → bit (eqb j d) ≡ valueFor draw (k + j)
+  -- the vector of the number d stands at the places from e on
+  pub record Vector (draw : List ℕ) (e size d : ℕ) : Type 0 where
+    pub inside : e + size ≤ sharedFor
+    pub draws : (x : ℕ) → x < size → isDrawn (entryFor (e + x)) ≡ false
+    pub is : (x : ℕ) → x < size → bit (eqb x d) ≡ valueFor draw (e + x)
 
-  -- `count` places from place k on are dealt, and `at` is where the next one's numbers begin
-  pub record Wrote (draw server phone : List ℕ) (k count : ℕ) (server′ phone′ : List ℕ) (at : ℕ) : Type 0 where
-    pub server-is : server′ ≡ dealtInto server (serverFor draw) k count
-    pub phone-is : phone′ ≡ dealtInto phone (phoneFor draw) k count
-    pub next : at ≡ cursorFor (k + count)
+  -- `count` places from place e on are dealt, and `at` is where the next one's numbers begin
+  pub record Wrote (draw server phone : List ℕ) (e count : ℕ) (server′ phone′ : List ℕ) (at : ℕ) : Type 0 where
+    pub server-is : server′ ≡ dealtInto server (serverFor draw) e count
+    pub phone-is : phone′ ≡ dealtInto phone (phoneFor draw) e count
+    pub next : at ≡ cursorFor (e + count)

@@ -1,4 +1,4 @@
-// The dealer, who makes both sides' books from a draw.
+// The deal: its questions, and both sides' books from a draw.
 ghost use mathlib.Core.Path.{_≡_};
 ghost use mathlib.Core.Bool.{_&&_};
 ghost use Prim.Native.Nat.{_+_, _*_, _/_, _≤_, _<_};
@@ -8,11 +8,11 @@ ghost use Rattle.lists.specs.Answers.{bit};
 ghost use Rattle.field.specs.Sums.{sumTo};
 ghost use Rattle.settings.specs.Sets.{base};
 ghost use Rattle.settings.specs.Settings.{paramsOf};
-ghost use Rattle.settings.specs.Sizes.{keyCount, widthOf, shared, stride, drawLength, groups};
+ghost use Rattle.settings.specs.Sizes.{keyCount, width, shared, stride, drawLength, groups};
 ghost use Rattle.settings.specs.Questions.{keysOk};
 ghost use Rattle.rounding.specs.Digits.{splitOf};
 ghost use Rattle.book.specs.Book.{groupK, maskAt, vectorAt, tripleAt, groupAt, drawn};
-ghost use Rattle.book.specs.Deal.{dealNo, dealCall};
+ghost use Rattle.dealer.specs.Deal.{dealNo, dealCall};
 ghost use Rattle.dealer.specs.Work.{DealSlices, Next, Draws, Vector, Wrote, paramsFor, cursorFor, sharedFor};
 use book::group_at;
 use book::group_gap;
@@ -133,7 +133,7 @@ fn deal_vectors(
     r: Split,
 ) -> usize
     requires { ⌜ DealSlices o (now draw) (now server) (now phone) ⌝ }
-    requires { ⌜ (c < o .shape .n) × (at ≡ cursorFor o (vectorAt (paramsFor o) c 0)) × (r ≡ splitOf (paramsFor o .scale) (drawn (paramsFor o) (widthOf keyCount) (now draw) (maskAt (paramsFor o) c))) ⌝ }
+    requires { ⌜ (c < o .shape .n) × (at ≡ cursorFor o (vectorAt (paramsFor o) c 0)) × (r ≡ splitOf (paramsFor o .scale) (drawn (paramsFor o) width (now draw) (maskAt (paramsFor o) c))) ⌝ }
     ensures { λ r. ⌜ Wrote o (now (draw .entry)) (now (server .entry)) (now (phone .entry)) (vectorAt (paramsFor o) c 0) (sumTo 5 (base (paramsFor o .scale))) (now (server .exit)) (now (phone .exit)) r ⌝ }
 {
     let mut next = at;
@@ -296,7 +296,7 @@ fn all_keys_ok(keys0: [u32; KEYS], keys1: [u32; KEYS]) -> bool
 // Question 5: the draw, and the two lent books. (`deal_no` has asked 1 and 2.)
 fn lengths_ok(shape: Shape, draw: &[u32], server: &[u32], phone: &[u32]) -> bool
     requires { ⌜ (shape .set < 2) × (shape .n ≤ 8) ⌝ }
-    ensures { λ r. ⌜ r ≡ (eqb (length (now (draw .entry))) (drawLength (paramsOf shape) (widthOf keyCount)) && eqb (length (now (server .entry))) (shared (paramsOf shape) * widthOf keyCount) && eqb (length (now (phone .entry))) (shared (paramsOf shape) * widthOf keyCount)) ⌝ }
+    ensures { λ r. ⌜ r ≡ (eqb (length (now (draw .entry))) (drawLength (paramsOf shape) width) && eqb (length (now (server .entry))) (shared (paramsOf shape) * width) && eqb (length (now (phone .entry))) (shared (paramsOf shape) * width)) ⌝ }
 {
     let size = shared_of(shape) * WIDTH;
     if draw.len() != draw_length(shape) {

@@ -48,7 +48,7 @@ same-no s work out h = by (sendDue s) refl
 
     by : (d : Bool) → sendDue s ≡ d → ask d 8 (rest out) ≡ ask d 8 (rest messageRoom)
     by true e =
-        let fits = message-fits (paramsIn (s .settings)) (s .round) (send-whole s e .ready .most) in
+        let fits = message-fits (paramsIn (s .settings)) (s .round) (send-whole s e .ready .shape .most) in
         rw (
           le-leb (messageLength keyCount (paramsIn (s .settings)) (s .round)) (length out) (omega (arith, fits)),
           le-leb (messageLength keyCount (paramsIn (s .settings)) (s .round)) (length messageRoom) (omega (arith, fits, length-replicate {A = ℕ} (mostBytes keyCount) 0)),
@@ -131,7 +131,7 @@ module _ (e : Endpoint) (work before : List ℕ) (at : ℕ) (stands : Stands (e 
       let length-is : r .length ≡ size = ap (λ (a : AfterSend). a .sent .length) is in
       let side-is : r .side ≡ sentSide (e .side) = ap (λ (a : AfterSend). a .sent .side) is in
       let out-is : out ≡ inFront (message keyCount (e .side) work) part = ap (λ (a : AfterSend). a .out) is in
-      let fits = message-fits (paramsIn (e .side .settings)) (e .side .round) (send-ready keyCount (e .side) work messageRoom no .kept .ready .most) in
+      let fits = message-fits (paramsIn (e .side .settings)) (e .side .round) (send-ready keyCount (e .side) work messageRoom no .kept .ready .shape .most) in
       let said : messageSent (e .side) work ≡ message keyCount (e .side) work = rw there (take-at (message keyCount (e .side) work) _ size sized) in
       let tail : List ℕ = drop (length (message keyCount (e .side) work)) part ++ postOf at (length before - at) before in
       let after-is : after ≡ take at before ++ (message keyCount (e .side) work ++ tail) = rw out-is (rw append-assoc refl) in

@@ -17,7 +17,8 @@ use Rattle.settings.specs.Questions.{isBit, countOk, shapeOk}
 use Rattle.settings.specs.Sizes.{keyCount, widthOf, shared, bookSize, inputSize}
 use Rattle.settings.proofs.Sizes.{shared-most}
 use Rattle.settings.specs.Schedule.{rounds}
-use Rattle.book.specs.Deal.{Dealt, multipliers, serverBook, phoneBook, dealNo, dealCall}
+use Rattle.book.specs.Books.{multipliers, serverBook, phoneBook}
+use Rattle.dealer.specs.Deal.{Dealt, dealNo, dealCall}
 use Rattle.runs.specs.Records.{PartyInput, runOf}
 use Rattle.runs.specs.Records.Party.{observer, peer}
 use Rattle.runs.specs.Records.Call.{begin}

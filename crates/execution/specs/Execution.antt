@@ -8,7 +8,7 @@ use Rattle.settings.specs.declared.Shape.{Shape}
 use Rattle.settings.specs.declared.Settings.{Settings}
 use Rattle.settings.specs.Sizes.{keyCount, mostBytes, bookSize, inputSize, workLength}
 use Rattle.settings.specs.Schedule.{rounds}
-use Rattle.book.specs.Deal.{dealNo}
+use Rattle.dealer.specs.Deal.{dealNo}
 use Rattle.state.specs.State.{freshSide}
 use Rattle.runs.specs.Records.{PartyInput, PartyState, JointState, Party, Call, ScheduledCall, Observation, Outcome, partyInput, outcome, step}
 use Rattle.runs.specs.Records.Party.{observer, peer}

@@ -1,7 +1,7 @@
 -- Laws of congruence. `grw (≈-set, rules)` rewrites inside an expression by congruences, each rule once.
 use mathlib.Core.Path.{_≡_, refl, ap, sym, _∙_}
-use Prim.Native.Nat.{ℕ, zero, suc, _+_, _*_, _-_, _/_, _%_, _≤_, _<_}
-use native.Mathlib.Nat.{add-mod, mod-mod, mod-lt, mod-le, mod-self, add-assoc, add-comm, mul-comm, add-zero, mod-add-div, mod-eq-of-lt, mod-add-mod, add-mod-mod, add-mul-mod-self-left, add-mod-right, add-mul-mod-self-right, add-right-cancel, mod-zero}
+use Prim.Native.Nat.{ℕ, zero, suc, _+_, _*_, _/_, _%_, _<_}
+use native.Mathlib.Nat.{add-mod, mod-mod, mul-comm, mod-add-div, mod-eq-of-lt, add-mul-mod-self-left, add-mul-mod-self-right, add-right-cancel, mod-zero}
 use native.Mathlib.Omega.{arith}
 use Rattle.field.specs.Congruence.{_⊩_≈_}
 

@@ -1,16 +1,20 @@
 -- A linear form with public coefficients over the registers of a column, its value on a column of weight κ,
 -- and what the values on two columns join to. Each step of the value is reduced, as the code reduces it.
-use mathlib.Core.Path.{_≡_, refl, ap, sym, _∙_}
+use mathlib.Core.Path.{_≡_, refl, ap, _∙_}
 use mathlib.Core.Bool.{Bool, true, false, cond}
-use Prim.Native.Nat.{ℕ, zero, suc, _+_, _*_, _-_, _%_, _≤_, _<_}
+use Prim.Native.Nat.{ℕ, zero, suc, _+_, _*_, _-_, _%_, _<_}
 use native.Mathlib.Omega.{arith}
-use lib.Dec.{ltb}
+use native.Mathlib.Nat.{mod-lt, mod-eq-of-lt, add-comm}
+use lib.Dec.{ltb, eqb}
 use Rattle.field.specs.Congruence.{_⊩_≈_}
 use Rattle.field.specs.Sums.{sumTo}
 use Rattle.field.specs.Forms.{Registers, Form, num, reg, sum, _⊞_, _⊟_, _⊠_, value, Adds, Join, updated}
-use Rattle.field.proofs.Congruence.{≈-refl, ≈-eq, ≈-sym, ≈-trans, ≈-add, ≈-mul, ≈-mod, ≈-unmod, ≈-set}
+use Rattle.field.proofs.Congruence.{≈-refl, ≈-eq, ≈-sym, ≈-trans, ≈-add, ≈-mul, ≈-mod, ≈-unmod, ≈-set, ≈-lt, ≈-cancel}
 use Rattle.field.proofs.Solve.{at, _⊕_, _⊖_, _⊗_, red, solve-by}
-use Rattle.field.proofs.Sums.{sum-cong}
+use Rattle.field.proofs.Sums.{select}
+use borrow.Author.Tests.{lt-ltb, le-ltb}
+use Rattle.lists.specs.Answers.{bit}
+use Rattle.lists.proofs.Indicators.{eq-one, eq-zero}
 
 sum-join : (q m : ℕ) (r₁ r₂ v w : ℕ → ℕ) (n : ℕ) → ((j : ℕ) → Adds q m (r₁ j) (r₂ j) (v j)) → q ⊩ sumTo n (λ j. w j * r₁ j) + sumTo n (λ j. w j * r₂ j) ≈ m * sumTo n (λ j. w j * v j)
 unfolding sumTo
@@ -64,22 +68,14 @@ join-value pos j (f ⊞ g) = add-join pos (join-value pos j f) (join-value pos j
 join-value pos j (f ⊟ g) = sub-join pos (join-value pos j f) (join-value pos j g)
 join-value pos j (k ⊠ f) = scale-join pos k (join-value pos j f)
 
--- the value depends only on the registers that the form reads
-abbrev pub Agree : Registers → Registers → Form → Type 0
-Agree r s (num k) = Unit {0}
-Agree r s (reg i) = r i ≡ s i
-Agree r s (sum n p w) = (j : ℕ) → j < n → r (p + j) ≡ s (p + j)
-Agree r s (f ⊞ g) = Agree r s f × Agree r s g
-Agree r s (f ⊟ g) = Agree r s f × Agree r s g
-Agree r s (k ⊠ f) = Agree r s f
-
-pub value-agree : (q κ : ℕ) (r s : Registers) (f : Form) → Agree r s f → value q κ r f ≡ value q κ s f
-value-agree q κ r s (num k) h = refl
-value-agree q κ r s (reg i) h = h
-value-agree q κ r s (sum n p w) h = ap (λ (x : ℕ). x % q) (sum-cong n (λ j. w j * r (p + j)) (λ j. w j * s (p + j)) (λ j l. ap (λ (x : ℕ). w j * x) (h j l)))
-value-agree q κ r s (f ⊞ g) h = rw (value-agree q κ r s f (h .0), value-agree q κ r s g (h .1))
-value-agree q κ r s (f ⊟ g) h = rw (value-agree q κ r s f (h .0), value-agree q κ r s g (h .1))
-value-agree q κ r s (k ⊠ f) h = rw (value-agree q κ r s f h)
+-- the value is below q, where the registers are
+pub value-below : (q κ : ℕ) (r : Registers) → 0 < q → ((i : ℕ) → r i < q) → (f : Form) → value q κ r f < q
+value-below q κ r pos h (num n) = mod-lt _ pos
+value-below q κ r pos h (reg i) = h i
+value-below q κ r pos h (sum n place weight) = mod-lt _ pos
+value-below q κ r pos h (f ⊞ g) = mod-lt _ pos
+value-below q κ r pos h (f ⊟ g) = mod-lt _ pos
+value-below q κ r pos h (n ⊠ f) = mod-lt _ pos
 
 cond-join : {q m a₁ a₂ a b₁ b₂ b : ℕ} (t : Bool) → Adds q m a₁ a₂ a → Adds q m b₁ b₂ b → Adds q m (cond t a₁ b₁) (cond t a₂ b₂) (cond t a b)
 cond-join true h k = h
@@ -90,3 +86,31 @@ pub join-put : {q m κ₁ κ₂ : ℕ} {r₁ r₂ v : Registers} (a n : ℕ) (f�
     Join q m κ₁ κ₂ (updated r₁ a n f₁) (updated r₂ a n f₂) (updated v a n f)
 join-put a n f₁ f₂ f j h =
     record { weight = j .weight; numbers = λ i. cond-join (ltb i a) (j .numbers i) (cond-join (ltb i (a + n)) (h (i - a)) (j .numbers i)) }
+
+-- ---- values, registers and shares
+
+-- a sum against a vector that is 1 at d and 0 elsewhere
+pub unit-sum : (q : ℕ) (v : Registers) (n place d : ℕ) (f : ℕ → ℕ) → d < n → ((j : ℕ) → j < n → v (place + j) ≡ bit (eqb j d)) → f d < q → value q 1 v (sum n place f) ≡ f d
+unit-sum q v n place d f l h b =
+    ap (λ (x : ℕ). x % q) (select n d f (λ j. v (place + j)) l (h d l ∙ eq-one {a = d} {b = d} refl) (λ j m ne. h j m ∙ eq-zero ne))
+    ∙ mod-eq-of-lt b
+
+-- registers outside a run stay
+pub updated-before : (r : Registers) (a n : ℕ) (f : ℕ → ℕ) (i : ℕ) → i < a → updated r a n f i ≡ r i
+updated-before r a n f i h = rw (lt-ltb i a h)
+
+pub updated-at : (r : Registers) (a n : ℕ) (f : ℕ → ℕ) (k : ℕ) → k < n → updated r a n f (a + k) ≡ f k
+updated-at r a n f k h =
+    let m : a + k - a ≡ k = omega arith in
+    rw (le-ltb (a + k) a (omega arith), lt-ltb (a + k) (a + n) (omega arith), m)
+
+-- the two shares in the other order
+pub adds-swap : {q m a b c : ℕ} → Adds q m a b c → Adds q m b a c
+adds-swap {a = a} {b = b} h = record { total = rw (add-comm b a) (h .total) }
+
+-- what is missing to the same total is the same
+pub missing-same : (m f a b b′ v : ℕ) → Adds m f a b v → Adds m f a b′ v → b < m → b′ < m → b ≡ b′
+missing-same m f a b b′ v h h′ l l′ =
+    ≈-lt
+    (≈-cancel a (≈-trans (≈-eq (add-comm b a)) (≈-trans (h .total) (≈-trans (≈-sym (h′ .total)) (≈-eq (add-comm a b′))))))
+    l l′

@@ -1,6 +1,7 @@
--- Laws of congruence, division, sums and forms.
+-- Laws of congruence, division, sums, differences and forms.
 pub mod Division
 pub mod Congruence
 pub mod Solve
 pub mod Sums
+pub mod Differences
 pub mod Forms

@@ -1,21 +1,11 @@
 -- Ring identities modulo q. An expression over + * - % is split in what is added and what is taken away, both plain ℕ;
 -- the identity between the sums is `omega arith`'s, which multiplies products out.
-use mathlib.Core.Path.{_≡_, refl, ap, sym, _∙_}
-use Prim.Native.Nat.{ℕ, zero, suc, _+_, _*_, _-_, _%_, _≤_, _<_}
-use native.Mathlib.Nat.{mod-lt, mod-self}
+use mathlib.Core.Path.{_≡_}
+use Prim.Native.Nat.{ℕ, _+_, _*_, _-_, _%_, _<_}
+use native.Mathlib.Nat.{mod-lt}
 use native.Mathlib.Omega.{arith}
 use Rattle.field.specs.Congruence.{_⊩_≈_}
-use Rattle.field.proofs.Congruence.{≈-refl, ≈-eq, ≈-sym, ≈-trans, ≈-add, ≈-mul, ≈-mod, ≈-unmod, ≈-mult, ≈-cancel, ≈-set}
-
--- subtraction modulo q, before the last reduction
-abbrev pub minus : ℕ → ℕ → ℕ → ℕ
-minus q a b = a + (q - b % q)
-
-pub minus-add : (q a b : ℕ) → 0 < q → q ⊩ minus q a b + b ≈ a
-minus-add q a b pos =
-    let l : b % q < q = mod-lt b pos in
-    ≈-trans (≈-add (≈-refl (minus q a b)) (≈-sym (≈-mod b)))
-    (≈-trans (≈-eq (omega arith)) (≈-mult a 1))
+use Rattle.field.proofs.Congruence.{≈-refl, ≈-eq, ≈-sym, ≈-trans, ≈-add, ≈-mod, ≈-unmod, ≈-mult, ≈-cancel, ≈-set}
 
 -- an expression: `at t` is any number t; `less` is q - 1, the coefficient -1; `neg a` is q - a % q; `red a` is a % q
 infixl 65 _⊕_ _⊖_
@@ -82,11 +72,3 @@ module _ (q : ℕ) (pos : 0 < q) where
   -- from a congruence l ≈ r in hand (several: added by ≈-add, with factors by ≈-mul): a - b = l - r
   pub solve-by : (l r : E) → q ⊩ den q l ≈ den q r → (a b : E) → (up a + up r) + (down b + down l) ≡ (up b + up l) + (down a + down r) → q ⊩ den q a ≈ den q b
   solve-by l r h a b e = ≈-cancel (den q r) (≈-trans (solve (a ⊕ r) (b ⊕ l) e) (≈-add (≈-refl (den q b)) h))
-
--- the product of u and v, opened by e = u - a and f = v - b, with c = a * b
-pub product : (q u v a b : ℕ) → 0 < q →
-    q ⊩ (((u + (q - a % q)) % q * v) + (v + (q - b % q)) % q * u + a * b) + (q - ((u + (q - a % q)) % q * ((v + (q - b % q)) % q)) % q) ≈ u * v
-product q u v a b pos =
-    let e = red (at u ⊖ at a) in
-    let f = red (at v ⊖ at b) in
-    solve q pos (e ⊗ at v ⊕ f ⊗ at u ⊕ at a ⊗ at b ⊖ e ⊗ f) (at u ⊗ at v) (omega arith)

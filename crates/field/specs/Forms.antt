@@ -25,22 +25,22 @@ pub data Form : Type 0 where
 -- a form's value on a column of weight κ: κ is what a public 1 adds to the column. Each step is reduced modulo q.
 module _ (q κ : ℕ) (r : Registers) where
   abbrev pub value : Form → ℕ
-  value (num k) = mul q κ k
-  value (reg i) = r i
-  value (sum n place weight) = sumTo n (λ (j : ℕ). weight j * r (place + j)) % q
+  value (num a) = mul q κ a
+  value (reg place) = r place
+  value (sum n place weight) = sumTo n (λ (x : ℕ). weight x * r (place + x)) % q
   value (f ⊞ g) = add q (value f) (value g)
   value (f ⊟ g) = sub q (value f) (value g)
-  value (k ⊠ f) = mul q k (value f)
+  value (a ⊠ f) = mul q a (value f)
 
--- a and b add up to m times c, modulo q
-pub record Adds (q m a b c : ℕ) : Type 0 where
-  pub total : q ⊩ a + b ≈ m * c
+-- a and b add up to m times v, modulo q
+pub record Adds (q m a b v : ℕ) : Type 0 where
+  pub total : q ⊩ a + b ≈ m * v
 
 -- two columns add up to m times the plain column: their weights to m, their numbers place by place
 pub record Join (q m κ₁ κ₂ : ℕ) (r₁ r₂ plain : Registers) : Type 0 where
   pub weight : q ⊩ κ₁ + κ₂ ≈ m
-  pub numbers : (i : ℕ) → Adds q m (r₁ i) (r₂ i) (plain i)
+  pub numbers : (place : ℕ) → Adds q m (r₁ place) (r₂ place) (plain place)
 
 -- a column with f 0 .. f (n - 1) at the places a .. a + n - 1
 abbrev pub updated : Registers → ℕ → ℕ → (ℕ → ℕ) → Registers
-updated r a n f i = cond (ltb i a) (r i) (cond (ltb i (a + n)) (f (i - a)) (r i))
+updated r a n f place = cond (ltb place a) (r place) (cond (ltb place (a + n)) (f (place - a)) (r place))

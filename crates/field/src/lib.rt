@@ -1,4 +1,5 @@
-// Arithmetic modulo q. Every function takes any u32; the results are below q.
+// q, sum, difference and product modulo q, and the test whether all numbers of a slice are below q; the laws of congruence, sums and
+// linear forms. Every function takes any u32; the results are below q.
 ghost use mathlib.Core.Path.{_≡_};
 ghost use Rattle.lists.specs.Lists.{allBelow};
 ghost use Rattle.field.specs.Field.{q, add, sub, mul};

@@ -1,15 +1,15 @@
 -- "Known results (★ proved)": one table, each row checked against the meanings by computing it.
-use Prim.Native.Nat.{ℕ, _+_, _-_, _%_}
+use Prim.Native.Nat.{ℕ, _-_}
 use mathlib.Core.Path.{_≡_, refl}
 use mathlib.Core.List.{List, [], _∷_, map}
-use lib.IntN.{ℤ, pos, negsuc}
+use lib.IntN.{ℤ, negsuc}
 use Rattle.lists.specs.Answers.{bit}
 use Rattle.lists.specs.Lists.{every}
 use Rattle.field.specs.Field.{q, sub}
 use Rattle.field.specs.Sums.{sumTo}
 use Rattle.settings.specs.Sets.{scaleOf}
 use Rattle.rounding.specs.Plain.{highOfShifted, highPart, lowPart, inside, verdict}
-use Rattle.rounding.specs.Digits.{digitsOf, digit}
+use Rattle.rounding.specs.Digits.{digitsOf}
 use Rattle.rounding.specs.Rounds.{unit, carryInto, zeroDigit, topSum, top, nonzeroCount, gap, checkOpens, checkResult, wrapOf, highResult}
 
 -- a row: what is asked, and what is known of it
@@ -18,9 +18,9 @@ pub data Row : Type 0 where
   high : (set w result : ℕ) → Row
   low : (set w : ℕ) (result : ℤ) → Row
   -- HIGH in a set, of w′ with the mask r: y, round 5's top digit with its carry, C, and the result
-  run : (set w′ r y topDigit c result : ℕ) → Row
+  run : (set w′ r y topDigit C result : ℕ) → Row
   -- the zero check of n with K and ρ: g, the opened number and the result
-  check : (k n ρ g opened result : ℕ) → Row
+  check : (K n ρ g opened result : ℕ) → Row
   -- the verdict on one number with the bound B
   bound : (b x result : ℕ) → Row
 
@@ -32,7 +32,7 @@ worked (run set w′ r _ _ _ _) =
     let p = scaleOf set in
     let y = sub q w′ r in
     run set w′ r y (topSum p y r) (wrapOf p 0 y r) (highResult p 0 y r)
-worked (check k n ρ _ _ _) = check k n ρ (gap q k) (checkOpens q k ρ n) (checkResult q k ρ (checkOpens q k ρ n))
+worked (check K n ρ _ _ _) = check K n ρ (gap q K) (checkOpens q K ρ n) (checkResult q K ρ (checkOpens q K ρ n))
 worked (bound b x _) = bound b x (verdict q b (x ∷ []))
 
 unfoldable pub knownResults : List Row

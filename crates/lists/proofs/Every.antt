@@ -1,5 +1,5 @@
 -- Tests of every member of a list: one member, and a loop that stops at the first that fails.
-use mathlib.Core.Path.{_≡_, refl, sym, ap, _∙_}
+use mathlib.Core.Path.{_≡_, refl, sym, _∙_, ap₂}
 use mathlib.Core.Bool.{Bool, true, false, _&&_, and-false, and-true}
 use mathlib.Core.List.{List, [], _∷_, _++_}
 use Prim.Native.Nat.{ℕ, zero, suc, _+_, _≤_, _<_}
@@ -126,3 +126,20 @@ allTo-no (suc n) f i h e = go (decLt i n) (λ l. allTo-no n f i l e)
     go (no l) ih =
         let s : n ≡ i = omega arith in
         rw (s, e) (and-false (allTo i f))
+
+pub allTo-same : (n : ℕ) (f g : ℕ → Bool) → ((i : ℕ) → i < n → f i ≡ g i) → allTo n f ≡ allTo n g
+unfolding allTo
+allTo-same zero f g h = refl
+allTo-same (suc n) f g h = ap₂ _&&_ (allTo-same n f g (λ i l. h i (omega arith))) (h n (omega arith))
+
+-- numbers below m at all places
+pub all-below : (m : ℕ) (xs : List ℕ) → ((i : ℕ) → getD xs i 0 < m) → allBelow m xs ≡ true
+unfolding allBelow every
+all-below m [] h = refl
+all-below m (x ∷ xs) h = rw (lt-ltb x m (h 0)) (all-below m xs (λ i. h (suc i)))
+
+-- each member, by its place
+pub every-all : {A : Type 0} (f : A → Bool) (zs : List A) (d : A) → ((j : ℕ) → j < length zs → f (getD zs j d) ≡ true) → every f zs ≡ true
+unfolding every
+every-all f [] d n = refl
+every-all f (b ∷ bs) d n = rw (n 0 (omega arith)) (every-all f bs d (λ j l. n (suc j) (omega arith)))

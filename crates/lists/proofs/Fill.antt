@@ -1,18 +1,15 @@
 -- A list with a run of its places replaced by an index function, and what stands where in it.
 use mathlib.Core.Path.{_≡_, refl, sym, ap, _∙_}
-use mathlib.Core.List.{List, [], _∷_, _++_}
-use mathlib.Core.Bool.{Bool, true, false, cond}
-use lib.Dec.{ltb}
-use borrow.Author.Tests.{lt-ltb, le-ltb}
-use Prim.Native.Nat.{ℕ, zero, suc, _+_, _-_, _≤_, _<_}
+use mathlib.Core.List.{List, _∷_, _++_, []}
+use Prim.Native.Nat.{ℕ, zero, suc, _+_, _≤_, _<_}
 use native.Mathlib.Omega.{arith}
 use native.Mathlib.Numerals.{add-one}
-use lib.ListN.{length, getD, set, drop, length-set}
-use native.Mathlib.Nat.{zero-add, add-zero, add-suc, add-assoc}
-use lib.Seq.{getD-set-same, getD-set-other, ext-getD, drop-set-lt}
+use lib.ListN.{length, getD, set, drop, length-set, take, List·getD-eq-default}
+use native.Mathlib.Nat.{zero-add, add-zero, add-suc, add-assoc, suc-add}
+use lib.Seq.{getD-set-same, getD-set-other, ext-getD, drop-set-lt, take-at}
 use native.Mathlib.Decide.{decLt}
 use Rattle.lists.specs.Lists.{fill, listTo, inFront}
-use Rattle.lists.proofs.Lists.{length-listFrom, getD-listTo, prefix-is}
+use Rattle.lists.proofs.Lists.{length-listFrom, getD-listTo, prefix-is, listTo-getD}
 
 -- a turn of a loop that stores f n at i + n
 pub fill-none : (s : List ℕ) (i : ℕ) (f : ℕ → ℕ) → fill s i 0 f ≡ s
@@ -62,22 +59,6 @@ front-at s n f k r h = rw zero-add at (fill-at s 0 n f k (omega arith) h)
 pub front-behind : (s : List ℕ) (n : ℕ) (f : ℕ → ℕ) (j : ℕ) → n ≤ j → getD (fill s 0 n f) j 0 ≡ getD s j 0
 front-behind s n f j h = fill-behind s 0 n f j (omega arith)
 
--- ---- any place of it
-
--- place j of a list with a run replaced
-abbrev pub inRun : List ℕ → ℕ → ℕ → (ℕ → ℕ) → ℕ → ℕ
-inRun s i n f j = cond (ltb j i) (getD s j 0) (cond (ltb j (i + n)) (f (j - i)) (getD s j 0))
-
-pub getD-fill : (s : List ℕ) (i n : ℕ) (f : ℕ → ℕ) → i + n ≤ length s → (j : ℕ) → getD (fill s i n f) j 0 ≡ inRun s i n f j
-getD-fill s i n f r j = go (decLt j i) (decLt j (i + n))
-  where
-    go : Dec (j < i) → Dec (j < i + n) → getD (fill s i n f) j 0 ≡ inRun s i n f j
-    go (yes a) d = rw (lt-ltb j i a) (fill-before s i n f j a)
-    go (no a) (yes b) =
-        let e : i + (j - i) ≡ j = omega arith in
-        rw (le-ltb j i (omega arith), lt-ltb j (i + n) b) (rw e at (fill-at s i n f (j - i) r (omega arith)))
-    go (no a) (no b) = rw (le-ltb j i (omega arith), le-ltb j (i + n) (omega arith)) (fill-behind s i n f j (omega arith))
-
 -- ---- written in front: a list by its index function, and then what stood there
 
 drop-fill : (s : List ℕ) (n m : ℕ) (f : ℕ → ℕ) → n ≤ m → drop m (fill s 0 n f) ≡ drop m s
@@ -118,3 +99,66 @@ pub copy-two : (s s₁ s₂ t u y z : List ℕ) (a b n : ℕ) (f g : ℕ → ℕ
     s₁ ≡ fill s a n (λ k. getD t k 0) → s₂ ≡ fill s₁ b n (λ k. getD u k 0) → s₂ ≡ fill (fill s a n f) b n g
 copy-two s s₁ s₂ t u y z a b n f g et eu ry rz e₁ e₂ =
     e₂ ∙ fill-copy s₁ u z b n g eu rz ∙ ap (λ (l : List ℕ). fill l b n g) (e₁ ∙ fill-copy s t y a n f et ry)
+
+-- ---- copies
+
+-- a list copied from its first number on
+pub from-start : (s t : List ℕ) (a n : ℕ) → fill s a n (λ (j : ℕ). getD t (0 + j) 0) ≡ fill s a n (λ (j : ℕ). getD t j 0)
+from-start s t a n = fill-same s a n (λ (j : ℕ). getD t (0 + j) 0) (λ (j : ℕ). getD t j 0) (λ j l. ap (λ (k : ℕ). getD t k 0) (zero-add j))
+
+-- its numbers, copied in front
+pub copied-at : (t z ys : List ℕ) (n : ℕ) → n ≤ length z → ys ≡ fill z 0 n (λ (j : ℕ). getD t (0 + j) 0) → (c : ℕ) → c < n → getD ys c 0 ≡ getD t c 0
+copied-at t z ys n h e c l =
+    rw e (front-at z n (λ (j : ℕ). getD t (0 + j) 0) c h l ∙ ap (λ (k : ℕ). getD t k 0) (zero-add c))
+
+-- three copies, one after the other
+pub copy-three : (s s₁ s₂ s₃ t u : List ℕ) (a b c k n : ℕ) (f : ℕ → ℕ) → s₁ ≡ fill s a k f
+    → s₂ ≡ fill s₁ b n (λ (j : ℕ). getD t (0 + j) 0) → s₃ ≡ fill s₂ c n (λ (j : ℕ). getD u (0 + j) 0)
+    → s₃ ≡ fill (fill (fill s a k f) b n (λ (j : ℕ). getD t j 0)) c n (λ (j : ℕ). getD u j 0)
+copy-three s s₁ s₂ s₃ t u a b c k n f e₁ e₂ e₃ =
+    e₃ ∙ from-start s₂ u c n
+    ∙ ap (λ (l : List ℕ). fill l c n (λ (j : ℕ). getD u j 0))
+    (e₂ ∙ from-start s₁ t b n ∙ ap (λ (l : List ℕ). fill l b n (λ (j : ℕ). getD t j 0)) e₁)
+
+-- a loop that ends after all n
+pub fill-count : (s t : List ℕ) (a n m : ℕ) (f : ℕ → ℕ) → t ≡ fill s a n f → n ≡ m → t ≡ fill s a m f
+fill-count s t a n m f e h = e ∙ ap (λ (k : ℕ). fill s a k f) h
+
+-- the first numbers of a list that is filled in front
+pub take-filled : (l z : List ℕ) (n : ℕ) (f : ℕ → ℕ) → l ≡ fill z 0 n f → n ≤ length z → take n l ≡ listTo n f
+take-filled l z n f e h = rw (e, front-is z n f h) (take-at (listTo n f) _ n (length-listFrom 0 n f))
+
+-- a list filled with zeros
+pub cleared-at : (s : List ℕ) (j : ℕ) → getD (fill s 0 (length s) (λ (i : ℕ). 0)) j 0 ≡ 0
+cleared-at s j = go (decLt j (length s))
+  where
+    go : Dec (j < length s) → getD (fill s 0 (length s) (λ (i : ℕ). 0)) j 0 ≡ 0
+    go (yes h) = front-at s (length s) (λ (i : ℕ). 0) j (omega arith) h
+    go (no h) = List·getD-eq-default (fill s 0 (length s) (λ (i : ℕ). 0)) 0 (omega (arith, length-fill s 0 (length s) (λ (i : ℕ). 0)))
+
+-- a run behind the first place
+pub fill-tail : (x : ℕ) (s : List ℕ) (i n : ℕ) (f : ℕ → ℕ) → fill (x ∷ s) (suc i) n f ≡ x ∷ fill s i n f
+unfolding fill
+fill-tail x s i zero f = refl
+fill-tail x s i (suc n) f = rw (fill-tail x s i n f, suc-add) refl
+
+-- all places behind the first
+pub behind-first : (x : ℕ) (s xs : List ℕ) → length s ≡ length xs → fill (x ∷ s) 1 (length xs) (λ (i : ℕ). getD xs i 0) ≡ x ∷ xs
+behind-first x s xs h = fill-tail x s 0 (length xs) _ ∙ ap (λ (r : List ℕ). x ∷ r) (whole-is s (length xs) _ h ∙ listTo-getD xs)
+
+-- numbers below m stay below m
+pub set-below : (s : List ℕ) (i x m : ℕ) → x < m → ((j : ℕ) → getD s j 0 < m) → (j : ℕ) → getD (set s i x) j 0 < m
+set-below [] i x m k h j = h j
+set-below (y ∷ s) zero x m k h zero = k
+set-below (y ∷ s) zero x m k h (suc j) = h (suc j)
+set-below (y ∷ s) (suc i) x m k h zero = h 0
+set-below (y ∷ s) (suc i) x m k h (suc j) = set-below s i x m k (λ j. h (suc j)) j
+
+pub fill-below : (s : List ℕ) (i n : ℕ) (f : ℕ → ℕ) (m : ℕ) → ((j : ℕ) → getD s j 0 < m) → ((j : ℕ) → f j < m) → (j : ℕ) → getD (fill s i n f) j 0 < m
+unfolding fill
+fill-below s i zero f m h k = h
+fill-below s i (suc n) f m h k = set-below (fill s i n f) (i + n) (f n) m (k n) (fill-below s i n f m h k)
+
+-- a turn of the loop over the columns
+pub stored : (s₀ s : List ℕ) (i n x : ℕ) (f : ℕ → ℕ) → s ≡ fill s₀ i n f → x ≡ f n → set s (i + n) x ≡ fill s₀ i (n + 1) f
+stored s₀ s i n x f e h = rw (fill-more, e, h)

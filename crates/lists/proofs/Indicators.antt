@@ -3,7 +3,7 @@
 use mathlib.Core.Path.{_≡_, refl, sym, _∙_}
 use mathlib.Core.Logic.{_≢_}
 use mathlib.Core.Bool.{Bool, true, false, not}
-use Prim.Native.Nat.{ℕ, zero, suc, _+_, _≤_, _<_}
+use Prim.Native.Nat.{ℕ, _≤_, _<_}
 use native.Mathlib.Omega.{arith}
 use lib.Dec.{T, leb, ltb, eqb, ltb→lt, nltb→le, leb→le, nleb→lt, eqb→eq, eqb-refl}
 use Rattle.lists.specs.Answers.{bit}
@@ -73,12 +73,6 @@ lt-one {a} {b} h = elim (lt-view a b) [ lt-is p e ↦ e | lt-no p e ↦ omega ar
 pub lt-zero : {a b : ℕ} → b ≤ a → bit (ltb a b) ≡ 0
 lt-zero {a} {b} h = elim (lt-view a b) [ lt-is p e ↦ omega arith | lt-no p e ↦ e ]
 
-pub le-one : {a b : ℕ} → a ≤ b → bit (leb a b) ≡ 1
-le-one {a} {b} h = elim (le-view a b) [ le-is p e ↦ e | le-no p e ↦ omega arith ]
-
-pub le-zero : {a b : ℕ} → b < a → bit (leb a b) ≡ 0
-le-zero {a} {b} h = elim (le-view a b) [ le-is p e ↦ omega arith | le-no p e ↦ e ]
-
 pub eq-one : {a b : ℕ} → a ≡ b → bit (eqb a b) ≡ 1
 eq-one {a} {b} h = elim (eq-view a b) [ eq-is p e ↦ e | eq-lt p e ↦ omega arith | eq-gt p e ↦ omega arith ]
 
@@ -105,12 +99,6 @@ bit-view c h = elim (lt-view c 1) [ lt-is p e ↦ off (omega arith) | lt-no p e 
 
 -- ---- two tests that say the same
 
-pub bit-same : (t u : Bool) → (T t → T u) → (T u → T t) → bit t ≡ bit u
-bit-same true true f g = refl
-bit-same true false f g = absurd (f tt)
-bit-same false true f g = absurd (g tt)
-bit-same false false f g = refl
-
 pub lt-same : (a b c d : ℕ) → (a < b → c < d) → (b ≤ a → d ≤ c) → bit (ltb a b) ≡ bit (ltb c d)
 lt-same a b c d f g =
     elim (lt-view a b) [ lt-is p e ↦ e ∙ sym (lt-one (f p)) | lt-no p e ↦ e ∙ sym (lt-zero (g p)) ]
@@ -125,15 +113,3 @@ eq-same a b c d f g =
 
 pub eq-swap : (a b : ℕ) → bit (eqb a b) ≡ bit (eqb b a)
 eq-swap a b = eq-same a b b a sym sym
-
--- ---- a property of an indicator by its cases: omega proves all the cases in one call
-
-pub lt-elim : (a b : ℕ) (P : ℕ → Type 0) → ((a < b → P 1) × (b ≤ a → P 0)) → P (bit (ltb a b))
-lt-elim a b P h = elim (lt-view a b) [ lt-is p e ↦ rw e (h .0 p) | lt-no p e ↦ rw e (h .1 p) ]
-
-pub lt-elim2 : (a b c d : ℕ) (P : ℕ → ℕ → Type 0)
-    → ((a < b → c < d → P 1 1) × (a < b → d ≤ c → P 1 0) × (b ≤ a → c < d → P 0 1) × (b ≤ a → d ≤ c → P 0 0))
-    → P (bit (ltb a b)) (bit (ltb c d))
-lt-elim2 a b c d P h =
-    lt-elim a b (λ i. P i (bit (ltb c d)))
-    ((λ x. lt-elim c d (λ j. P 1 j) (h .0 x, h .1 x)), (λ x. lt-elim c d (λ j. P 0 j) (h .2 x, h .3 x)))

@@ -1,12 +1,10 @@
 -- Lists by an index function, and lists joined of pieces: where a piece stands, and when a list is the join of its own pieces.
 use mathlib.Core.Path.{_≡_, refl, sym, ap, ap₂, _∙_}
-use mathlib.Core.List.{List, [], _∷_, _++_}
-use mathlib.Core.Bool.{Bool, true, false, cond, _&&_}
+use mathlib.Core.List.{List, [], _∷_, _++_, map}
 use Prim.Native.Nat.{ℕ, zero, suc, _+_, _*_, _-_, _≤_, _<_}
-use native.Mathlib.Nat.{zero-add, add-zero, add-suc, suc-add, add-assoc}
+use native.Mathlib.Nat.{zero-add, add-zero, add-assoc, mul-zero, mul-suc}
 use native.Mathlib.Omega.{arith}
-use native.Mathlib.Decide.{decLt}
-use lib.ListN.{length, getD, take, drop, length-append, List·getD-append, length-drop, take-append-drop}
+use lib.ListN.{length, getD, drop, length-append, List·getD-append, length-drop, replicate}
 use lib.Seq.{ext-getD, getD-append-add, getD-drop}
 use Rattle.lists.specs.Lists.{listFrom, listTo, joinFrom, joinTo}
 
@@ -26,12 +24,19 @@ getD-listFrom i (suc n) f (suc x) d h = getD-listFrom (suc i) n f x d (omega ari
 pub getD-listTo : {A : Type 0} (n : ℕ) (f : ℕ → A) (x : ℕ) (d : A) → x < n → getD (listTo n f) x d ≡ f x
 getD-listTo n f x d h = getD-listFrom 0 n f x d h ∙ ap f (zero-add x)
 
-pub listFrom-cong : {A : Type 0} (i n : ℕ) (f g : ℕ → A) → ((x : ℕ) → x < n → f (i + x) ≡ g (i + x)) → listFrom i n f ≡ listFrom i n g
+-- the same run from another place on
+pub listFrom-moved : {A : Type 0} (i j n : ℕ) (f g : ℕ → A) → ((x : ℕ) → x < n → f (i + x) ≡ g (j + x)) → listFrom i n f ≡ listFrom j n g
 unfolding listFrom
-listFrom-cong i zero f g e = refl
-listFrom-cong i (suc n) f g e =
-    ap₂ _∷_ (rw add-zero at (e 0 (omega arith)))
-    (listFrom-cong (suc i) n f g (λ x h. let s : i + suc x ≡ suc i + x = omega arith in rw s at (e (suc x) (omega arith))))
+listFrom-moved i j zero f g h = refl
+listFrom-moved i j (suc n) f g h =
+    ap₂ _∷_ (rw (add-zero, add-zero) at (h 0 (omega arith)))
+    (listFrom-moved (suc i) (suc j) n f g (λ x l.
+    let a : suc i + x ≡ i + suc x = omega arith in
+    let b : suc j + x ≡ j + suc x = omega arith in
+    rw (a, b) (h (suc x) (omega arith))))
+
+pub listFrom-cong : {A : Type 0} (i n : ℕ) (f g : ℕ → A) → ((x : ℕ) → x < n → f (i + x) ≡ g (i + x)) → listFrom i n f ≡ listFrom i n g
+listFrom-cong i n f g e = listFrom-moved i i n f g e
 
 pub listTo-cong : {A : Type 0} (n : ℕ) (f g : ℕ → A) → ((x : ℕ) → x < n → f x ≡ g x) → listTo n f ≡ listTo n g
 listTo-cong n f g e = listFrom-cong 0 n f g (λ x h. let s : 0 + x ≡ x = zero-add x in rw s (e x h))
@@ -98,3 +103,66 @@ join-is i (suc n) f d l e h =
     getD-drop (length (f i)) l (ahead (suc i) k f + x) d
     ∙ (rw (s, length-append (f i) (joinFrom (suc i) k f), add-assoc (length (f i)) (ahead (suc i) k f) x) at (h (suc k) x (omega arith) (rw s c)))) in
     rw ih (prefix-is (f i) l d (omega arith) (λ x b. rw (add-zero, zero-add) at (h 0 x (omega arith) (rw add-zero b))))
+
+-- ---- runs split, joined and mapped
+
+pub listFrom-split : {A : Type 0} (f : ℕ → A) (i a b : ℕ) → listFrom i (a + b) f ≡ listFrom i a f ++ listFrom (i + a) b f
+unfolding listFrom
+listFrom-split f i zero b =
+    let e : 0 + b ≡ b = omega arith in
+    let d : i + 0 ≡ i = omega arith in
+    rw (e, d)
+listFrom-split f i (suc a) b =
+    let e : suc a + b ≡ suc (a + b) = omega arith in
+    let d : i + suc a ≡ suc i + a = omega arith in
+    rw (e, d) (ap (λ l. f i ∷ l) (listFrom-split f (suc i) a b))
+
+-- runs of w members one behind the other
+pub runs-join : {A : Type 0} (w : ℕ) (f : ℕ → A) (g : ℕ → List A) → ((o : ℕ) → g o ≡ listFrom (w * o) w f) → (i n : ℕ) → listFrom (w * i) (w * n) f ≡ joinFrom i n g
+unfolding joinFrom listFrom
+runs-join w f g h i zero = rw (mul-zero w)
+runs-join w f g h i (suc n) =
+    let e : w * suc n ≡ w + w * n = omega (arith, mul-suc w n) in
+    rw (e, listFrom-split f (w * i) w (w * n), h i, ← mul-suc w i, runs-join w f g h (suc i) n)
+
+pub map-listFrom : (f g : ℕ → ℕ) (i n : ℕ) → map f (listFrom i n g) ≡ listFrom i n (λ (k : ℕ). f (g k))
+unfolding listFrom
+map-listFrom f g i zero = refl
+map-listFrom f g i (suc n) = ap (λ (l : List ℕ). f (g i) ∷ l) (map-listFrom f g (suc i) n)
+
+-- a list with f applied to each number
+pub map-is : (f : ℕ → ℕ) (xs : List ℕ) → listTo (length xs) (λ (k : ℕ). f (getD xs k 0)) ≡ map f xs
+map-is f xs = sym (map-listFrom f (λ (k : ℕ). getD xs k 0) 0 (length xs)) ∙ ap (map f) (listTo-getD xs)
+
+pub join-cong : {A : Type 0} (i n : ℕ) (f g : ℕ → List A) → ((x : ℕ) → x < n → f (i + x) ≡ g (i + x)) → joinFrom i n f ≡ joinFrom i n g
+unfolding joinFrom
+join-cong i zero f g e = refl
+join-cong i (suc n) f g e =
+    ap₂ _++_ (rw add-zero at (e 0 (omega arith)))
+    (join-cong (suc i) n f g (λ x l. let s : i + suc x ≡ suc i + x = omega arith in rw s at (e (suc x) (omega arith))))
+
+-- ---- lists one behind the other, and lists of zeros
+
+-- a member of the second of two lists
+pub in-second : (k : ℕ) (xs ys : List ℕ) (i : ℕ) → length xs ≡ k → k ≤ i → getD ys (i - k) 0 ≡ getD (xs ++ ys) i 0
+in-second k xs ys i e h =
+    let s : length xs + (i - k) ≡ i = omega arith in
+    sym (rw s at (getD-append-add xs ys (i - k) 0))
+
+-- a list read back from the front of a longer one
+pub front-list : (n : ℕ) (xs ys : List ℕ) → length xs ≡ n → listTo n (λ (j : ℕ). getD (xs ++ ys) j 0) ≡ xs
+front-list n xs ys e =
+    rw (← e)
+    (listTo-cong (length xs) (λ (j : ℕ). getD (xs ++ ys) j 0) (λ (j : ℕ). getD xs j 0) (λ j l. List·getD-append xs ys 0 j l) ∙ listTo-getD xs)
+
+-- zeros
+pub getD-zeros : (n c : ℕ) → _≡_ {A = ℕ} (getD (replicate n 0) c 0) 0
+getD-zeros zero c = refl
+getD-zeros (suc n) zero = refl
+getD-zeros (suc n) (suc c) = getD-zeros n c
+
+-- two lists in the places of one, each with zeros for the other, add up to it
+pub padded : (xs ys : List ℕ) (n c : ℕ) → getD (xs ++ replicate n 0) c 0 + getD (replicate (length xs) 0 ++ ys) c 0 ≡ getD (xs ++ ys) c 0
+padded [] ys n c = rw (getD-zeros n c) (zero-add (getD ys c 0))
+padded (x ∷ xs) ys n zero = add-zero x
+padded (x ∷ xs) ys n (suc c) = padded xs ys n c

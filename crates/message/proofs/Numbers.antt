@@ -1,7 +1,7 @@
 -- Bytes as one number, and the bits of it that stand in front.
 use mathlib.Core.Path.{_≡_, refl, sym, ap, _∙_}
 use mathlib.Core.List.{List, [], _∷_, _++_}
-use Prim.Native.Nat.{ℕ, zero, suc, _+_, _-_, _*_, _%_, _/_, _^_, _≤_, _<_}
+use Prim.Native.Nat.{ℕ, suc, _+_, _-_, _*_, _%_, _/_, _^_, _≤_, _<_}
 use native.Mathlib.Nat.{div-one, mod-one, one-mul, mul-suc, mul-comm, mul-assoc, add-mul, zero-add, mod-lt, lt-of-lt-of-le}
 use native.Mathlib.Omega.{arith}
 use lib.Dec.{lit<}
@@ -150,9 +150,3 @@ bits-local s at w h =
 -- 1 shifted by a field's width
 pub one-shl : (w : ℕ) → w ≤ 32 → 1 * 2 ^ w % 2 ^ 64 ≡ 2 ^ w
 one-shl w h = shl-exact {a = 1} 1 w 64 (lit< tt) (omega arith) ∙ one-mul (2 ^ w)
-
--- behind its end a list reads as 0
-pub getD-behind : (s : List ℕ) (j : ℕ) → length s ≤ j → getD s j 0 ≡ 0
-getD-behind [] j h = refl
-getD-behind (x ∷ s) zero h = absurd (omega arith)
-getD-behind (x ∷ s) (suc j) h = getD-behind s j (omega arith)

@@ -8,7 +8,7 @@ use native.Mathlib.Decide.{decLt}
 use lib.Dec.{lit<}
 use lib.Arith.{digits-lt}
 use lib.Pow.{pow-add, pow-pos, pow-mono, shl-exact, shl-lt, shr-lt, shr-shr, shl-shr, split, high, field}
-use lib.ListN.{length, getD, drop}
+use lib.ListN.{length, getD, drop, List·getD-eq-default}
 use lib.Seq.{ext-getD, drop-append-add, drop-drop}
 use Rattle.lists.specs.Lists.{listFrom, listTo, fill, inFront}
 use Rattle.lists.proofs.Lists.{length-listFrom, getD-listTo}
@@ -16,7 +16,7 @@ use Rattle.lists.proofs.Fill.{length-fill, fill-before, fill-behind, fill-at, f
 use Rattle.settings.specs.Sizes.{bytesFor}
 use Rattle.message.specs.Bits.{padding, packed, numberOn, numberOf}
 use Rattle.message.specs.Fields.{firstBits, putBits, byteOf}
-use Rattle.message.proofs.Numbers.{Bytes, getD-behind, bytes-drop, first-less, first-append, byte-is, filled}
+use Rattle.message.proofs.Numbers.{Bytes, bytes-drop, first-less, first-append, byte-is, filled}
 
 -- ---- a packed number is read again
 
@@ -30,7 +30,7 @@ packed-bytes bits x j = go (decLt j (bytesFor bits))
   where
     go : Dec (j < bytesFor bits) → getD (packed bits x) j 0 < 256
     go (yes h) = rw (getD-listTo (bytesFor bits) (byteOf (bytesFor bits) (x * 2 ^ padding bits)) j 0 h) (mod-lt _ (lit< tt))
-    go (no h) = rw (getD-behind (packed bits x) j (omega (arith, length-packed bits x))) (lit< tt)
+    go (no h) = rw (List·getD-eq-default (packed bits x) 0 {n = j} (omega (arith, length-packed bits x))) (lit< tt)
 
 -- the bytes of y from byte i on, behind those before
 bytes-join : (y n i m : ℕ) → i + m ≡ n → numberOn (y / 2 ^ (8 * (n - i))) (listFrom i m (byteOf n y)) ≡ y

@@ -113,10 +113,12 @@ header-tells h h′ f l f′ l′ e =
     let b = last-part (2 ^ 23) _ _ _ _ (bound-fits h f) (bound-fits h′ f′) (a .0) in
     let c = last-part (2 ^ 3) _ _ _ _ (f .round-fits) (f′ .round-fits) (b .0) in
     let d = last-part (2 ^ 3) _ _ _ _ (less-one h f) (less-one h′ f′) (c .0) in
-    let k = last-part (2 ^ 1) _ _ _ _ (f .settings-fit .kinds) (f′ .settings-fit .kinds) (d .0) in
-    let s = last-part (2 ^ 1) _ _ _ _ (f .settings-fit .sets) (f′ .settings-fit .sets) (k .0) in
-    let same : h .settings .shape .n ≡ h′ .settings .shape .n = some-less _ _ (f .settings-fit .some) (f′ .settings-fit .some) (d .1) in
-    let made : h ≡ header-of (h′ .sender) (h′ .settings .shape .set) (h′ .settings .shape .kind) (h′ .settings .shape .n) (h′ .settings .bound) (h′ .round) (h′ .serial) = rw (← s .0, ← s .1, ← k .1, ← same, ← b .1, ← c .1, ← a .1) in made
+    let k = last-part (2 ^ 1) _ _ _ _ (f .settings-fit .shape .kinds) (f′ .settings-fit .shape .kinds) (d .0) in
+    let s = last-part (2 ^ 1) _ _ _ _ (f .settings-fit .shape .sets) (f′ .settings-fit .shape .sets) (k .0) in
+    let same : h .settings .shape .n ≡ h′ .settings .shape .n = some-less _ _ (f .settings-fit .shape .some) (f′ .settings-fit .shape .some) (d .1) in
+    let made : h ≡ header-of (h′ .sender) (h′ .settings .shape .set) (h′ .settings .shape .kind) (h′ .settings .shape .n)
+    (h′ .settings .bound) (h′ .round) (h′ .serial) = rw (← s .0, ← s .1, ← k .1, ← same, ← b .1, ← c .1, ← a .1) in
+    made
   where
     header-of : ℕ → ℕ → ℕ → ℕ → ℕ → ℕ → ℕ → Header
     header-of sender set kind n bound round serial = headerWith sender (record { shape = record { set = set; kind = kind; n = n }; bound = bound }) round serial
@@ -125,7 +127,7 @@ header-tells h h′ f l f′ l′ e =
     bound-fits g i = omega (arith, i .settings-fit .bound-most)
 
     less-one : (g : Header) → HeaderFits g → g .settings .shape .n - 1 < 2 ^ 3
-    less-one g i = omega (arith, i .settings-fit .most)
+    less-one g i = omega (arith, i .settings-fit .shape .most)
 
     some-less : (n n′ : ℕ) → 1 ≤ n → 1 ≤ n′ → n - 1 ≡ n′ - 1 → n ≡ n′
     some-less n n′ g g′ i = omega arith

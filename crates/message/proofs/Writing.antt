@@ -55,7 +55,9 @@ module _ (s : List ℕ) (bytes : Bytes s) where
   -- a buffer's own first bytes
   front-same : (m : ℕ) → m ≤ length s → inFront (packed (8 * m) (firstBits s (8 * m))) s ≡ s
   unfolding packed
-  front-same m h = prefix-is (packed (8 * m) (firstBits s (8 * m))) s 0 (omega (arith, length-packed (8 * m) (firstBits s (8 * m)))) (λ x l. go x (omega (arith, length-packed (8 * m) (firstBits s (8 * m)))))
+  front-same m h =
+      prefix-is (packed (8 * m) (firstBits s (8 * m))) s 0 (omega (arith, length-packed (8 * m) (firstBits s (8 * m))))
+      (λ x l. go x (omega (arith, length-packed (8 * m) (firstBits s (8 * m)))))
     where
       go : (x : ℕ) → x < m → getD s x 0 ≡ getD (packed (8 * m) (firstBits s (8 * m))) x 0
       go x l =

@@ -13,7 +13,7 @@ unfoldable pub packed : ℕ → ℕ → List ℕ
 packed bits x =
     let n = bytesFor bits in
     let padded = x * 2 ^ padding bits in
-    listTo n (λ (k : ℕ). padded / 2 ^ (8 * (n - 1 - k)) % 256)
+    listTo n (λ (place : ℕ). padded / 2 ^ (8 * (n - 1 - place)) % 256)
 
 -- bytes as one number, behind the number x
 unfoldable pub numberOn : ℕ → List ℕ → ℕ

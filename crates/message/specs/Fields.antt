@@ -25,9 +25,9 @@ putBits bytes at width value = inFront (packed (at + width) (firstBits bytes at 
 unfoldable pub putFields : List ℕ → List ℕ → List ℕ
 putFields bytes fields = inFront (packed (messageBits (length fields)) (fieldsBehind (firstBits bytes headerBits) fields)) bytes
 
--- byte k of a number of so many bytes
+-- the byte at a place of a number of so many bytes
 abbrev pub byteOf : ℕ → ℕ → ℕ → ℕ
-byteOf count x k = x / 2 ^ (8 * (count - 1 - k)) % 256
+byteOf count x place = x / 2 ^ (8 * (count - 1 - place)) % 256
 
 -- each part of a header fits its width (a serial always does)
 pub record HeaderFits (h : Header) : Type 0 where

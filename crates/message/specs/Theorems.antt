@@ -1,5 +1,5 @@
 -- What is proved of messages, as types: what is written is read again.
-use Prim.Native.Nat.{ℕ, _-_, _%_, _^_, _<_}
+use Prim.Native.Nat.{ℕ, _%_, _^_, _<_}
 use mathlib.Core.Path.{_≡_}
 use mathlib.Core.Bool.{true}
 use mathlib.Core.List.{List, [], _∷_}
@@ -20,7 +20,7 @@ pub record Sized (header : ℕ) (fields : List ℕ) : Type 0 where
 
 pub record RoundTrip : Type 0 where
   -- a message is bytes, as many as its bits need
-  pub bytes : (h : ℕ) (fs : List ℕ) (j : ℕ) → getD (messageOf h fs) j 0 < 256
+  pub bytes : (h : ℕ) (fs : List ℕ) (x : ℕ) → getD (messageOf h fs) x 0 < 256
   pub size : (h : ℕ) (fs : List ℕ) → length (messageOf h fs) ≡ bytesFor (messageBits (length fs))
   -- header, fields and filling come back
   pub header : (h : ℕ) (fs : List ℕ) → Sized h fs → headerIn (length fs) (messageOf h fs) ≡ h

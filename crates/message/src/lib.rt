@@ -1,4 +1,4 @@
-// Messages between the two sides: their length, their bits, the header, and the form test.
+// Messages between the two sides: their bits, the header, a message written, its fields read, and the form test.
 ghost use mathlib.Core.Path.{_≡_};
 ghost use mathlib.Core.Bool.{true};
 ghost use Prim.Native.Nat.{_+_, _*_, _%_, _^_, _≤_, _<_};

@@ -1,6 +1,5 @@
 -- Laws of a round's openings.
 pub mod Columns
-pub mod Loading
 pub mod Openings
 pub mod Sending
 pub mod Taking

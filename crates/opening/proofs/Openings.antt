@@ -1,10 +1,8 @@
 -- A side's numbers for the openings of its round, as the code works them out.
-use mathlib.Core.Path.{_≡_, refl, sym, ap, subst, _∙_}
-use mathlib.Core.List.{List, _∷_, _++_}
+use mathlib.Core.Path.{_≡_, ap}
+use mathlib.Core.List.{List}
 use Prim.Native.Nat.{ℕ}
-use native.Mathlib.Omega.{arith}
-use lib.ListN.{getD, replicate}
-use borrow.Author.Tests.{eq-eqb, ne-eqb}
+use lib.ListN.{getD}
 use Rattle.lists.specs.Lists.{fill}
 use Rattle.lists.proofs.Fill.{fill-same}
 use Rattle.settings.specs.Sizes.{keyCount, openings}
@@ -16,15 +14,6 @@ use Rattle.settings.specs.Settings.{paramsIn, termsOf}
 use Rattle.column.proofs.Written.{public-same}
 use Rattle.state.specs.declared.Side.{Side}
 use Rattle.opening.specs.Opening.{prepared}
-
--- the weights of the server and of the phone
-pub server-weights : (k number : ℕ) (keys : List ℕ) → number ≡ 0 → 1 ∷ keys ++ replicate k 0 ≡ weights k number keys
-unfolding weights
-server-weights k number keys e = rw (eq-eqb number 0 e)
-
-pub phone-weights : (k number : ℕ) (keys : List ℕ) → (number ≡ 0 → ⊥) → 0 ∷ replicate k 0 ++ keys ≡ weights k number keys
-unfolding weights
-phone-weights k number keys e = rw (ne-eqb number 0 e)
 
 -- openings by the masked numbers and weights that the code has are those of the side
 pub prepared-is : (s : Side) (work out : List ℕ) (c : ℕ) (ys ws : List ℕ)

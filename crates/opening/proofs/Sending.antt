@@ -1,26 +1,25 @@
 -- The message that a side writes.
-use mathlib.Core.Path.{_≡_, refl, ap, ap₂, _∙_}
+use mathlib.Core.Path.{_≡_, ap, ap₂, _∙_}
 use mathlib.Core.Bool.{Bool, true, false, cond}
-use mathlib.Core.List.{List, [], _∷_, _++_}
-use Prim.Native.Nat.{ℕ, zero, suc, _+_, _-_, _*_, _/_, _%_, _^_, _≤_, _<_}
-use native.Mathlib.Nat.{mod-lt, add-zero, mul-zero, mul-suc}
+use mathlib.Core.List.{List, _∷_}
+use Prim.Native.Nat.{ℕ, suc, _+_, _-_, _*_, _/_, _%_, _^_, _≤_, _<_}
 use native.Mathlib.Omega.{arith}
 use lib.Dec.{eqb, ltb, lit<}
-use lib.ListN.{length, getD, take}
-use lib.Seq.{take-at}
+use lib.ListN.{length, getD}
 use borrow.Author.Tests.{lt-ltb, eq-eqb, ne-eqb}
-use Rattle.lists.specs.Lists.{allBelow, fill, listFrom, listTo, joinFrom, joinTo}
+use Rattle.lists.specs.Lists.{allBelow, fill, listFrom, listTo, joinTo}
 use Rattle.lists.proofs.Every.{below-at, every-listTo}
-use Rattle.lists.proofs.Lists.{length-listFrom}
-use Rattle.lists.proofs.Fill.{fill-same, front-is}
+use Rattle.lists.proofs.Lists.{length-listFrom, listFrom-moved, runs-join}
+use Rattle.lists.proofs.Fill.{fill-same}
 use Rattle.field.specs.Field.{q}
-use Rattle.field.specs.Forms.{Registers, Form, num, reg, sum, _⊞_, _⊟_, _⊠_, value}
+use Rattle.field.proofs.Forms.{value-below}
 use Rattle.settings.specs.Sizes.{keyCount, bytesFor, openings, fieldBits, mostOpenings, mostFields, messageBits, messageLength}
 use Rattle.settings.specs.Settings.{paramsIn, termsOf}
 use Rattle.message.specs.Message.{headerNumber, messageOf}
 use Rattle.message.specs.Fields.{HeaderFits}
 use Rattle.message.specs.declared.Header.{Header}
 use Rattle.slice.specs.Layout.{column, ownIn, maskedIn, weights}
+use Rattle.slice.proofs.Kept.{column-below}
 use Rattle.steps.specs.Steps.{publicOf, opening}
 use Rattle.state.specs.declared.Side.{Side}
 use Rattle.state.specs.State.{Whole}
@@ -30,30 +29,14 @@ use Rattle.opening.proofs.Columns.{columns-at}
 
 -- ---- numbers below q
 
-value-below : (m κ : ℕ) (r : Registers) → 0 < m → ((i : ℕ) → r i < m) → (f : Form) → value m κ r f < m
-value-below m κ r pos h (num k) = mod-lt _ pos
-value-below m κ r pos h (reg i) = h i
-value-below m κ r pos h (sum n place weight) = mod-lt _ pos
-value-below m κ r pos h (f ⊞ g) = mod-lt _ pos
-value-below m κ r pos h (f ⊟ g) = mod-lt _ pos
-value-below m κ r pos h (k ⊠ f) = mod-lt _ pos
-
 module _ (work : List ℕ) (small : allBelow q work ≡ true) where
   place-below : (j : ℕ) → getD work j 0 < q
   place-below j = below-at q work j (lit< tt) small
 
-  column-below : (c i : ℕ) → column work c i < q
-  unfolding column
-  column-below c i = go (ltb i 1344)
-    where
-      go : (b : Bool) → cond b (getD work (c * 1536 + i) 0) 0 < q
-      go true = place-below (c * 1536 + i)
-      go false = lit< tt
-
   prepared-below : (s : Side) (c o : ℕ) → prepared keyCount s work c o < q
   unfolding prepared
   prepared-below s c o =
-      value-below q (getD (weights keyCount (s .number) (s .keys)) c 0) (column work c) (lit< tt) (column-below c)
+      value-below q (getD (weights keyCount (s .number) (s .keys)) c 0) (column work c) (lit< tt) (column-below work c q (lit< tt) place-below)
       (opening (publicOf (termsOf (s .settings)) (maskedIn work)) (s .round) o)
 
   own-below : (c o : ℕ) → ownIn work c o < q
@@ -76,11 +59,6 @@ module _ (work : List ℕ) (small : allBelow q work ≡ true) where
   pub fields-small : (s : Side) (n : ℕ) → allBelow (2 ^ fieldBits) (listTo n (outgoingField s work)) ≡ true
   unfolding allBelow
   fields-small s n = every-listTo (λ (x : ℕ). ltb x (2 ^ fieldBits)) n (outgoingField s work) (λ x h. lt-ltb (outgoingField s work x) (2 ^ fieldBits) (omega (arith, field-below s x)))
-
--- an own number, where the code reads it
-pub own-is : (work : List ℕ) (c o : ℕ) → ownIn work c o ≡ getD work (c * 1536 + 1344 + o) 0
-unfolding ownIn
-own-is work c o = let e : c * 1536 + (1344 + o) ≡ c * 1536 + 1344 + o = omega arith in rw e
 
 -- ---- one column of outgoing numbers
 
@@ -110,36 +88,6 @@ turns-are s work fields sent z n m k few long e =
     (λ x h. rw e (columns-at m (outgoingIn s work) z few (1 + keyCount) (x % (1 + keyCount)) (x / (1 + keyCount)) (omega arith) (omega arith) (omega arith)))
 
 -- ---- the message
-
-listFrom-split : (f : ℕ → ℕ) (i a b : ℕ) → listFrom i (a + b) f ≡ listFrom i a f ++ listFrom (i + a) b f
-unfolding listFrom
-listFrom-split f i zero b =
-    let e : 0 + b ≡ b = omega arith in
-    let d : i + 0 ≡ i = omega arith in
-    rw (e, d)
-listFrom-split f i (suc a) b =
-    let e : suc a + b ≡ suc (a + b) = omega arith in
-    let d : i + suc a ≡ suc i + a = omega arith in
-    rw (e, d) (ap (λ (l : List ℕ). f i ∷ l) (listFrom-split f (suc i) a b))
-
--- runs of w numbers one behind the other
-runs-join : (w : ℕ) (f : ℕ → ℕ) (g : ℕ → List ℕ) → ((o : ℕ) → g o ≡ listFrom (w * o) w f) → (i n : ℕ) → listFrom (w * i) (w * n) f ≡ joinFrom i n g
-unfolding joinFrom listFrom
-runs-join w f g h i zero = rw (mul-zero w)
-runs-join w f g h i (suc n) =
-    let e : w * suc n ≡ w + w * n = omega (arith, mul-suc w n) in
-    rw (e, listFrom-split f (w * i) w (w * n), h i, ← mul-suc w i, runs-join w f g h (suc i) n)
-
--- the same run from another place on
-listFrom-moved : (i j n : ℕ) (f g : ℕ → ℕ) → ((x : ℕ) → x < n → f (i + x) ≡ g (j + x)) → listFrom i n f ≡ listFrom j n g
-unfolding listFrom
-listFrom-moved i j zero f g h = refl
-listFrom-moved i j (suc n) f g h =
-    ap₂ {A = ℕ} {B = List ℕ} (λ x l. x ∷ l) (rw (add-zero, add-zero) at (h 0 (omega arith)))
-    (listFrom-moved (suc i) (suc j) n f g (λ x l.
-    let a : suc i + x ≡ i + suc x = omega arith in
-    let b : suc j + x ≡ j + suc x = omega arith in
-    rw (a, b) (h (suc x) (omega arith))))
 
 module _ (s : Side) (work : List ℕ) where
   abbrev partOf : ℕ → ℕ → ℕ
@@ -178,10 +126,6 @@ module _ (s : Side) (work : List ℕ) where
 
 pub header-fits : (s : Side) (header : Header) → header ≡ ownHeader s → Whole s → HeaderFits header
 header-fits s header e h = rw e (record { sender-fits = h .side2; settings-fit = h .ready; round-fits = omega (arith, h .round-most) })
-
--- the first numbers of a list that is filled in front
-pub take-filled : (l z : List ℕ) (n : ℕ) (f : ℕ → ℕ) → l ≡ fill z 0 n f → n ≤ length z → take n l ≡ listTo n f
-take-filled l z n f e h = rw (e, front-is z n f h) (take-at (listTo n f) _ n (length-listFrom 0 n f))
 
 pub bytes-are : (s : Side) (fs : List ℕ) (f : ℕ → ℕ) → fs ≡ listTo ((1 + keyCount) * openings (paramsIn (s .settings)) (s .round)) f
     → bytesFor (messageBits (length fs)) ≡ messageLength keyCount (paramsIn (s .settings)) (s .round)

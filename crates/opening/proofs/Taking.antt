@@ -1,15 +1,15 @@
 -- The numbers that a side joins with a message's, and their checks.
-use mathlib.Core.Path.{_≡_, refl, sym, ap, ap₂, _∙_}
-use mathlib.Core.Bool.{Bool, _&&_}
+use mathlib.Core.Path.{_≡_, sym, ap, _∙_}
 use mathlib.Core.List.{List}
-use Prim.Native.Nat.{ℕ, zero, suc, _+_, _*_, _≤_, _<_}
+use Prim.Native.Nat.{ℕ, _+_, _*_, _≤_, _<_}
 use native.Mathlib.Decide.{decLt}
 use native.Mathlib.Omega.{arith}
-use lib.ListN.{length, getD, replicate}
+use lib.ListN.{length, getD}
 use Rattle.lists.specs.Lists.{fill, allTo}
 use Rattle.lists.proofs.Fill.{front-at, front-behind}
+use Rattle.lists.proofs.Every.{allTo-same}
 use Rattle.field.specs.Field.{q, add}
-use Rattle.settings.specs.Sizes.{keyCount, widthOf, openings, mostOpenings}
+use Rattle.settings.specs.Sizes.{keyCount, width, openings, mostOpenings}
 use Rattle.slice.specs.Layout.{maskedIn, weights}
 use Rattle.steps.specs.Steps.{publicOf}
 use Rattle.steps.specs.Calls.{HeldAll}
@@ -26,31 +26,21 @@ use Rattle.opening.proofs.Columns.{columns-at}
 
 -- `own` holds its numbers for the openings of the round
 abbrev pub Holds : Side → List ℕ → List ℕ → Type 0
-Holds s work own = (c o : ℕ) → c < widthOf keyCount → o < openings (paramsIn (s .settings)) (s .round) → getD own (mostOpenings * c + o) 0 ≡ prepared keyCount s work c o
+Holds s work own = (c o : ℕ) → c < width → o < openings (paramsIn (s .settings)) (s .round) → getD own (mostOpenings * c + o) 0 ≡ prepared keyCount s work c o
 
-pub prepared-holds : (s : Side) (work z own : List ℕ) → s .settings .shape .n ≤ 8 → length z ≡ mostOpenings * widthOf keyCount
-    → own ≡ columnsTo (openings (paramsIn (s .settings)) (s .round)) (prepared keyCount s work) z (widthOf keyCount) → Holds s work own
+pub prepared-holds : (s : Side) (work z own : List ℕ) → s .settings .shape .n ≤ 8 → length z ≡ mostOpenings * width
+    → own ≡ columnsTo (openings (paramsIn (s .settings)) (s .round)) (prepared keyCount s work) z width → Holds s work own
 prepared-holds s work z own few room e c o h l =
-    rw e (columns-at _ (prepared keyCount s work) z (openings-most (paramsIn (s .settings)) (s .round) few) (widthOf keyCount) c o (omega arith) h l)
+    rw e (columns-at _ (prepared keyCount s work) z (openings-most (paramsIn (s .settings)) (s .round) few) width c o (omega arith) h l)
 
 -- as `take_work` asks for them
 pub holds-all : (s : Side) (work own ws : List ℕ) → ws ≡ weights keyCount (s .number) (s .keys)
-    → length ws ≡ widthOf keyCount → Holds s work own
+    → length ws ≡ width → Holds s work own
     → HeldAll (publicOf (termsOf (s .settings)) (maskedIn work)) (s .round) ws work own
 unfolding prepared
 holds-all s work own ws f l h = λ c b o m. rw f (h c o (omega arith) m)
 
 -- ---- The opened numbers
-
-pub none-at : (n o : ℕ) → _≡_ {A = ℕ} (getD (replicate n 0) o 0) 0
-none-at zero o = refl
-none-at (suc n) zero = refl
-none-at (suc n) (suc o) = none-at n o
-
-allTo-same : (n : ℕ) (f g : ℕ → Bool) → ((i : ℕ) → i < n → f i ≡ g i) → allTo n f ≡ allTo n g
-unfolding allTo
-allTo-same zero f g h = refl
-allTo-same (suc n) f g h = ap₂ _&&_ (allTo-same n f g (λ i l. h i (omega arith))) (h n (omega arith))
 
 -- `numbers` holds the joined shares in front of zeros
 module _ (s : Side) (work own msg z numbers : List ℕ) (fields : Whole s) (holds : Holds s work own)
@@ -59,7 +49,7 @@ module _ (s : Side) (work own msg z numbers : List ℕ) (fields : Whole s) (hold
   count = openings (paramsIn (s .settings)) (s .round)
 
   few : count ≤ mostOpenings
-  few = openings-most (paramsIn (s .settings)) (s .round) (fields .ready .most)
+  few = openings-most (paramsIn (s .settings)) (s .round) (fields .ready .shape .most)
 
   pub joined-at : (o : ℕ) → o < count → getD numbers o 0 ≡ joinedAt s own msg o
   joined-at o h = rw e (front-at z count (joinedAt s own msg) o (omega (arith, few)) h)

@@ -7,7 +7,7 @@ use lib.ListN.{getD}
 use Rattle.lists.specs.Lists.{allTo}
 use Rattle.field.specs.Field.{q, add, mul}
 
--- what one side gives to an opening: its share, and its part under key i of the side that checks
+-- what one side gives to an opening: its share, and its part under each key of the side that checks
 pub record Given : Type 0 where
   pub share : ℕ
   pub part : ℕ → ℕ
@@ -19,4 +19,4 @@ joined own other = add q (own .share) (other .share)
 -- "The check: the two parts under my key add to my key × the joined number", for each of my k keys
 unfoldable pub accepts : ℕ → List ℕ → Given → Given → Bool
 accepts k keys own other =
-    allTo k (λ (i : ℕ). eqb (add q (own .part i) (other .part i)) (mul q (getD keys i 0) (joined own other)))
+    allTo k (λ (key : ℕ). eqb (add q (own .part key) (other .part key)) (mul q (getD keys key 0) (joined own other)))

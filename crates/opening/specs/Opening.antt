@@ -18,9 +18,9 @@ use Rattle.opening.specs.Check.{Given, joined, accepts}
 
 -- ---- Sizes
 
--- the column of the part under key i of side `number`
+-- the column of the part under a key of side `number`
 abbrev pub partColumn : ℕ → ℕ → ℕ → ℕ
-partColumn k number i = 1 + number * k + i
+partColumn k number key = 1 + number * k + key
 
 -- ---- What a side has for the openings of its round
 
@@ -45,7 +45,7 @@ unfoldable pub message : ℕ → Side → List ℕ → List ℕ
 message k s work =
     messageOf (headerNumber (ownHeader s))
     (joinTo (openings (paramsIn (s .settings)) (s .round)) (λ (o : ℕ).
-    outgoing k s work 0 o ∷ listTo k (λ (i : ℕ). outgoing k s work (partColumn k (1 - s .number) i) o)))
+    outgoing k s work 0 o ∷ listTo k (λ (key : ℕ). outgoing k s work (partColumn k (1 - s .number) key) o)))
 
 -- ---- Take
 
@@ -60,10 +60,10 @@ incoming k s msg o f = fieldIn (fieldCount k (paramsIn (s .settings)) (s .round)
 -- what the receiver itself gives to opening o, and what the message gives
 abbrev pub ownGiven : ℕ → Side → List ℕ → ℕ → Given
 ownGiven k s work o =
-    record { share = prepared k s work 0 o; part = λ (i : ℕ). prepared k s work (partColumn k (s .number) i) o }
+    record { share = prepared k s work 0 o; part = λ (key : ℕ). prepared k s work (partColumn k (s .number) key) o }
 
 abbrev pub given : ℕ → Side → List ℕ → ℕ → Given
-given k s msg o = record { share = incoming k s msg o 0; part = λ (i : ℕ). incoming k s msg o (1 + i) }
+given k s msg o = record { share = incoming k s msg o 0; part = λ (key : ℕ). incoming k s msg o (1 + key) }
 
 -- "the joined number" of opening o
 unfoldable pub opened : ℕ → Side → List ℕ → List ℕ → ℕ → ℕ

@@ -6,18 +6,9 @@ use lib.Dec.{eqb}
 use lib.ListN.{getD}
 use Rattle.lists.specs.Lists.{fill, allTo}
 use Rattle.field.specs.Field.{q, add, mul}
-use Rattle.settings.specs.Sizes.{keyCount, mostOpenings, places}
-use Rattle.slice.specs.Layout.{inputAt}
+use Rattle.settings.specs.Sizes.{keyCount, mostOpenings}
 use Rattle.state.specs.declared.Side.{Side}
 use Rattle.opening.specs.Opening.{partColumn, outgoing, incoming}
-
--- a slice with book and inputs loaded into its first columns
-unfoldable pub loaded : ℕ → ℕ → ℕ → List ℕ → List ℕ → List ℕ → ℕ → List ℕ
-loaded count n width inputs book work zero = work
-loaded count n width inputs book work (suc c) =
-    fill
-    (fill (loaded count n width inputs book work c) (c * places) count (λ (i : ℕ). getD book (i * width + c) 0))
-    (c * places + inputAt 0) n (λ (i : ℕ). getD inputs (i * width + c) 0)
 
 -- a list with `count` numbers of f in each of its first columns, column c from place 32 × c on
 unfoldable pub columnsTo : ℕ → (ℕ → ℕ → ℕ) → List ℕ → ℕ → List ℕ
@@ -48,12 +39,12 @@ inTurn sent x = getD sent (mostOpenings * (x % (1 + keyCount)) + x / (1 + keyCou
 unfoldable pub joinedAt : Side → List ℕ → List ℕ → ℕ → ℕ
 joinedAt s own msg o = add q (getD own o 0) (incoming keyCount s msg o 0)
 
--- its check under key i, and under all keys
+-- its check under one key, and under all keys
 unfoldable pub partAt : Side → List ℕ → List ℕ → List ℕ → ℕ → ℕ → Bool
-partAt s own msg numbers o i =
+partAt s own msg numbers o key =
     eqb
-    (add q (getD own (mostOpenings * partColumn keyCount (s .number) i + o) 0) (incoming keyCount s msg o (1 + i)))
-    (mul q (getD (s .keys) i 0) (getD numbers o 0))
+    (add q (getD own (mostOpenings * partColumn keyCount (s .number) key + o) 0) (incoming keyCount s msg o (1 + key)))
+    (mul q (getD (s .keys) key 0) (getD numbers o 0))
 
 unfoldable pub checkedAt : Side → List ℕ → List ℕ → List ℕ → ℕ → Bool
 checkedAt s own msg numbers o = allTo keyCount (partAt s own msg numbers o)

@@ -3,17 +3,15 @@
 // before it calls them.
 ghost use mathlib.Core.Path.{_≡_};
 ghost use mathlib.Core.Bool.{true};
-ghost use Prim.Native.Nat.{ℕ, _+_, _*_, _≤_, _<_};
-ghost use lib.ListN.{length, getD};
+ghost use Prim.Native.Nat.{_+_, _*_, _≤_, _<_};
+ghost use lib.ListN.{length};
 ghost use Rattle.lists.specs.Lists.{fill, inFront, allBelow, allTo};
 ghost use Rattle.field.specs.Field.{q};
 ghost use Rattle.settings.specs.Settings.{paramsIn};
-ghost use Rattle.settings.specs.Sizes.{keyCount, widthOf, openings, mostOpenings, mostFields, messageLength, workLength};
-ghost use Rattle.slice.specs.Layout.{ownIn, weights};
+ghost use Rattle.settings.specs.Sizes.{keyCount, width, openings, mostOpenings, mostFields, messageLength, workLength};
 ghost use Rattle.state.specs.State.{Whole};
-ghost use Rattle.opening.specs.Work.{loaded, columnsTo, fieldColumn, outgoingIn, outgoingField, inTurn, joinedAt, partAt, checkedAt};
+ghost use Rattle.opening.specs.Work.{columnsTo, fieldColumn, outgoingIn, outgoingField, inTurn, joinedAt, partAt, checkedAt};
 ghost use Rattle.opening.specs.Opening.{prepared, outgoing, message, incoming};
-use column::masked_in;
 use column::prepare;
 use field::add_mod;
 use field::mul_mod;
@@ -24,13 +22,12 @@ use settings::FIELDS_PER_OPENING;
 use settings::KEYS;
 use settings::MOST_FIELDS;
 use settings::MOST_OPENINGS;
-use settings::PLACES;
 use settings::WIDTH;
 use settings::field_count;
-use settings::for_columns;
 use settings::openings_in;
-use slice::INPUT;
-use slice::OWN;
+use slice::masked_in;
+use slice::own_column;
+use slice::weights_of;
 use state::Side;
 use steps::Column;
 use steps::Known;
@@ -38,65 +35,16 @@ use steps::Known;
 // The numbers of a side for a round's openings, in all columns.
 pub const OWN_LENGTH: usize = WIDTH * MOST_OPENINGS;
 
-// ---- Begin: the working slice
-
-// Sets the whole slice to 0.
-pub fn clear(work: &mut [u32])
-    ensures { λ _. ⌜ now (work .exit) ≡ fill (now (work .entry)) 0 (length (now (work .entry))) (λ (i : ℕ). 0) ⌝ }
-{
-    let mut i = 0;
-    while i < work.len() {
-        work[i] = 0;
-        i += 1;
-    }
-}
-
-// One number of each of the first `count` shared numbers of `from`, from a place on.
-fn load(work: &mut [u32], at: usize, from: &[u32], column: usize, count: usize)
-    requires { ⌜ (at + count ≤ length (now work)) × (column < widthOf keyCount) × (count * widthOf keyCount ≤ length (now from)) ⌝ }
-    ensures { λ _. ⌜ now (work .exit) ≡ fill (now (work .entry)) at count (λ (i : ℕ). getD (now (from .entry)) (i * widthOf keyCount + column) 0) ⌝ }
-{
-    let mut i = 0;
-    while i < count {
-        work[at + i] = from[i * WIDTH + column];
-        i += 1;
-    }
-}
-
-// Book and inputs into the columns of a cleared slice.
-pub fn load_columns(work: &mut [u32], book: &[u32], count: usize, inputs: &[u32], n: usize)
-    requires { ⌜ (length (now work) ≡ workLength keyCount) × (count ≤ 1320) × (n ≤ 8) × (count * widthOf keyCount ≤ length (now book)) × (n * widthOf keyCount ≤ length (now inputs)) ⌝ }
-    ensures { λ _. ⌜ now (work .exit) ≡ loaded count n (widthOf keyCount) (now (inputs .entry)) (now (book .entry)) (now (work .entry)) (widthOf keyCount) ⌝ }
-{
-    let mut c = 0;
-    while c < WIDTH {
-        load(work, c * PLACES, book, c, count);
-        load(work, c * PLACES + INPUT, inputs, c, n);
-        c += 1;
-    }
-}
-
 // ---- What a side has for the openings of its round
-
-// What a public 1 adds to each column.
-pub fn weights_of(side: Side) -> [u32; WIDTH]
-    ensures { λ r. ⌜ r ≡ weights keyCount (side .number) (side .keys) ⌝ }
-{
-    let keys = side.keys;
-    let none = [0u32; KEYS];
-    if side.number == 0 {
-        return for_columns(1, keys, none);
-    }
-    for_columns(0, none, keys)
-}
 
 // The side's numbers for the openings in one column, worked out from the slice, in front of `out`.
 fn prepare_column(out: &mut [u32], work: &[u32], side: Side, column: usize)
     requires { ⌜ Whole side ⌝ }
-    requires { ⌜ (length (now work) ≡ workLength keyCount) × (column < widthOf keyCount) × (mostOpenings ≤ length (now out)) ⌝ }
+    requires { ⌜ (length (now work) ≡ workLength keyCount) × (column < width) × (mostOpenings ≤ length (now out)) ⌝ }
     ensures { λ _. ⌜ now (out .exit) ≡ fill (now (out .entry)) 0 (openings (paramsIn (side .settings)) (side .round)) (prepared keyCount side (now (work .entry)) column) ⌝ }
 {
-    let weights = weights_of(side);
+    let keys = side.keys;
+    let weights = weights_of(side.number, keys);
     let settings = side.settings;
     let known = Known {
         settings,
@@ -115,7 +63,7 @@ fn prepare_column(out: &mut [u32], work: &[u32], side: Side, column: usize)
 // The numbers of one column that are to be sent, in front of `out`: the server works them out, the phone kept its own.
 fn outgoing_column(out: &mut [u32], work: &[u32], side: Side, column: usize)
     requires { ⌜ Whole side ⌝ }
-    requires { ⌜ (length (now work) ≡ workLength keyCount) × (column < widthOf keyCount) × (mostOpenings ≤ length (now out)) ⌝ }
+    requires { ⌜ (length (now work) ≡ workLength keyCount) × (column < width) × (mostOpenings ≤ length (now out)) ⌝ }
     ensures { λ _. ⌜ now (out .exit) ≡ fill (now (out .entry)) 0 (openings (paramsIn (side .settings)) (side .round)) (outgoing keyCount side (now (work .entry)) column) ⌝ }
 {
     if side.number == 0 {
@@ -126,22 +74,10 @@ fn outgoing_column(out: &mut [u32], work: &[u32], side: Side, column: usize)
     }
 }
 
-// The openings that the phone kept, in front of `out`.
-fn own_column(out: &mut [u32], work: &[u32], column: usize, count: usize)
-    requires { ⌜ (length (now work) ≡ workLength keyCount) × (column < widthOf keyCount) × (count ≤ mostOpenings) × (count ≤ length (now out)) ⌝ }
-    ensures { λ _. ⌜ now (out .exit) ≡ fill (now (out .entry)) 0 count (ownIn (now (work .entry)) column) ⌝ }
-{
-    let mut o = 0;
-    while o < count {
-        out[o] = work[column * PLACES + OWN + o];
-        o += 1;
-    }
-}
-
 // The column of field f of an opening: 0 is the share, the others are the parts under the receiver's keys.
 fn field_column(side: Side, f: usize) -> usize
     requires { ⌜ (side .number < 2) × (f < 1 + keyCount) ⌝ }
-    ensures { λ r. ⌜ (r ≡ fieldColumn side f) × (r < widthOf keyCount) ⌝ }
+    ensures { λ r. ⌜ (r ≡ fieldColumn side f) × (r < width) ⌝ }
 {
     if f == 0 {
         return 0;
@@ -209,8 +145,8 @@ pub fn write_message(side: Side, work: &[u32], out: &mut [u8]) -> usize
 // The side's numbers for the openings in all columns, 32 places for each.
 pub fn prepare_columns(own: &mut [u32], work: &[u32], side: Side)
     requires { ⌜ Whole side ⌝ }
-    requires { ⌜ (length (now work) ≡ workLength keyCount) × (length (now own) ≡ mostOpenings * widthOf keyCount) ⌝ }
-    ensures { λ _. ⌜ now (own .exit) ≡ columnsTo (openings (paramsIn (side .settings)) (side .round)) (prepared keyCount side (now (work .entry))) (now (own .entry)) (widthOf keyCount) ⌝ }
+    requires { ⌜ (length (now work) ≡ workLength keyCount) × (length (now own) ≡ mostOpenings * width) ⌝ }
+    ensures { λ _. ⌜ now (own .exit) ≡ columnsTo (openings (paramsIn (side .settings)) (side .round)) (prepared keyCount side (now (work .entry))) (now (own .entry)) width ⌝ }
 {
     let mut c = 0;
     while c < WIDTH {
@@ -237,7 +173,7 @@ fn field_in(message: &[u8], side: Side, o: usize, f: usize) -> u32
 // Joins the side's shares with the message's, in front of `opened`.
 pub fn join_shares(opened: &mut [u32], own: &[u32], side: Side, message: &[u8])
     requires { ⌜ length (now message) ≡ messageLength keyCount (paramsIn (side .settings)) (side .round) ⌝ }
-    requires { ⌜ (side .settings .shape .n ≤ 8) × (length (now own) ≡ mostOpenings * widthOf keyCount) × (length (now opened) ≡ mostOpenings) ⌝ }
+    requires { ⌜ (side .settings .shape .n ≤ 8) × (length (now own) ≡ mostOpenings * width) × (length (now opened) ≡ mostOpenings) ⌝ }
     ensures { λ _. ⌜ now (opened .exit) ≡ fill (now (opened .entry)) 0 (openings (paramsIn (side .settings)) (side .round)) (joinedAt side (now (own .entry)) (now (message .entry))) ⌝ }
 {
     let count = openings_in(side.settings.shape, side.round) as usize;
@@ -252,7 +188,7 @@ pub fn join_shares(opened: &mut [u32], own: &[u32], side: Side, message: &[u8])
 fn part_passes(opened: &[u32], own: &[u32], side: Side, message: &[u8], o: usize, i: usize) -> bool
     requires { ⌜ length (now message) ≡ messageLength keyCount (paramsIn (side .settings)) (side .round) ⌝ }
     requires { ⌜ (side .number < 2) × (side .settings .shape .n ≤ 8) × (o < openings (paramsIn (side .settings)) (side .round)) × (i < keyCount) ⌝ }
-    requires { ⌜ (o < mostOpenings) × (length (now own) ≡ mostOpenings * widthOf keyCount) × (length (now opened) ≡ mostOpenings) ⌝ }
+    requires { ⌜ (o < mostOpenings) × (length (now own) ≡ mostOpenings * width) × (length (now opened) ≡ mostOpenings) ⌝ }
     ensures { λ r. ⌜ r ≡ partAt side (now (own .entry)) (now (message .entry)) (now (opened .entry)) o i ⌝ }
 {
     let keys = side.keys;
@@ -265,7 +201,7 @@ fn part_passes(opened: &[u32], own: &[u32], side: Side, message: &[u8], o: usize
 fn check_passes(opened: &[u32], own: &[u32], side: Side, message: &[u8], o: usize) -> bool
     requires { ⌜ length (now message) ≡ messageLength keyCount (paramsIn (side .settings)) (side .round) ⌝ }
     requires { ⌜ (side .number < 2) × (side .settings .shape .n ≤ 8) × (o < openings (paramsIn (side .settings)) (side .round)) ⌝ }
-    requires { ⌜ (o < mostOpenings) × (length (now own) ≡ mostOpenings * widthOf keyCount) × (length (now opened) ≡ mostOpenings) ⌝ }
+    requires { ⌜ (o < mostOpenings) × (length (now own) ≡ mostOpenings * width) × (length (now opened) ≡ mostOpenings) ⌝ }
     ensures { λ r. ⌜ r ≡ checkedAt side (now (own .entry)) (now (message .entry)) (now (opened .entry)) o ⌝ }
 {
     let mut i = 0;
@@ -281,7 +217,7 @@ fn check_passes(opened: &[u32], own: &[u32], side: Side, message: &[u8], o: usiz
 // Does every opening pass its check?
 pub fn checks_pass(opened: &[u32], own: &[u32], side: Side, message: &[u8]) -> bool
     requires { ⌜ length (now message) ≡ messageLength keyCount (paramsIn (side .settings)) (side .round) ⌝ }
-    requires { ⌜ (side .number < 2) × (side .settings .shape .n ≤ 8) × (length (now own) ≡ mostOpenings * widthOf keyCount) × (length (now opened) ≡ mostOpenings) ⌝ }
+    requires { ⌜ (side .number < 2) × (side .settings .shape .n ≤ 8) × (length (now own) ≡ mostOpenings * width) × (length (now opened) ≡ mostOpenings) ⌝ }
     ensures { λ r. ⌜ r ≡ allTo (openings (paramsIn (side .settings)) (side .round)) (checkedAt side (now (own .entry)) (now (message .entry)) (now (opened .entry))) ⌝ }
 {
     let count = openings_in(side.settings.shape, side.round) as usize;

@@ -5,7 +5,7 @@ use Prim.Native.Nat.{ℕ, _≤_}
 use native.Mathlib.Omega.{arith}
 use lib.Dec.{ltb, eqb}
 use lib.IntN.{ℤ}
-use Rattle.lists.specs.Answers.{ask}
+use Rattle.lists.proofs.Questions.{ask-le}
 use Rattle.field.specs.Field.{q}
 use Rattle.rounding.specs.declared.High.{High}
 use Rattle.rounding.specs.declared.High.the-variants as High
@@ -15,11 +15,6 @@ use Rattle.settings.specs.Sets.{scaleOf}
 use Rattle.settings.specs.Questions.{isBit}
 use Rattle.rounding.specs.Plain.{highPart, lowPart}
 use Rattle.rounding.specs.Calls.{partNo, highCall, lowCall}
-
-ask-le : (b : Bool) (n rest m : ℕ) → n ≤ m → rest ≤ m → ask b n rest ≤ m
-unfolding ask
-ask-le true n rest m h k = k
-ask-le false n rest m h k = h
 
 part-no-le : (set w : ℕ) → partNo set w ≤ 6
 unfolding partNo

@@ -1,5 +1,5 @@
 -- Answers as single numbers, for Rust: the value, or the refusal number times 2³².
-use Prim.Native.Nat.{ℕ, _*_}
+use Prim.Native.Nat.{_*_}
 use lib.IntN.{ℤ, pos}
 use Rattle.rounding.specs.declared.High.{High}
 use Rattle.rounding.specs.declared.High.the-variants as High

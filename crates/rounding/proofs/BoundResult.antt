@@ -1,6 +1,6 @@
 -- BOUND: a comparison with a threshold digit by digit, the range of a coefficient by two comparisons with its mask.
-use mathlib.Core.Path.{_≡_, refl, sym, ap, ap₂, _∙_}
-use Prim.Native.Nat.{ℕ, zero, suc, _+_, _-_, _*_, _/_, _%_, _≤_, _<_}
+use mathlib.Core.Path.{_≡_, ap, ap₂, _∙_}
+use Prim.Native.Nat.{ℕ, suc, _+_, _-_, _*_, _/_, _%_, _≤_, _<_}
 use native.Mathlib.Nat.{mul-le-mul-right, mod-lt, mod-eq-of-lt, mod-add-mod, add-mod-right}
 use native.Mathlib.Decide.{decLe}
 use native.Mathlib.Omega.{arith}

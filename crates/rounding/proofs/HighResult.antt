@@ -1,5 +1,5 @@
 -- t(d) − C is the high part: d the quotient of y + r by α, C where y + r is a multiple of α above s × α.
-use mathlib.Core.Path.{_≡_, refl, sym, ap, ap₂, subst, _∙_}
+use mathlib.Core.Path.{_≡_, refl, ap, ap₂, subst, _∙_}
 use Prim.Native.Nat.{ℕ, zero, suc, _+_, _-_, _*_, _/_, _%_, _≤_, _<_}
 use native.Mathlib.Nat.{mul-le-mul-right, le-of-mul-le-mul-right, lt-of-mul-lt-mul-right, mod-eq-of-lt, mod-lt, mul-one, mul-zero, one-mul, mul-le-mul-left, mod-mod}
 use native.Mathlib.Omega.{arith}

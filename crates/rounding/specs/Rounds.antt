@@ -44,15 +44,15 @@ module _ (p : Scale) where
 
 -- "g = q divided by (K + 1) rounded down"
 abbrev pub gap : ℕ → ℕ → ℕ
-gap m k = m / (k + 1)
+gap m K = m / (K + 1)
 
 -- "open ρ + g × n"
 abbrev pub checkOpens : ℕ → ℕ → ℕ → ℕ → ℕ
-checkOpens m k ρ n = add m ρ (gap m k * n)
+checkOpens m K ρ n = add m ρ (gap m K * n)
 
 -- "the result is the vector's entry at the opened number divided by g, rounded down", of "the vector of ρ divided by g"
 abbrev pub checkResult : ℕ → ℕ → ℕ → ℕ → ℕ
-checkResult m k ρ opened = bit (eqb (opened / gap m k) (ρ / gap m k))
+checkResult m K ρ opened = bit (eqb (opened / gap m K) (ρ / gap m K))
 
 -- C of HIGH, with K = 5
 abbrev pub wrapOf : Scale → ℕ → ℕ → ℕ → ℕ
@@ -64,13 +64,13 @@ highResult p ρ y r = sub (p .modulus) (top (p .parts) (topSum p y r)) (wrapOf p
 
 -- ---- BOUND
 
--- "lo = −y, hi = 2B − 1 − y"; k = 0 for hi
+-- "lo = −y, hi = 2B − 1 − y"; which = 0 for hi
 unfoldable pub threshold : ℕ → ℕ → ℕ → ℕ → ℕ
-threshold m bound k y = cond (eqb k 0) (sub m (2 * bound - 1) y) (sub m 0 y)
+threshold m bound which y = cond (eqb which 0) (sub m (2 * bound - 1) y) (sub m 0 y)
 
 -- a threshold's result after digits 0 to i - 1: are these digits of r, as one number, below those of the threshold?
 abbrev pub belowUpTo : Scale → ℕ → ℕ → ℕ → ℕ
-belowUpTo p r t i = bit (ltb (r % unit p i) (t % unit p i))
+belowUpTo p r limit i = bit (ltb (r % unit p i) (limit % unit p i))
 
 -- "inside by hi's result − lo's result, + 1 if hi < lo"
 unfoldable pub insideResult : Scale → ℕ → ℕ → ℕ → ℕ

@@ -1,7 +1,6 @@
 -- What is proved of the plain arithmetic, as types: for every lawful scale (both sets are: settings/specs/Theorems).
 use Prim.Native.Nat.{ℕ, suc, _+_, _*_, _-_, _/_, _%_, _<_, _≤_}
 use mathlib.Core.Path.{_≡_}
-use mathlib.Core.List.{List, [], _∷_}
 use lib.Dec.{eqb, leb, ltb}
 use lib.IntN.{ℤ, pos, negsuc, _*ℤ_, _+ℤ_}
 use Rattle.lists.specs.Answers.{bit}
@@ -32,9 +31,9 @@ pub record PlainLaws : Type 0 where
   pub result : (p : Scale) → Lawful p → (w r ρ : ℕ) → w < p .modulus → r < p .modulus → ρ < p .modulus
       → highResult p ρ (sub (p .modulus) (shifted p w) r) r ≡ highPart p w
   -- the zero check
-  pub check : (m k : ℕ) → 0 < m → m % (k + 1) ≤ gap m k → (ρ n : ℕ) → ρ < m → n ≤ k → checkResult m k ρ (checkOpens m k ρ n) ≡ bit (eqb n 0)
+  pub check : (m K : ℕ) → 0 < m → m % (K + 1) ≤ gap m K → (ρ n : ℕ) → ρ < m → n ≤ K → checkResult m K ρ (checkOpens m K ρ n) ≡ bit (eqb n 0)
   -- BOUND: a comparison digit by digit, and a coefficient is inside, whatever r
-  pub compare : (p : Scale) → Lawful p → (r t i : ℕ) → r < p .modulus → t < p .modulus → i < 5
-      → belowUpTo p r t (suc i) ≡ bit (ltb (digit p r i) (digit p t i)) + bit (eqb (digit p r i) (digit p t i)) * belowUpTo p r t i
+  pub compare : (p : Scale) → Lawful p → (r limit i : ℕ) → r < p .modulus → limit < p .modulus → i < 5
+      → belowUpTo p r limit (suc i) ≡ bit (ltb (digit p r i) (digit p limit i)) + bit (eqb (digit p r i) (digit p limit i)) * belowUpTo p r limit i
   pub bound : (p : Scale) → Lawful p → (v bound r : ℕ) → v < p .modulus → r < p .modulus → 1 ≤ bound → 2 * bound < p .modulus
       → insideResult p bound (sub (p .modulus) (v + (bound - 1)) r) r ≡ bit (inside (p .modulus) bound v)

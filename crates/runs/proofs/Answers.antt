@@ -2,17 +2,17 @@
 -- FIPS 204's, and with all openings counted.
 use Prim.Native.Nat.{ℕ, _+_, _*_, _-_, _%_, _≤_, _<_}
 use mathlib.Core.Path.{_≡_, refl, ap₂, _∙_}
-use mathlib.Core.List.{List, [], _∷_, _++_, map}
+use mathlib.Core.List.{List, [], _∷_, map}
 use mathlib.Core.Bool.{Bool, true, false, cond, _&&_}
 use native.Mathlib.Omega.{arith}
 use lib.Dec.{eqb, leb, ltb}
 use lib.IntN.{pos}
-use lib.ListN.{length, getD, drop, replicate, List·getD-append}
+use lib.ListN.{length, drop, replicate}
 use borrow.Author.Tests.{ltb-true, leb-true, eqb-true, lt-ltb}
-use Rattle.lists.specs.Lists.{every, allBelow, allTo, listTo}
+use Rattle.lists.specs.Lists.{every, allBelow, allTo}
 use Rattle.lists.proofs.Questions.{both-yes}
 use Rattle.lists.proofs.Every.{below-at, allTo-at}
-use Rattle.lists.proofs.Lists.{length-listFrom, listTo-cong, listTo-getD}
+use Rattle.lists.proofs.Lists.{length-listFrom, front-list}
 use Rattle.field.specs.Field.{q}
 use Rattle.settings.specs.Sets.{scaleOf}
 use Rattle.rounding.specs.Plain.{highPart, decompose}
@@ -90,12 +90,6 @@ sound k s secret draw e x d =
     }
 
 -- ---- The end of a run
-
--- a list read back from the front of a longer one
-front-list : (n : ℕ) (xs ys : List ℕ) → length xs ≡ n → listTo n (λ (j : ℕ). getD (xs ++ ys) j 0) ≡ xs
-front-list n xs ys e =
-    rw (← e)
-    (listTo-cong (length xs) (λ (j : ℕ). getD (xs ++ ys) j 0) (λ (j : ℕ). getD xs j 0) (λ j l. List·getD-append xs ys 0 j l) ∙ listTo-getD xs)
 
 module _ (k : ℕ) (s : Settings) (serial : ℕ) (numbers : ℕ → List ℕ) where
   held-at : (h : PartyInput) → Which h → length (numbers (rounds - 1)) ≡ openings (paramsIn s) rounds → heldAnswer (sideAt k s serial numbers h steps) ≡ numbers (rounds - 1)

@@ -1,14 +1,16 @@
 -- What the doors answer at a party state of which little is known, and what a call then leaves there.
-use Prim.Native.Nat.{ℕ, suc}
-use mathlib.Core.Path.{_≡_, refl, ap}
-use mathlib.Core.List.{List, [], _∷_, _++_}
+use Prim.Native.Nat.{ℕ}
+use mathlib.Core.Path.{_≡_, refl}
+use mathlib.Core.List.{List}
 use mathlib.Core.Bool.{Bool, true, false}
 use native.Mathlib.Omega.{arith}
-use lib.ListN.{length, getD, take, drop}
+use lib.ListN.{length, getD, drop}
 use lib.Dec.{eqb, leb}
-use borrow.Author.Tests.{ne-eqb, le-ltb}
+use lib.Seq.{take-at}
+use borrow.Author.Tests.{le-ltb}
 use Rattle.lists.specs.Answers.{ask}
 use Rattle.lists.specs.Lists.{allTo, allBelow}
+use Rattle.lists.proofs.Questions.{ask-no, ask-last}
 use Rattle.field.specs.Field.{q}
 use Rattle.settings.specs.Sizes.{widthOf, openings, messageLength, workLength}
 use Rattle.settings.specs.Questions.{askShape, askSettings}
@@ -24,25 +26,6 @@ use Rattle.runs.specs.Records.{PartyInput, PartyState, Observation, Outc
 use Rattle.runs.specs.Records.Call.{begin, send, takeLatest}
 use Rattle.runs.specs.Records.Observation.{began, sent, took, answered, counted}
 use Rattle.runs.proofs.Laws.{message-sized}
-
--- what was written in front
-pub take-front : (xs ys : List ℕ) → take (length xs) (xs ++ ys) ≡ xs
-take-front [] ys = refl
-take-front (x ∷ xs) ys = ap {B = List ℕ} (λ r. x ∷ r) (take-front xs ys)
-
--- a no stays a no through the rest of a chain
-pub ask-no : (b : Bool) (n rest : ℕ) → eqb (suc n) 0 ≡ false → eqb rest 0 ≡ false → eqb (ask b (suc n) rest) 0 ≡ false
-unfolding ask
-ask-no true n rest p e = e
-ask-no false n rest p e = p
-
-pub ask-last : (b : Bool) (n rest : ℕ) → b ≡ false → eqb (ask b (suc n) rest) 0 ≡ false
-unfolding ask
-ask-last b n rest e = rw e (ne-eqb (suc n) 0 (λ z. omega arith))
-
-pub ask-in : (b : Bool) (n : ℕ) → b ≡ true → eqb (ask b n 0) 0 ≡ true
-unfolding ask
-ask-in b n e = rw e refl
 
 -- what the begin of input h answers at a party state, and what each call leaves there when it goes through
 abbrev pub beginNoAt : ℕ → Settings → ℕ → PartyInput → PartyState → ℕ
@@ -95,7 +78,12 @@ module _ (k : ℕ) (s : Settings) (serial : ℕ) (h : PartyInput) (m : List ℕ)
   unfolding outcome sendCall
   send-go out e =
       record {
-        state-is = rw (e, ← message-sized k (x .side) (x .work), take-front (message k (x .side) (x .work)) (drop (length (message k (x .side) (x .work))) out));
+        state-is = rw (
+          e,
+          ← message-sized k (x .side) (x .work),
+          take-at (message k (x .side) (x .work)) (drop (length (message k (x .side) (x .work))) out)
+              (length (message k (x .side) (x .work))) refl,
+        );
         went-is = rw e;
       }
 

@@ -1,14 +1,14 @@
 -- What needs no run: lengths of messages, and that a message of the round before is told by length or header.
-use Prim.Native.Nat.{ℕ, zero, suc, _+_, _*_}
+use Prim.Native.Nat.{ℕ, suc, _+_}
 use mathlib.Core.Path.{_≡_, refl, sym, ap, _∙_}
 use mathlib.Core.List.{List}
 use mathlib.Core.Bool.{Bool, true, false, _&&_}
 use native.Mathlib.Omega.{arith}
-use lib.ListN.{length, length-append}
+use native.Mathlib.Nat.{mul-comm}
+use lib.ListN.{length}
 use lib.Dec.{eqb}
 use borrow.Author.Tests.{ne-eqb, eqb-true}
-use Rattle.lists.specs.Lists.{joinFrom}
-use Rattle.lists.proofs.Lists.{length-listFrom}
+use Rattle.lists.proofs.Lists.{length-listFrom, ahead-fixed}
 use Rattle.settings.specs.Sizes.{bytesFor, openings, messageBits, fieldCount, messageLength}
 use Rattle.settings.specs.Settings.{paramsIn, Params}
 use Rattle.settings.specs.declared.Settings.{Settings}
@@ -17,21 +17,12 @@ use Rattle.message.specs.Message.{messageOf, headerIn, headerNumber, headerWith
 use Rattle.opening.specs.Opening.{message}
 use Rattle.state.specs.declared.Side.{Side}
 
-pub length-join : (i n w : ℕ) (f : ℕ → List ℕ) → ((j : ℕ) → length (f j) ≡ w) → length (joinFrom i n f) ≡ w * n
-unfolding joinFrom
-length-join i zero w f e = omega arith
-length-join i (suc n) w f e =
-    length-append (f i) (joinFrom (suc i) n f) ∙ rw (e i, length-join (suc i) n w f e) (mul-next w n)
-  where
-    mul-next : (w n : ℕ) → w + w * n ≡ w * suc n
-    mul-next w n = omega arith
-
 -- a message is as long as its round asks
 pub message-sized : (k : ℕ) (s : Side) (work : List ℕ) → length (message k s work) ≡ messageLength k (paramsIn (s .settings)) (s .round)
 unfolding message messageOf packed messageLength
 message-sized k s work =
-    length-listFrom 0 _ _ ∙ ap (λ f. bytesFor (messageBits f)) (length-join 0 (openings (paramsIn (s .settings)) (s .round)) (1 + k) _
-    (λ j. ap suc (length-listFrom 0 k _) ∙ add-one k))
+    length-listFrom 0 _ _ ∙ ap (λ f. bytesFor (messageBits f)) (ahead-fixed (1 + k) (openings (paramsIn (s .settings)) (s .round)) _
+    (λ j. ap suc (length-listFrom 0 k _) ∙ add-one k) ∙ mul-comm (openings (paramsIn (s .settings)) (s .round)) (1 + k))
   where
     add-one : (k : ℕ) → suc k ≡ 1 + k
     add-one k = omega arith

@@ -3,15 +3,16 @@ use Prim.Native.Nat.{ℕ, zero, suc, _+_, _*_, _<_}
 use mathlib.Core.Path.{_≡_, refl, sym, ap, _∙_}
 use mathlib.Core.List.{List, [], _∷_}
 use native.Mathlib.Omega.{arith}
-use native.Mathlib.Nat.{add-comm}
 use lib.ListN.{length, getD, length-append, List·getD-append}
 use lib.Seq.{getD-append-add}
 use Rattle.lists.specs.Lists.{listTo}
+use Rattle.lists.proofs.Every.{all-below}
 use Rattle.field.specs.Field.{q}
 use Rattle.field.specs.Forms.{Adds}
+use Rattle.field.proofs.Forms.{adds-swap}
 use Rattle.settings.specs.Sizes.{widthOf, openings, shared}
 use Rattle.message.specs.Theorems.{RoundTrip}
-use Rattle.book.specs.Deal.{multipliers}
+use Rattle.book.specs.Books.{multipliers}
 use Rattle.book.specs.Theorems.{Laws}
 use Rattle.slice.specs.Layout.{column, maskedIn}
 use Rattle.steps.specs.Steps.{publicOf}
@@ -26,12 +27,9 @@ use Rattle.runs.specs.Demands.{Fixed, Numbers, Secret, Shares, Possible,
 use Rattle.runs.specs.Progress.{workAt, messageAt}
 use Rattle.runs.specs.Honest.{SideRuns, Runs}
 use Rattle.runs.proofs.Start.{length-missing, below-missing, missing-adds}
-use Rattle.runs.proofs.Slices.{Joint, Slices, all-below, opening-below, slices}
+use Rattle.runs.proofs.Slices.{Joint, Slices, opening-below, slices}
 use Rattle.runs.proofs.Sharing.{sharing}
 use Rattle.runs.proofs.Opens.{Facing, meets}
-
-adds-swap : {m a b c : ℕ} → Adds q m a b c → Adds q m b a c
-adds-swap {a = a} {b = b} h = record { total = rw (add-comm b a) (h .total) }
 
 -- the keys among what the columns add up to
 first-keys : (keys0 keys1 : List ℕ) (k i : ℕ) → length keys0 ≡ k → i < k → getD (multipliers keys0 keys1) (partColumn k 0 i) 0 ≡ getD keys0 i 0

@@ -1,17 +1,17 @@
 -- What a side has for the openings of a round: the same numbers when it takes and when it sends, and they are what its message tells.
-use Prim.Native.Nat.{ℕ, zero, suc, _+_, _*_, _-_, _^_, _<_}
-use mathlib.Core.Path.{_≡_, refl, sym, ap, ap₂, _∙_}
-use mathlib.Core.List.{List, _∷_, _++_}
-use mathlib.Core.Bool.{Bool, true, false, cond, _&&_}
+use Prim.Native.Nat.{ℕ, suc, _+_, _*_, _-_, _^_, _<_}
+use mathlib.Core.Path.{_≡_, sym, ap, ap₂, _∙_}
+use mathlib.Core.List.{List, _∷_}
+use mathlib.Core.Bool.{true}
 use native.Mathlib.Omega.{arith}
 use native.Mathlib.Numerals.{add-one}
-use native.Mathlib.Nat.{zero-add, add-zero, mul-le-mul-right}
-use lib.Dec.{eqb, leb, ltb}
+use native.Mathlib.Nat.{zero-add, add-zero, mul-le-mul-right, mul-comm}
+use lib.Dec.{ltb}
 use lib.ListN.{length, getD}
-use borrow.Author.Tests.{lt-ltb, ltb-true, leb-true, eqb-true}
-use Rattle.lists.specs.Lists.{every, allBelow, listTo, joinFrom, joinTo}
+use borrow.Author.Tests.{lt-ltb}
+use Rattle.lists.specs.Lists.{every, allBelow, listTo, joinTo}
 use Rattle.lists.proofs.Every.{every-join, every-listTo}
-use Rattle.lists.proofs.Lists.{length-listFrom, listTo-cong, join-at}
+use Rattle.lists.proofs.Lists.{length-listFrom, listTo-cong, join-at, ahead-fixed, join-cong}
 use Rattle.field.specs.Field.{q}
 use Rattle.settings.specs.Schedule.{rounds, sendStep, takeStep}
 use Rattle.settings.specs.Sizes.{openings, fieldCount, places}
@@ -32,17 +32,9 @@ use Rattle.settings.specs.Settings.{paramsIn, termsOf}
 use Rattle.settings.proofs.Ready.{settings-ok-ready}
 use Rattle.runs.specs.Records.{PartyInput}
 use Rattle.runs.specs.Progress.{workAt, sideAt, partyAt, messageAt}
-use Rattle.runs.proofs.Laws.{length-join}
 use Rattle.runs.proofs.PartyStates.{inputAs, Which, which-below, at-send, at-take}
 use Rattle.runs.proofs.PartyStates.Which.{server, phone}
 use Rattle.runs.proofs.Slices.{Fair, opening-below}
-
-pub join-cong : {A : Type 0} (i n : ℕ) (f g : ℕ → List A) → ((x : ℕ) → x < n → f (i + x) ≡ g (i + x)) → joinFrom i n f ≡ joinFrom i n g
-unfolding joinFrom
-join-cong i zero f g e = refl
-join-cong i (suc n) f g e =
-    ap₂ _++_ (rw add-zero at (e 0 (omega arith)))
-    (join-cong (suc i) n f g (λ x l. let s : i + suc x ≡ suc i + x = omega arith in rw s at (e (suc x) (omega arith))))
 
 module _ (k : ℕ) (s : Settings) (serial : ℕ) (numbers : ℕ → List ℕ) where
   -- side h's number in column c for opening j of round R + 1
@@ -92,7 +84,7 @@ module _ (k : ℕ) (s : Settings) (serial : ℕ) (numbers : ℕ → List ℕ) wh
 
   pub fields-length : (o : PartyInput) (R : ℕ) → length (fieldsAt o R) ≡ fieldCount k (paramsIn s) (suc R)
   unfolding fieldsAt
-  fields-length o R = length-join 0 (openings (paramsIn s) (suc R)) (1 + k) (piece o R) (piece-length o R)
+  fields-length o R = ahead-fixed (1 + k) (openings (paramsIn s) (suc R)) (piece o R) (piece-length o R) ∙ mul-comm (openings (paramsIn s) (suc R)) (1 + k)
 
   -- what any side sends, from its numbers for the openings
   result : (x : Side) (work : List ℕ) (share : ℕ → ℕ → ℕ)
@@ -160,7 +152,7 @@ module _ (k : ℕ) (s : Settings) (serial : ℕ) (numbers : ℕ → List ℕ) wh
     unfolding fieldsAt
     field-read j x l b =
         let n = openings (paramsIn s) (suc R) in
-        let a : length (joinTo j (piece o R)) + x ≡ j * (1 + k) + x = omega (arith, length-join 0 j (1 + k) (piece o R) (piece-length o R)) in
+        let a : length (joinTo j (piece o R)) + x ≡ j * (1 + k) + x = omega (arith, ahead-fixed (1 + k) j (piece o R) (piece-length o R)) in
         rw (message-is t o v R r, ← fields-length o R)
         (m .field header (fieldsAt o R) sized (j * (1 + k) + x) (omega (arith, fields-length o R, mul-le-mul-right (1 + k) l)))
         ∙ (rw a at (join-at n (piece o R) 0 j x l (omega (arith, piece-length o R j))))

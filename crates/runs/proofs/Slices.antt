@@ -1,19 +1,19 @@
 -- The slices of an honest run: after every number of rounds the two sides' add up to the plain one, and all numbers are below q.
 use Prim.Native.Nat.{ℕ, zero, suc, _+_, _*_, _≤_, _<_}
-use mathlib.Core.Path.{_≡_, refl, sym, ap, _∙_}
+use mathlib.Core.Path.{_≡_, sym, ap, _∙_}
 use mathlib.Core.List.{List, [], _∷_, _++_}
 use mathlib.Core.Bool.{Bool, true, false, cond}
 use native.Mathlib.Omega.{arith}
 use lib.Dec.{eqb, leb, ltb}
 use lib.ListN.{length, getD, replicate, length-append, length-replicate}
 use borrow.Author.Tests.{ltb-true, leb-true, lt-ltb}
-use Rattle.lists.specs.Lists.{every, allBelow}
+use Rattle.lists.specs.Lists.{allBelow}
 use Rattle.lists.proofs.Questions.{both-yes}
 use Rattle.lists.proofs.Every.{below-at, every-listTo}
 use Rattle.field.specs.Field.{q}
 use Rattle.field.specs.Forms.{Adds}
 use Rattle.settings.specs.Sizes.{widthOf, openings, shared, places}
-use Rattle.book.specs.Deal.{multipliers}
+use Rattle.book.specs.Books.{multipliers}
 use Rattle.book.specs.Theorems.{Laws}
 use Rattle.slice.specs.Layout.{column, ownIn, maskedIn, weights}
 use Rattle.steps.specs.Steps.{publicOf}
@@ -57,12 +57,6 @@ length-weights k number keys e = by (eqb number 0)
     by : (b : Bool) → length (cond b (1 ∷ keys ++ replicate k 0) (0 ∷ replicate k 0 ++ keys)) ≡ widthOf k
     by true = omega (arith, length-append keys (replicate k 0), length-replicate {A = ℕ} k 0)
     by false = omega (arith, length-append (replicate k 0) keys, length-replicate {A = ℕ} k 0)
-
--- numbers below m at all places
-pub all-below : (m : ℕ) (xs : List ℕ) → ((i : ℕ) → getD xs i 0 < m) → allBelow m xs ≡ true
-unfolding allBelow every
-all-below m [] h = refl
-all-below m (x ∷ xs) h = rw (lt-ltb x m (h 0)) (all-below m xs (λ i. h (suc i)))
 
 -- a side's numbers for openings are below q: it could keep them
 pub opening-below : (t : SlicesJoin) (s : Settings) (round : ℕ) (κs work : List ℕ) → s .shape .n ≤ 8 → 1 ≤ s .shape .n

@@ -9,6 +9,7 @@ use lib.Dec.{eqb, leb}
 use borrow.Author.Tests.{eq-eqb, ne-eqb}
 use Rattle.lists.specs.Answers.{ask}
 use Rattle.lists.specs.Lists.{allTo, allBelow}
+use Rattle.lists.proofs.Questions.{ask-in, ask-last}
 use Rattle.field.specs.Field.{q}
 use Rattle.settings.specs.Schedule.{rounds, steps, sendStep, takeStep}
 use Rattle.settings.specs.Sizes.{openings, fieldCount, messageLength, workLength}
@@ -24,7 +25,7 @@ use Rattle.runs.specs.Records.{PartyInput, PartyState, Call, outcome}
 use Rattle.runs.specs.Records.Call.{begin, send, takeLatest}
 use Rattle.runs.specs.Progress.{sideAt, partyAt}
 use Rattle.runs.specs.Honest.{Meets}
-use Rattle.runs.proofs.Doors.{Leaves, Sound, send-go, send-stay, send-not, send-due, ask-in, ask-last, take-go, take-stay, take-not, take-due, begin-spent}
+use Rattle.runs.proofs.Doors.{Leaves, Sound, send-go, send-stay, send-not, send-due, take-go, take-stay, take-not, take-due, begin-spent}
 use Rattle.runs.proofs.PartyStates.{Which, FieldsPass, state, slice, send-in, take-in, at-send, at-take, at-end, which-below}
 use Rattle.runs.proofs.Laws.{of-another-round}
 

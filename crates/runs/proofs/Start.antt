@@ -10,9 +10,9 @@ use lib.Arith.{digits-div, digits-mod}
 use lib.Dec.{leb, ltb}
 use lib.ListN.{length, getD}
 use borrow.Author.Tests.{lt-ltb, le-ltb, le-leb, lt-leb}
-use Rattle.lists.specs.Lists.{allBelow, listTo, joinTo}
+use Rattle.lists.specs.Lists.{allBelow, listTo}
 use Rattle.lists.proofs.Every.{below-at, every-join, every-listTo}
-use Rattle.lists.proofs.Lists.{length-listFrom, getD-listTo, join-at}
+use Rattle.lists.proofs.Lists.{length-listFrom, getD-listTo}
 use Rattle.field.specs.Field.{q}
 use Rattle.field.specs.Forms.{Adds}
 use Rattle.field.proofs.Congruence.{≈-eq}
@@ -20,13 +20,13 @@ use Rattle.field.proofs.Solve.{at, _⊕_, _⊖_, _⊗_, red, solve}
 use Rattle.settings.specs.Sizes.{shared, places}
 use Rattle.settings.specs.Settings.{Params, Terms}
 use Rattle.book.specs.Book.{bookValue}
-use Rattle.book.specs.Deal.{multipliers, serverBook, phoneBook}
+use Rattle.book.specs.Books.{multipliers, serverBook, phoneBook}
 use Rattle.book.specs.Theorems.{Books}
 use Rattle.slice.specs.Layout.{column, maskedIn, begunPlace, begunWork}
+use Rattle.slice.proofs.Begun.{begun-length, begun-at}
 use Rattle.column.specs.Run.{plainBook, plainStart}
 use Rattle.column.specs.Theorems.{JoinedWork}
 use Rattle.runs.specs.Records.{missingShares}
-use Rattle.runs.proofs.Laws.{length-join}
 
 -- ---- Inputs: what is missing to the secret
 
@@ -68,16 +68,6 @@ module _ (p : Params) (width : ℕ) (inputs book : List ℕ) where
   abbrev columnOf : ℕ → List ℕ
   columnOf c = listTo places (placed c)
 
-  pub length-begun : length (begunWork p width inputs book) ≡ width * places
-  unfolding begunWork
-  length-begun = omega (arith, length-join 0 width places columnOf (λ c. length-listFrom 0 places (placed c)))
-
-  begun-at : (c i : ℕ) → c < width → i < places → getD (begunWork p width inputs book) (c * places + i) 0 ≡ placed c i
-  unfolding begunWork
-  begun-at c i h l =
-      let e : length (joinTo c columnOf) + i ≡ c * places + i = omega (arith, length-join 0 c places columnOf (λ c. length-listFrom 0 places (placed c))) in
-      rw e at (join-at width columnOf 0 c i h (omega (arith, length-listFrom 0 places (placed c)))) ∙ getD-listTo places (placed c) i 0 l
-
   cond-below : (m : ℕ) (b : Bool) (x y : ℕ) → x < m → y < m → cond b x y < m
   cond-below m true x y h l = h
   cond-below m false x y h l = l
@@ -100,7 +90,7 @@ module _ (p : Params) (width : ℕ) (inputs book : List ℕ) where
         by (yes h) =
             let z : 0 * places + (1376 + c) ≡ 1376 + c = omega arith in
             rw (lt-ltb c 8 h)
-            (rw z at (begun-at 0 (1376 + c) some (omega arith))
+            (rw z at (begun-at p width inputs book 0 (1376 + c) some (omega arith))
             ∙ rw (le-ltb (1376 + c) (shared p) (omega arith), le-leb 1320 (1376 + c) (omega arith), le-ltb (1376 + c) (1320 + p .n) (omega arith)))
         by (no h) = rw (le-ltb c 8 (omega arith))
 
@@ -172,7 +162,7 @@ start-joined T keys0 keys1 draw secret inA inB pos most room b ins =
       adds = λ c i h. column-adds T width factors draw secret inA inB pos most room b ins c i h;
       masked₁ = λ c. unmasked (T .params) width inA _ most room (omega arith) c ∙ sym (unmasked (T .params) 1 secret values most room (omega arith) c);
       masked₂ = λ c. unmasked (T .params) width inB _ most room (omega arith) c ∙ sym (unmasked (T .params) 1 secret values most room (omega arith) c);
-      exact₁ = length-begun (T .params) width inA _;
-      exact₂ = length-begun (T .params) width inB _;
-      exact = length-begun (T .params) 1 secret values ∙ omega arith;
+      exact₁ = begun-length (T .params) width inA _;
+      exact₂ = begun-length (T .params) width inB _;
+      exact = begun-length (T .params) 1 secret values ∙ omega arith;
     }

@@ -8,7 +8,7 @@ use lib.Dec.{eqb}
 use borrow.Author.Tests.{eq-eqb, ne-eqb, lt-ltb, le-leb}
 use Rattle.lists.proofs.Questions.{both-yes}
 use Rattle.settings.specs.Sizes.{widthOf}
-use Rattle.settings.specs.Questions.{isBit, countOk, boundOk, keysOk, settingsOk}
+use Rattle.settings.specs.Questions.{isBit, countOk, boundOk, keysOk, shapeOk, settingsOk}
 use Rattle.column.specs.Run.{plainOpened}
 use Rattle.settings.specs.declared.Settings.{Settings}
 use Rattle.settings.specs.Settings.{termsOf}
@@ -37,8 +37,9 @@ pub record Allowed (s : Settings) : Type 0 where
   pub bound : boundOk (s .shape .kind) (s .bound) ≡ true
 
 pub allowed : (s : Settings) → settingsOk s ≡ true → Allowed s
+unfolding shapeOk
 allowed s e =
-    let a = both-yes (isBit (s .shape .set) && isBit (s .shape .kind) && countOk (s .shape .n)) (boundOk (s .shape .kind) (s .bound)) e in
+    let a = both-yes (shapeOk (s .shape)) (boundOk (s .shape .kind) (s .bound)) e in
     let b = both-yes (isBit (s .shape .set) && isBit (s .shape .kind)) (countOk (s .shape .n)) (a .0) in
     let c = both-yes (isBit (s .shape .set)) (isBit (s .shape .kind)) (b .0) in
     record { set-bit = c .0; kind-bit = c .1; count = b .1; bound = a .1 }

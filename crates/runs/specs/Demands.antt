@@ -14,7 +14,7 @@ use Rattle.settings.specs.Sizes.{widthOf, openingsUpTo, messageLength, drawLeng
 use Rattle.settings.specs.Questions.{keysOk, settingsOk}
 use Rattle.rounding.specs.Plain.{decompose}
 use Rattle.settings.specs.Schedule.{rounds}
-use Rattle.book.specs.Deal.{multipliers}
+use Rattle.book.specs.Books.{multipliers}
 use Rattle.state.specs.State.{underWay, finished, heldAnswer, countCall}
 use Rattle.settings.specs.declared.Settings.{Settings}
 use Rattle.settings.specs.Settings.{paramsIn}
@@ -42,7 +42,7 @@ pub record Numbers (size : ℕ) (xs : List ℕ) : Type 0 where
 
 -- "A secret is N numbers below q, the joined inputs"
 abbrev pub Secret : Settings → List ℕ → Type 0
-Secret s x = Numbers (s .shape .n) x
+Secret s secret = Numbers (s .shape .n) secret
 
 -- a side's input shares and check shares
 abbrev pub Shares : ℕ → Settings → List ℕ → Type 0
@@ -54,11 +54,11 @@ Possible k s draw = Numbers (drawLength (paramsIn s) (widthOf k)) draw
 
 -- "Both sides start with no run under way, a last serial below the list's one serial, and a working slice of the exact length";
 -- nothing was sent in this list
-pub record Idle (k serial : ℕ) (x : PartyState) : Type 0 where
-  pub none : underWay (x .side) ≡ false
-  pub last : x .side .serial < serial
-  pub exact : length (x .work) ≡ workLength k
-  pub silent : x .latest ≡ []
+pub record Idle (k serial : ℕ) (state : PartyState) : Type 0 where
+  pub none : underWay (state .side) ≡ false
+  pub last : state .side .serial < serial
+  pub exact : length (state .work) ≡ workLength k
+  pub silent : state .latest ≡ []
 
 pub record Start (k serial : ℕ) (w : JointState) : Type 0 where
   pub observer : Idle k serial (w .observer)
@@ -89,7 +89,7 @@ abbrev pub roundInOrder : ℕ → Settings → ℕ → List ScheduledCall
 roundInOrder k s round = scheduled observer (send (outFor k s round)) ∷ restOfRound k s round
 
 abbrev pub roundsFrom : ℕ → Settings → ℕ → ℕ → List ScheduledCall
-roundsFrom k s first many = joinTo many (λ (i : ℕ). roundInOrder k s (first + i))
+roundsFrom k s first many = joinTo many (λ (x : ℕ). roundInOrder k s (first + x))
 
 -- the orders in which a run can be carried through: the phone begins last, first, or after the server's first message
 abbrev pub phoneSecond : ℕ → Settings → List ScheduledCall
@@ -125,27 +125,27 @@ room count = 0
 
 -- the same call at the same side, with at least as long an output
 abbrev pub isCall : ScheduledCall → ScheduledCall → Bool
-isCall planned m =
-    eqb (partyNumber (planned .party)) (partyNumber (m .party))
-    && eqb (callNumber (planned .call)) (callNumber (m .call))
-    && leb (room (planned .call)) (room (m .call))
+isCall planned made =
+    eqb (partyNumber (planned .party)) (partyNumber (made .party))
+    && eqb (callNumber (planned .call)) (callNumber (made .call))
+    && leb (room (planned .call)) (room (made .call))
 
 -- the planned calls stand in the list, in order, whatever other calls stand between
 unfoldable pub holds : List ScheduledCall → List ScheduledCall → Bool
 holds [] [] = true
-holds [] (m ∷ ms) = true
-holds (c ∷ cs) [] = false
-holds (c ∷ cs) (m ∷ ms) = cond (isCall c m) (holds cs ms) (holds (c ∷ cs) ms)
+holds [] (made ∷ calls) = true
+holds (planned ∷ rest) [] = false
+holds (planned ∷ rest) (made ∷ calls) = cond (isCall planned made) (holds rest calls) (holds (planned ∷ rest) calls)
 
 unfoldable pub carriedThrough : ℕ → Settings → List ScheduledCall → Bool
 carriedThrough k s calls =
     holds (phoneSecond k s) calls || holds (phoneFirst k s) calls || holds (phoneLate k s) calls
 
 -- what a side holds at the end: finished, the answer by the plain meaning, all openings counted
-pub record Ended (s : Settings) (secret : List ℕ) (x : PartyState) : Type 0 where
-  pub done : finished (x .side) ≡ true
-  pub answer : heldAnswer (x .side) ≡ answerOf s secret
-  pub openings : countCall (x .side) ≡ openingsUpTo (paramsIn s) rounds
+pub record Ended (s : Settings) (secret : List ℕ) (state : PartyState) : Type 0 where
+  pub done : finished (state .side) ≡ true
+  pub answer : heldAnswer (state .side) ≡ answerOf s secret
+  pub openings : countCall (state .side) ≡ openingsUpTo (paramsIn s) rounds
 
 -- "every run carried through in order finishes, and both sides hold the high parts, or the verdict"; `observer` is the server
 abbrev pub Demand2 : ℕ → Type 0
@@ -160,8 +160,8 @@ Demand2 k =
     → Start k serial w
     → (calls : List ScheduledCall)
     → carriedThrough k s calls ≡ true
-    → let e = jointAfter k s serial (observerInput k s 0 keys0 keys1 inputs draw) (peerInput k s 0 keys0 keys1 inputs secret draw) w calls in
-    Ended s secret (e .observer) × Ended s secret (e .peer)
+    → let end = jointAfter k s serial (observerInput k s 0 keys0 keys1 inputs draw) (peerInput k s 0 keys0 keys1 inputs secret draw) w calls in
+    Ended s secret (end .observer) × Ended s secret (end .peer)
 
 -- "that FIPS 204 gives": the answer by the plain meaning is Decompose's high part
 abbrev pub FipsHigh : Type 0
@@ -175,34 +175,34 @@ FipsHigh =
 -- takes and sends that were accepted, and whether a begin was
 unfoldable pub takesIn : List Observation → ℕ
 takesIn [] = 0
-takesIn (began r ∷ es) = takesIn es
-takesIn (sent r m ∷ es) = takesIn es
-takesIn (took r m ∷ es) = bit (eqb r 0) + takesIn es
-takesIn (answered r ns ∷ es) = takesIn es
-takesIn (counted c ∷ es) = takesIn es
+takesIn (began refused ∷ log) = takesIn log
+takesIn (sent refused message ∷ log) = takesIn log
+takesIn (took refused message ∷ log) = bit (eqb refused 0) + takesIn log
+takesIn (answered refused ns ∷ log) = takesIn log
+takesIn (counted n ∷ log) = takesIn log
 
 unfoldable pub sendsIn : List Observation → ℕ
 sendsIn [] = 0
-sendsIn (began r ∷ es) = sendsIn es
-sendsIn (sent r m ∷ es) = bit (eqb r 0) + sendsIn es
-sendsIn (took r m ∷ es) = sendsIn es
-sendsIn (answered r ns ∷ es) = sendsIn es
-sendsIn (counted c ∷ es) = sendsIn es
+sendsIn (began refused ∷ log) = sendsIn log
+sendsIn (sent refused message ∷ log) = bit (eqb refused 0) + sendsIn log
+sendsIn (took refused message ∷ log) = sendsIn log
+sendsIn (answered refused ns ∷ log) = sendsIn log
+sendsIn (counted n ∷ log) = sendsIn log
 
 unfoldable pub beganIn : List Observation → Bool
 beganIn [] = false
-beganIn (began r ∷ es) = eqb r 0 || beganIn es
-beganIn (sent r m ∷ es) = beganIn es
-beganIn (took r m ∷ es) = beganIn es
-beganIn (answered r ns ∷ es) = beganIn es
-beganIn (counted c ∷ es) = beganIn es
+beganIn (began refused ∷ log) = eqb refused 0 || beganIn log
+beganIn (sent refused message ∷ log) = beganIn log
+beganIn (took refused message ∷ log) = beganIn log
+beganIn (answered refused ns ∷ log) = beganIn log
+beganIn (counted n ∷ log) = beganIn log
 
 -- after any list of calls, at either side: a run that has begun never stops; it is finished when it has sent and taken all
 -- rounds and not before; its count is fixed by the rounds taken
-pub record Steady (s : Settings) (log : List Observation) (x : PartyState) : Type 0 where
-  pub goes-on : (underWay (x .side) || finished (x .side)) ≡ true
-  pub in-time : finished (x .side) ≡ (eqb (takesIn log) rounds && eqb (sendsIn log) rounds)
-  pub by-rounds : countCall (x .side) ≡ openingsUpTo (paramsIn s) (takesIn log)
+pub record Steady (s : Settings) (log : List Observation) (state : PartyState) : Type 0 where
+  pub goes-on : (underWay (state .side) || finished (state .side)) ≡ true
+  pub in-time : finished (state .side) ≡ (eqb (takesIn log) rounds && eqb (sendsIn log) rounds)
+  pub by-rounds : countCall (state .side) ≡ openingsUpTo (paramsIn s) (takesIn log)
 
 abbrev pub Demand2Steady : ℕ → Type 0
 Demand2Steady k =
@@ -217,7 +217,7 @@ Demand2Steady k =
     → (w : JointState)
     → Start k serial w
     → (calls : List ScheduledCall)
-    → let h = observerInput k s number keys0 keys1 inputs draw in
-    let o = peerInput k s number keys0 keys1 inputs secret draw in
-    beganIn (observations k s serial h o w calls) ≡ true
-    → Steady s (observations k s serial h o w calls) (jointAfter k s serial h o w calls .observer)
+    → let own = observerInput k s number keys0 keys1 inputs draw in
+    let other = peerInput k s number keys0 keys1 inputs secret draw in
+    beganIn (observations k s serial own other w calls) ≡ true
+    → Steady s (observations k s serial own other w calls) (jointAfter k s serial own other w calls .observer)

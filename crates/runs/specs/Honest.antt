@@ -21,26 +21,26 @@ use Rattle.runs.specs.Progress.{workAt, sideAt, messageAt}
 
 -- the other side's messages, by round, have the due header, fields below q and zero padding; every opening passes its check here,
 -- and the joined numbers are `numbers R`
-pub record Meets (k : ℕ) (s : Settings) (serial : ℕ) (numbers : ℕ → List ℕ) (h : PartyInput) (messages : ℕ → List ℕ) : Type 0 where
+pub record Meets (k : ℕ) (s : Settings) (serial : ℕ) (numbers : ℕ → List ℕ) (own : PartyInput) (messages : ℕ → List ℕ) : Type 0 where
   pub header : (R : ℕ) → R < rounds
       → headerIn (fieldCount k (paramsIn s) (suc R)) (messages (suc R))
-      ≡ headerNumber (headerWith (1 - h .number) s (suc R) serial)
+      ≡ headerNumber (headerWith (1 - own .number) s (suc R) serial)
   pub fields : (R : ℕ) → R < rounds → fieldsOk (fieldCount k (paramsIn s) (suc R)) (messages (suc R)) ≡ true
   pub pass : (R : ℕ) → R < rounds
       → allTo (openings (paramsIn s) (suc R))
-      (passes k (sideAt k s serial numbers h (takeStep (h .number) R)) (workAt k s serial numbers h R) (messages (suc R)))
+      (passes k (sideAt k s serial numbers own (takeStep (own .number) R)) (workAt k s serial numbers own R) (messages (suc R)))
       ≡ true
   pub opens : (R : ℕ) → R < rounds
-      → openedList k (sideAt k s serial numbers h (takeStep (h .number) R)) (workAt k s serial numbers h R) (messages (suc R))
+      → openedList k (sideAt k s serial numbers own (takeStep (own .number) R)) (workAt k s serial numbers own R) (messages (suc R))
       ≡ numbers R
 
 -- one side: its slices pass questions 5 and 6, its inputs and book too, and the other's messages meet it
-pub record SideRuns (k : ℕ) (s : Settings) (serial : ℕ) (numbers : ℕ → List ℕ) (h : PartyInput) (messages : ℕ → List ℕ) : Type 0 where
-  pub exact : (R : ℕ) → R ≤ rounds → length (workAt k s serial numbers h R) ≡ workLength k
-  pub low : (R : ℕ) → R ≤ rounds → allBelow q (workAt k s serial numbers h R) ≡ true
-  pub inputs : Numbers (s .shape .n * widthOf k) (h .inputs)
-  pub book : Numbers (shared (paramsIn s) * widthOf k) (h .book)
-  pub meets : Meets k s serial numbers h messages
+pub record SideRuns (k : ℕ) (s : Settings) (serial : ℕ) (numbers : ℕ → List ℕ) (own : PartyInput) (messages : ℕ → List ℕ) : Type 0 where
+  pub exact : (R : ℕ) → R ≤ rounds → length (workAt k s serial numbers own R) ≡ workLength k
+  pub low : (R : ℕ) → R ≤ rounds → allBelow q (workAt k s serial numbers own R) ≡ true
+  pub inputs : Numbers (s .shape .n * widthOf k) (own .inputs)
+  pub book : Numbers (shared (paramsIn s) * widthOf k) (own .book)
+  pub meets : Meets k s serial numbers own messages
 
 -- both sides, for all that Progress speaks of; the numbers are those that the plain run opens
 abbrev pub Runs : ℕ → Type 0
@@ -53,7 +53,7 @@ Runs k =
     → Secret s secret
     → Shares k s inputs
     → Possible k s draw
-    → let h : PartyInput = observerInput k s number keys0 keys1 inputs draw in
-    let o : PartyInput = peerInput k s number keys0 keys1 inputs secret draw in
+    → let own : PartyInput = observerInput k s number keys0 keys1 inputs draw in
+    let other : PartyInput = peerInput k s number keys0 keys1 inputs secret draw in
     let numbers : ℕ → List ℕ = plainOpened (termsOf s) (widthOf k) draw secret in
-    SideRuns k s serial numbers h (messageAt k s serial numbers o) × SideRuns k s serial numbers o (messageAt k s serial numbers h)
+    SideRuns k s serial numbers own (messageAt k s serial numbers other) × SideRuns k s serial numbers other (messageAt k s serial numbers own)

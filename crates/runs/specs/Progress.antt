@@ -22,14 +22,14 @@ use Rattle.runs.specs.Records.Call.{begin, send, takeLatest, answer, cou
 -- ---- One side after m of its steps
 
 -- numbers R: the numbers that round R + 1 opens
-module _ (k : ℕ) (s : Settings) (serial : ℕ) (numbers : ℕ → List ℕ) (h : PartyInput) where
+module _ (k : ℕ) (s : Settings) (serial : ℕ) (numbers : ℕ → List ℕ) (own : PartyInput) where
   -- the working slice after so many rounds
   unfoldable pub workAt : ℕ → List ℕ
-  workAt zero = begunWork (paramsIn s) (widthOf k) (h .inputs) (h .book)
+  workAt zero = begunWork (paramsIn s) (widthOf k) (own .inputs) (own .book)
   workAt (suc R) =
       let ns = numbers R in
       takenWork (termsOf s) (suc R) (λ (o : ℕ). getD ns o 0)
-      (weights k (h .number) (h .keys)) (workAt R)
+      (weights k (own .number) (own .keys)) (workAt R)
 
   -- the kept answer after so many rounds: the last of all opens it
   abbrev pub answerAt : ℕ → List ℕ
@@ -38,19 +38,19 @@ module _ (k : ℕ) (s : Settings) (serial : ℕ) (numbers : ℕ → List ℕ) (h
   -- the side after m steps
   unfoldable pub sideAt : ℕ → Side
   sideAt m =
-      atStep (begunSide (runOf s serial h)) m
-      (answerAt (takenBy (h .number) m))
+      atStep (begunSide (runOf s serial own)) m
+      (answerAt (takenBy (own .number) m))
 
   -- the message of a round, from the step at which it is sent
   unfoldable pub messageAt : ℕ → List ℕ
   messageAt round =
-      let m = sendStep (h .number) (round - 1) in
-      message k (sideAt m) (workAt (takenBy (h .number) m))
+      let m = sendStep (own .number) (round - 1) in
+      message k (sideAt m) (workAt (takenBy (own .number) m))
 
   unfoldable pub partyAt : ℕ → PartyState
   partyAt m =
-      let sends = sentBy (h .number) m in
-      record { side = sideAt m; work = workAt (takenBy (h .number) m); latest = cond (eqb sends 0) [] (messageAt sends) }
+      let sends = sentBy (own .number) m in
+      record { side = sideAt m; work = workAt (takenBy (own .number) m); latest = cond (eqb sends 0) [] (messageAt sends) }
 
 -- ---- Progress: one count for each side, 0 if it has not begun in this list, else 1 + its steps
 
@@ -71,7 +71,7 @@ sentOf number (suc m) = sentBy number m
 
 -- a step that is made if it is due
 abbrev pub onward : Bool → ℕ → ℕ
-onward due c = cond due (suc c) c
+onward due n = cond due (suc n) n
 
 abbrev pub roomFor : ℕ → Settings → ℕ → ℕ → Bool
 roomFor k s round room = leb (messageLength k (paramsIn s) round) room
@@ -85,26 +85,26 @@ module _ (k : ℕ) (s : Settings) (number heard : ℕ) where
   next (send out) (suc m) = onward (sendsAfter number m && goesOn m && roomFor k s (roundAfter m) (length out)) (suc m)
   next takeLatest zero = zero
   next takeLatest (suc m) = onward (not (sendsAfter number m) && goesOn m && ltb (takenBy number m) heard) (suc m)
-  next (answer out) c = c
-  next count c = c
+  next (answer out) n = n
+  next count n = n
 
 -- `observer` is side `number`
 module _ (k : ℕ) (s : Settings) (number : ℕ) where
   unfoldable pub stepCounts : Counts → Party → Call → Counts
-  stepCounts c observer call = record { observer = next k s number (sentOf (1 - number) (c .peer)) call (c .observer); peer = c .peer }
-  stepCounts c peer call = record { observer = c .observer; peer = next k s (1 - number) (sentOf number (c .observer)) call (c .peer) }
+  stepCounts counts observer call = record { observer = next k s number (sentOf (1 - number) (counts .peer)) call (counts .observer); peer = counts .peer }
+  stepCounts counts peer call = record { observer = counts .observer; peer = next k s (1 - number) (sentOf number (counts .observer)) call (counts .peer) }
 
   unfoldable pub countsAfter : Counts → List ScheduledCall → Counts
-  countsAfter c [] = c
-  countsAfter c (m ∷ ms) = countsAfter (stepCounts c (m .party) (m .call)) ms
+  countsAfter counts [] = counts
+  countsAfter counts (one ∷ calls) = countsAfter (stepCounts counts (one .party) (one .call)) calls
 
 -- ---- The joint state at its counts, from the joint state at the start
 
 module _ (k : ℕ) (s : Settings) (serial : ℕ) (numbers : ℕ → List ℕ) where
   -- the party state of one side: as it started, or after its steps
   abbrev pub partyFrom : PartyInput → PartyState → ℕ → PartyState
-  partyFrom h x zero = x
-  partyFrom h x (suc m) = partyAt k s serial numbers h m
+  partyFrom own start zero = start
+  partyFrom own start (suc m) = partyAt k s serial numbers own m
 
   unfoldable pub jointAt : PartyInput → PartyInput → JointState → Counts → JointState
-  jointAt h o w c = record { observer = partyFrom h (w .observer) (c .observer); peer = partyFrom o (w .peer) (c .peer) }
+  jointAt own other w counts = record { observer = partyFrom own (w .observer) (counts .observer); peer = partyFrom other (w .peer) (counts .peer) }

@@ -1,6 +1,6 @@
 -- Whole records: two sides, a list of calls, and the record of one side.
 use Prim.Native.Nat.{ℕ, _+_, _*_}
-use mathlib.Core.Bool.{Bool, cond, _&&_}
+use mathlib.Core.Bool.{cond}
 use mathlib.Core.List.{List, [], _∷_, _++_, map}
 use lib.Dec.{eqb}
 use lib.ListN.{length, getD, take}
@@ -10,7 +10,7 @@ use Rattle.settings.specs.Sizes.{widthOf}
 use Rattle.settings.specs.Settings.{paramsIn}
 use Rattle.settings.specs.declared.Settings.{Settings}
 use Rattle.rounding.specs.Plain.{highPart, verdict}
-use Rattle.book.specs.Deal.{multipliers, inOrder, serverBook, phoneBook}
+use Rattle.book.specs.Books.{multipliers, inOrder, serverBook, phoneBook}
 use Rattle.state.specs.declared.Side.{Side}
 use Rattle.state.specs.State.{answerCall, countCall}
 use Rattle.side.specs.declared.Run.{Run}
@@ -40,7 +40,7 @@ pub record PartyInput : Type 0 where
 
 -- what its begin is handed
 abbrev pub runOf : Settings → ℕ → PartyInput → Run
-runOf s serial h = record { number = h .number; settings = s; keys = h .keys; serial = serial }
+runOf s serial own = record { number = own .number; settings = s; keys = own .keys; serial = serial }
 
 -- "the deal makes both books from it": the book of side `number`
 abbrev pub bookOf : ℕ → Settings → ℕ → List ℕ → List ℕ → List ℕ → List ℕ
@@ -97,50 +97,50 @@ pub record ScheduledCall : Type 0 where
 
 module _ (k : ℕ) (s : Settings) (serial : ℕ) where
   abbrev pub beginAt : PartyInput → PartyState → After
-  beginAt h x =
-      beginCall k (x .side) (runOf s serial h) (h .inputs) (h .book) (x .work)
+  beginAt own state =
+      beginCall k (state .side) (runOf s serial own) (own .inputs) (own .book) (state .work)
 
   abbrev pub leftBy : PartyState → After → PartyState
-  leftBy x a = record { side = a .done .side; work = a .work; latest = x .latest }
+  leftBy state a = record { side = a .done .side; work = a .work; latest = state .latest }
 
   -- a refused send sends nothing
   abbrev pub leftBySend : PartyState → AfterSend → PartyState
-  leftBySend x a =
-      record { side = a .sent .side; work = x .work; latest = cond (eqb (a .sent .refused) 0) (take (a .sent .length) (a .out)) (x .latest) }
+  leftBySend state a =
+      record { side = a .sent .side; work = state .work; latest = cond (eqb (a .sent .refused) 0) (take (a .sent .length) (a .out)) (state .latest) }
 
   -- what a call leaves at its party state, and what it adds to that side's record; incoming is the other side's latest message
   unfoldable pub outcome : PartyInput → List ℕ → PartyState → Call → Outcome
-  outcome h incoming x begin =
-      let a = beginAt h x in
-      record { state = leftBy x a; observation = began (a .done .refused) }
-  outcome h incoming x (send out) =
-      let a = sendCall k (x .side) (x .work) out in
-      record { state = leftBySend x a; observation = sent (a .sent .refused) (take (a .sent .length) (a .out)) }
-  outcome h incoming x takeLatest =
-      let a = takeCall k (x .side) (x .work) incoming in
-      record { state = leftBy x a; observation = took (a .done .refused) incoming }
-  outcome h incoming x (answer out) =
-      let a = answerCall (x .side) out in
-      record { state = x; observation = answered (a .result .refused) (take (a .result .length) (a .out)) }
-  outcome h incoming x count = record { state = x; observation = counted (countCall (x .side)) }
+  outcome own incoming state begin =
+      let a = beginAt own state in
+      record { state = leftBy state a; observation = began (a .done .refused) }
+  outcome own incoming state (send out) =
+      let a = sendCall k (state .side) (state .work) out in
+      record { state = leftBySend state a; observation = sent (a .sent .refused) (take (a .sent .length) (a .out)) }
+  outcome own incoming state takeLatest =
+      let a = takeCall k (state .side) (state .work) incoming in
+      record { state = leftBy state a; observation = took (a .done .refused) incoming }
+  outcome own incoming state (answer out) =
+      let a = answerCall (state .side) out in
+      record { state = state; observation = answered (a .result .refused) (take (a .result .length) (a .out)) }
+  outcome own incoming state count = record { state = state; observation = counted (countCall (state .side)) }
 
-  module _ (h o : PartyInput) where
+  module _ (own other : PartyInput) where
     -- "Each call gets the side and working slice that the last call there left": the joint state after a call, and the events at `observer`
     unfoldable pub step : JointState → Party → Call → JointState
-    step w observer c = record { observer = outcome h (w .peer .latest) (w .observer) c .state; peer = w .peer }
-    step w peer c = record { observer = w .observer; peer = outcome o (w .observer .latest) (w .peer) c .state }
+    step w observer call = record { observer = outcome own (w .peer .latest) (w .observer) call .state; peer = w .peer }
+    step w peer call = record { observer = w .observer; peer = outcome other (w .observer .latest) (w .peer) call .state }
 
     unfoldable pub observed : JointState → Party → Call → List Observation
-    observed w observer c = outcome h (w .peer .latest) (w .observer) c .observation ∷ []
-    observed w peer c = []
+    observed w observer call = outcome own (w .peer .latest) (w .observer) call .observation ∷ []
+    observed w peer call = []
 
     unfoldable pub jointAfter : JointState → List ScheduledCall → JointState
     jointAfter w [] = w
-    jointAfter w (m ∷ ms) = jointAfter (step w (m .party) (m .call)) ms
+    jointAfter w (one ∷ calls) = jointAfter (step w (one .party) (one .call)) calls
 
     unfoldable pub observations : JointState → List ScheduledCall → List Observation
     observations w [] = []
-    observations w (m ∷ ms) = observed w (m .party) (m .call) ++ observations (step w (m .party) (m .call)) ms
+    observations w (one ∷ calls) = observed w (one .party) (one .call) ++ observations (step w (one .party) (one .call)) calls
 
 -- "A side's record is its key, input shares, check shares and book, each message it sent or was handed, and each result of its calls, in order"
 pub record Record : Type 0 where
@@ -150,5 +150,5 @@ pub record Record : Type 0 where
   pub log : List Observation
 
 abbrev pub recordOf : ℕ → Settings → ℕ → PartyInput → PartyInput → JointState → List ScheduledCall → Record
-recordOf k s serial h o w ms =
-    record { keys = h .keys; inputs = h .inputs; book = h .book; log = observations k s serial h o w ms }
+recordOf k s serial own other w calls =
+    record { keys = own .keys; inputs = own .inputs; book = own .book; log = observations k s serial own other w calls }

@@ -23,7 +23,7 @@ Progress k =
     → (w : JointState)
     → Start k serial w
     → (calls : List ScheduledCall)
-    → let h = observerInput k s number keys0 keys1 inputs draw in
-    let o = peerInput k s number keys0 keys1 inputs secret draw in
+    → let own = observerInput k s number keys0 keys1 inputs draw in
+    let other = peerInput k s number keys0 keys1 inputs secret draw in
     let numbers : ℕ → List ℕ = plainOpened (termsOf s) (widthOf k) draw secret in
-    jointAfter k s serial h o w calls ≡ jointAt k s serial numbers h o w (countsAfter k s number none calls)
+    jointAfter k s serial own other w calls ≡ jointAt k s serial numbers own other w (countsAfter k s number none calls)

@@ -14,7 +14,7 @@ use Rattle.settings.specs.Schedule.{rounds}
 use Rattle.settings.specs.Sizes.{openings, shared}
 use Rattle.settings.specs.Settings.{Terms}
 use Rattle.book.specs.Book.{drawn, phoneNumber, bookValue}
-use Rattle.book.specs.Deal.{phoneBook, serverNumber, serverBook}
+use Rattle.book.specs.Books.{phoneBook, serverNumber, serverBook}
 use Rattle.column.specs.Run.{openedFrom, plainOpened}
 use Rattle.secrecy.specs.Paired.{openedOf, tripleOpening, drawnMoved, phoneMoved, paired}
 use Rattle.secrecy.proofs.Parts.{drawn-drawFrom, phone-drawFrom, drawFrom-is}

@@ -8,7 +8,7 @@ use native.Mathlib.Omega.{arith}
 use lib.Dec.{eqb}
 use Rattle.settings.specs.Sizes.{widthOf}
 use Rattle.settings.specs.Schedule.{rounds}
-use Rattle.book.specs.Deal.{multipliers}
+use Rattle.book.specs.Books.{multipliers}
 use Rattle.column.specs.Run.{plainOpened}
 use Rattle.column.specs.Theorems.{PlainRun}
 use Rattle.settings.specs.declared.Settings.{Settings}

@@ -5,7 +5,7 @@ use mathlib.Core.Bool.{cond}
 use Prim.Native.Nat.{ℕ, _<_}
 use lib.Dec.{eqb}
 use Rattle.settings.specs.Sizes.{widthOf}
-use Rattle.book.specs.Deal.{multipliers}
+use Rattle.book.specs.Books.{multipliers}
 use Rattle.book.specs.Theorems.{Laws}
 use Rattle.column.specs.Run.{plainOpened}
 use Rattle.column.specs.Theorems.{SlicesJoin, PlainRun}

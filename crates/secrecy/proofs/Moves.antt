@@ -19,7 +19,7 @@ use Rattle.book.specs.Book.{Entry, groupGap, entryOf, maskAt, tripleAt, groupAt
 use Rattle.settings.specs.Sizes.{shared, drawLength, groups}
 use Rattle.settings.specs.Settings.{Terms}
 use Rattle.book.specs.Book.Entry.{mask, place, left, right, product, groupMask, groupPlace}
-use Rattle.book.specs.Deal.{inOrder}
+use Rattle.book.specs.Books.{inOrder}
 use Rattle.book.specs.Theorems.{At, at-place, at-product, at-groupPlace, Holds}
 use Rattle.book.proofs.Places.{at-entry, holds-mask, holds-left, holds-right, holds-ρ}
 use Rattle.steps.specs.Steps.{shiftOf}

@@ -17,7 +17,8 @@ use Rattle.book.proofs.Places.{at-entry, holds-mask, holds-left, holds-right, h
 use Rattle.steps.specs.Steps.{shiftOf}
 use Rattle.secrecy.specs.Paired.{drawFrom, openedOf, tripleOpening, movedMask, masksMoved, movedDrawn, drawnMoved}
 use Rattle.secrecy.proofs.Parts.{length-drawFrom, drawn-drawFrom, phone-drawFrom, below-drawFrom}
-use Rattle.secrecy.proofs.Moves.{moved-a, moved-ρ, r-back, r-opens, a-back, a-opens, ρ-back, ρ-opens, Good, Same, same-at, SameMasks, masks-same, factorOf, checkOf, factor-same, check-same, Shapes}
+use Rattle.secrecy.proofs.Moves.{moved-a, moved-ρ, r-back, r-opens, a-back, a-opens, ρ-back, ρ-opens, Good, Shapes}
+use Rattle.secrecy.proofs.Moves.{Same, same-at, SameMasks, masks-same, factorOf, checkOf, factor-same, check-same}
 
 module _ (T : Terms) (width : ℕ) (pos : 0 < T .params .scale .modulus) where
   abbrev m : ℕ

@@ -3,15 +3,13 @@ use mathlib.Core.Path.{_≡_, refl, sym, ap, ap₂, _∙_}
 use mathlib.Core.List.{List, [], _∷_}
 use mathlib.Core.Bool.{cond}
 use Prim.Native.Nat.{ℕ, zero, suc, _+_, _-_, _≤_, _<_}
-use native.Mathlib.Nat.{add-comm}
 use native.Mathlib.Omega.{arith}
 use lib.Dec.{eqb}
 use lib.ListN.{getD}
 use Rattle.lists.specs.Lists.{listTo}
-use Rattle.lists.proofs.Lists.{getD-listTo, listTo-cong}
+use Rattle.lists.proofs.Lists.{getD-listTo, listTo-cong, join-cong}
 use Rattle.field.specs.Field.{q}
-use Rattle.field.specs.Forms.{Adds}
-use Rattle.field.proofs.Congruence.{≈-eq, ≈-sym, ≈-trans, ≈-lt, ≈-cancel}
+use Rattle.field.proofs.Forms.{missing-same}
 use Rattle.settings.specs.Sizes.{widthOf, openings}
 use Rattle.settings.specs.Schedule.{rounds, steps, sentBy}
 use Rattle.message.specs.Message.{messageOf, headerNumber, headerWith}
@@ -23,17 +21,10 @@ use Rattle.runs.specs.Records.{PartyInput, PartyState, JointState, ScheduledCal
 use Rattle.runs.specs.Progress.{messageAt, partyAt, partyFrom, none, countsAfter, jointAt}
 use Rattle.runs.proofs.PartyStates.{which-below}
 use Rattle.runs.proofs.Both.{start-pace, pace-after}
-use Rattle.runs.proofs.Sharing.{join-cong, sharing, sharing-below, fieldsAt, part-inside, message-is}
+use Rattle.runs.proofs.Sharing.{sharing, sharing-below, fieldsAt, part-inside, message-is}
 use Rattle.runs.proofs.Opens.{Facing}
 use Rattle.secrecy.proofs.Own.{SameNumbers, work-same, own-same}
 use Rattle.secrecy.proofs.Lockstep.{Alike, events-same}
-
--- what is missing to the same total is the same
-missing-same : (m f a b b′ v : ℕ) → Adds m f a b v → Adds m f a b′ v → b < m → b′ < m → b ≡ b′
-missing-same m f a b b′ v h h′ l l′ =
-    ≈-lt
-    (≈-cancel a (≈-trans (≈-eq (add-comm b a)) (≈-trans (h .total) (≈-trans (≈-sym (h′ .total)) (≈-eq (add-comm a b′))))))
-    l l′
 
 module _ (joins : SlicesJoin) (k : ℕ) (s : Settings) (serial : ℕ) (factors : List ℕ)
     (N N′ : ℕ → List ℕ) (same : SameNumbers N N′) (plain plain′ : ℕ → ℕ → ℕ) (h o o′ : PartyInput)

@@ -1,11 +1,10 @@
 -- From PlainRun's closed form of the openings to what the pairing asks of them, and that settings, secrets and draws are sound.
-use mathlib.Core.Path.{_≡_, refl, ap, _∙_}
+use mathlib.Core.Path.{_≡_, ap, _∙_}
 use mathlib.Core.List.{List}
-use mathlib.Core.Bool.{Bool, true, false, cond, _&&_}
+use mathlib.Core.Bool.{true}
 use Prim.Native.Nat.{ℕ, suc, _+_, _*_, _-_, _/_, _%_, _≤_, _<_}
 use native.Mathlib.Omega.{arith}
-use lib.Dec.{eqb, leb, ltb}
-use borrow.Author.Tests.{ne-eqb, le-leb, leb-true, ltb-true, eqb-true, lt-ltb}
+use borrow.Author.Tests.{ne-eqb, le-leb}
 use lib.ListN.{getD}
 use Rattle.lists.proofs.Lists.{getD-listTo}
 use Rattle.field.specs.Field.{add, sub}

@@ -5,7 +5,7 @@ use mathlib.Core.Bool.{true}
 use mathlib.Core.List.{List}
 use Rattle.settings.specs.Sizes.{widthOf}
 use Rattle.settings.specs.Schedule.{rounds}
-use Rattle.book.specs.Deal.{multipliers}
+use Rattle.book.specs.Books.{multipliers}
 use Rattle.column.specs.Run.{plainOpened}
 use Rattle.settings.specs.declared.Settings.{Settings}
 use Rattle.settings.specs.Questions.{settingsOk}
@@ -16,22 +16,22 @@ use Rattle.secrecy.specs.Paired.{paired}
 
 -- the pairing is one to one, keeps possible draws, the opened numbers and the own book
 pub record DrawsPair (k : ℕ) : Type 0 where
-  pub possible : (s : Settings) (number : ℕ) (keys0 keys1 x x′ draw : List ℕ)
-      → settingsOk s ≡ true → Secret s x → Secret s x′ → Possible k s draw
-      → Possible k s (paired (termsOf s) (widthOf k) x x′ number (multipliers keys0 keys1) draw)
-  pub back : (s : Settings) (number : ℕ) (keys0 keys1 x x′ draw : List ℕ)
-      → settingsOk s ≡ true → Secret s x → Secret s x′ → Possible k s draw
+  pub possible : (s : Settings) (number : ℕ) (keys0 keys1 secret secret′ draw : List ℕ)
+      → settingsOk s ≡ true → Secret s secret → Secret s secret′ → Possible k s draw
+      → Possible k s (paired (termsOf s) (widthOf k) secret secret′ number (multipliers keys0 keys1) draw)
+  pub back : (s : Settings) (number : ℕ) (keys0 keys1 secret secret′ draw : List ℕ)
+      → settingsOk s ≡ true → Secret s secret → Secret s secret′ → Possible k s draw
       → let there : List ℕ → List ℕ → List ℕ → List ℕ = λ a b d. paired (termsOf s) (widthOf k) a b number (multipliers keys0 keys1) d in
-      there x′ x (there x x′ draw) ≡ draw
-  pub same-openings : (s : Settings) (number : ℕ) (keys0 keys1 x x′ draw : List ℕ)
-      → settingsOk s ≡ true → Secret s x → Secret s x′ → Possible k s draw
-      → answerOf s x ≡ answerOf s x′
+      there secret′ secret (there secret secret′ draw) ≡ draw
+  pub same-openings : (s : Settings) (number : ℕ) (keys0 keys1 secret secret′ draw : List ℕ)
+      → settingsOk s ≡ true → Secret s secret → Secret s secret′ → Possible k s draw
+      → answerOf s secret ≡ answerOf s secret′
       → (round : ℕ)
       → round < rounds
       → plainOpened (termsOf s) (widthOf k)
-      (paired (termsOf s) (widthOf k) x x′ number (multipliers keys0 keys1) draw) x′ round
-      ≡ plainOpened (termsOf s) (widthOf k) draw x round
-  pub same-book : (s : Settings) (number : ℕ) (keys0 keys1 x x′ draw : List ℕ)
-      → settingsOk s ≡ true → number < 2 → Secret s x → Secret s x′ → Possible k s draw
-      → bookOf k s number keys0 keys1 (paired (termsOf s) (widthOf k) x x′ number (multipliers keys0 keys1) draw)
+      (paired (termsOf s) (widthOf k) secret secret′ number (multipliers keys0 keys1) draw) secret′ round
+      ≡ plainOpened (termsOf s) (widthOf k) draw secret round
+  pub same-book : (s : Settings) (number : ℕ) (keys0 keys1 secret secret′ draw : List ℕ)
+      → settingsOk s ≡ true → number < 2 → Secret s secret → Secret s secret′ → Possible k s draw
+      → bookOf k s number keys0 keys1 (paired (termsOf s) (widthOf k) secret secret′ number (multipliers keys0 keys1) draw)
       ≡ bookOf k s number keys0 keys1 draw

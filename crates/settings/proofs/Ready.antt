@@ -4,7 +4,7 @@ use mathlib.Core.Logic.{_≢_}
 use mathlib.Core.Bool.{Bool, true, false, cond, _&&_}
 use Prim.Native.Nat.{ℕ, _≤_, _<_}
 use native.Mathlib.Omega.{arith}
-use lib.Dec.{ltb, leb, eqb}
+use lib.Dec.{leb, eqb}
 use borrow.Author.Tests.{ltb-true, leb-true, eqb-true, ne-eqb}
 use Rattle.lists.specs.Answers.{ask}
 use Rattle.lists.proofs.Questions.{passed, both-yes}
@@ -101,10 +101,7 @@ module _ (number : ℕ) (s : Settings) where
       let limits = bound-ready (s .shape .kind) (s .bound) (third .0) in (
         ltb-true number 2 (one .0),
         record {
-          sets = shape .sets;
-          kinds = shape .kinds;
-          some = shape .some;
-          most = shape .most;
+          shape = shape;
           bound-most = limits .0;
           bound-some = limits .1;
         },
@@ -143,17 +140,6 @@ module _ (number : ℕ) (s : Settings) where
 -- settings that pass the three questions as one test
 pub settings-ok-ready : (s : Settings) → settingsOk s ≡ true → Ready s
 settings-ok-ready s e =
-    let a = s .shape in
-    let three = both-yes (isBit (a .set) && isBit (a .kind) && countOk (a .n)) (boundOk (a .kind) (s .bound)) e in
-    let two = both-yes (isBit (a .set) && isBit (a .kind)) (countOk (a .n)) (three .0) in
-    let bits = both-yes (isBit (a .set)) (isBit (a .kind)) (two .0) in
-    let counted = count-ready (a .n) (two .1) in
-    let limits = bound-ready (a .kind) (s .bound) (three .1) in
-    record {
-      sets = ltb-true (a .set) 2 (bits .0);
-      kinds = ltb-true (a .kind) 2 (bits .1);
-      some = counted .0;
-      most = counted .1;
-      bound-most = limits .0;
-      bound-some = limits .1;
-    }
+    let both = both-yes (shapeOk (s .shape)) (boundOk (s .shape .kind) (s .bound)) e in
+    let limits = bound-ready (s .shape .kind) (s .bound) (both .1) in
+    record { shape = ok-ready (s .shape) (both .0); bound-most = limits .0; bound-some = limits .1 }

@@ -34,7 +34,7 @@ unfoldable pub shapeOk : Shape → Bool
 shapeOk a = isBit (a .set) && isBit (a .kind) && countOk (a .n)
 
 abbrev pub settingsOk : Settings → Bool
-settingsOk s = isBit (s .shape .set) && isBit (s .shape .kind) && countOk (s .shape .n) && boundOk (s .shape .kind) (s .bound)
+settingsOk s = shapeOk (s .shape) && boundOk (s .shape .kind) (s .bound)
 
 -- questions 1 and 2 of set, kind and N, and then the rest
 unfoldable pub askShape : Shape → ℕ → ℕ
@@ -60,9 +60,6 @@ pub record ShapeReady (a : Shape) : Type 0 where
 
 -- what settings are that passed questions 1 to 3
 pub record Ready (s : Settings) : Type 0 where
-  pub sets : s .shape .set < 2
-  pub kinds : s .shape .kind < 2
-  pub some : 1 ≤ s .shape .n
-  pub most : s .shape .n ≤ 8
+  pub shape : ShapeReady (s .shape)
   pub bound-most : s .bound ≤ 4190208
   pub bound-some : s .shape .kind ≢ 0 → 1 ≤ s .bound

@@ -19,6 +19,10 @@ keyCount = 1
 abbrev pub widthOf : ℕ → ℕ
 widthOf k = 1 + 2 * k
 
+-- the same with the keys a side that the product has
+abbrev pub width : ℕ
+width = widthOf keyCount
+
 -- ---- Openings and messages
 
 -- "Openings in all: 19N or 17N + 2": N in round 1, 4N in rounds 2 to 5, then N and N, or 1 and 1
@@ -37,7 +41,7 @@ mostFields k = mostOpenings * (1 + k)
 
 -- the openings of the first rounds
 unfoldable pub openingsUpTo : Params → ℕ → ℕ
-openingsUpTo p rounds = sumTo rounds (λ (r : ℕ). openings p (r + 1))
+openingsUpTo p rounds = sumTo rounds (λ (before : ℕ). openings p (before + 1))
 
 -- "sender 1 bit, set 1, kind 1, N − 1 in 3, round 3, B 23, serial 32"
 abbrev pub headerBits : ℕ
@@ -86,7 +90,7 @@ drawnNumbers p = 17 * p .n + groups p
 
 -- ".. and the phone's three numbers for every shared number of the book": how many numbers a draw has
 unfoldable pub drawLength : Params → ℕ → ℕ
-drawLength p width = shared p * width + drawnNumbers p
+drawLength p w = shared p * w + drawnNumbers p
 
 -- ---- A side's slices
 
@@ -113,13 +117,13 @@ messageSize a round = sized a (cond (roundOk round) (messageLength keyCount (par
 
 -- a book's numbers, a draw's, and those of a side's inputs
 unfoldable pub bookSize : Shape → ℕ
-bookSize a = sized a (shared (paramsOf a) * widthOf keyCount)
+bookSize a = sized a (shared (paramsOf a) * width)
 
 unfoldable pub drawSize : Shape → ℕ
-drawSize a = sized a (drawLength (paramsOf a) (widthOf keyCount))
+drawSize a = sized a (drawLength (paramsOf a) width)
 
 unfoldable pub inputSize : Shape → ℕ
-inputSize a = sized a (a .n * widthOf keyCount)
+inputSize a = sized a (a .n * width)
 
 unfoldable pub answerSize : Shape → ℕ
 answerSize a = sized a (answerPlaces (paramsOf a))

@@ -1,5 +1,5 @@
-// What a run is agreed on: the constants of the sets, the settings, the questions about them with their refusal numbers, and every size
-// that follows.
+// What a run is agreed on: the settings, the refusal numbers, the number of keys, the constants of the sets, the questions about settings
+// and keys, a number for each column, the order of a run, and every size that follows.
 ghost use mathlib.Core.Path.{_≡_};
 ghost use mathlib.Core.List.{_∷_, _++_};
 ghost use Prim.Native.Nat.{_+_, _*_, _≤_, _<_};
@@ -9,7 +9,7 @@ ghost use Rattle.settings.specs.Sets.{scaleOf, base};
 ghost use Rattle.settings.specs.Settings.{paramsOf};
 ghost use Rattle.settings.specs.Questions.{boundOk, keyOk, keysOk, askShape, askSettings, shapeOk, ShapeReady};
 ghost use Rattle.settings.specs.Schedule.{rounds, steps, roundAfter, sendsAfter, takenBy, stepsIn};
-ghost use Rattle.settings.specs.Sizes.{keyCount, widthOf, mostOpenings, mostFields, openings, fieldCount, messageBits, bytesFor, messageLength, stride, shared, drawLength, answerPlaces, messageSize, bookSize, drawSize, inputSize, answerSize};
+ghost use Rattle.settings.specs.Sizes.{keyCount, width, mostOpenings, mostFields, openings, fieldCount, messageBits, bytesFor, messageLength, stride, shared, drawLength, answerPlaces, messageSize, bookSize, drawSize, inputSize, answerSize};
 use field::Q;
 
 // ---- Settings
@@ -345,7 +345,7 @@ pub fn shared_of(shape: Shape) -> usize
 // How many numbers a draw has.
 pub fn draw_length(shape: Shape) -> usize
     requires { ⌜ (shape .set < 2) × (shape .n ≤ 8) ⌝ }
-    ensures { λ r. ⌜ (r ≡ drawLength (paramsOf shape) (widthOf keyCount)) × (r ≤ 1320 * widthOf keyCount + 144) ⌝ }
+    ensures { λ r. ⌜ (r ≡ drawLength (paramsOf shape) width) × (r ≤ 1320 * width + 144) ⌝ }
 {
     let size = shared_of(shape) * WIDTH;
     let n = shape.n as usize;

@@ -10,15 +10,13 @@ ghost use Rattle.side.specs.Work.{takeDoor, frontOf};
 ghost use Rattle.side.specs.Side.{handedNo, beginNo, begunSide, beginCall, sendNo, sentSide, sendCall, answerAfter, takenSide, takeCall};
 use column::take_work;
 use field::all_below_q;
+use lists::copy_numbers;
 use message::Header;
 use message::form_no;
 use opening::OWN_LENGTH;
 use opening::checks_pass;
-use opening::clear;
 use opening::join_shares;
-use opening::load_columns;
 use opening::prepare_columns;
-use opening::weights_of;
 use opening::write_message;
 use settings::FAILED_CHECK;
 use settings::KEY;
@@ -39,10 +37,11 @@ use settings::openings_in;
 use settings::round_after;
 use settings::settings_no;
 use settings::shared_of;
+use slice::begin_work;
+use slice::weights_of;
 use state::Phase;
 use state::Side;
 use state::at_step;
-use state::copy_front;
 use state::in_phase;
 use state::phase_after;
 use state::send_due;
@@ -145,9 +144,7 @@ pub fn begin(side: Side, run: Run, inputs: &[u32], book: &[u32], work: &mut [u32
         return Done { refused, side };
     }
     let shape = run.settings.shape;
-    let count = shared_of(shape);
-    clear(work);
-    load_columns(work, book, count, inputs, shape.n as usize);
+    begin_work(work, shape, inputs, book);
     Done {
         refused: 0,
         side: begun(run),
@@ -239,7 +236,7 @@ fn kept_answer(side: Side, opened: &[u32]) -> [u32; 8]
     let mut answer = side.answer;
     if side.round == ROUNDS {
         let count = openings_in(side.settings.shape, side.round) as usize;
-        copy_front(&mut answer, opened, count);
+        copy_numbers(&mut answer, 0, opened, 0, count);
     }
     answer
 }
@@ -273,7 +270,8 @@ pub fn take(side: Side, work: &mut [u32], message: &[u8]) -> Done
         };
     }
     let settings = side.settings;
-    let weights = weights_of(side);
+    let keys = side.keys;
+    let weights = weights_of(side.number, keys);
     take_work(work, settings, side.round, &opened, &own, &weights);
     Done {
         refused: 0,

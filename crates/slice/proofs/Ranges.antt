@@ -1,21 +1,20 @@
 -- Sums that go through the entries of weight 1 alone.
-use mathlib.Core.Path.{_≡_, refl, sym, ap, ap₂, _∙_}
+use mathlib.Core.Path.{_≡_, refl, ap, ap₂, _∙_}
 use mathlib.Core.Bool.{cond}
 use mathlib.Core.Logic.{_⊎_, inl, inr, _≢_}
-use Prim.Native.Nat.{ℕ, zero, suc, _+_, _*_, _-_, _%_, _≤_, _<_, min}
+use Prim.Native.Nat.{ℕ, suc, _+_, _*_, _-_, _%_, _≤_, _<_, min}
 use native.Mathlib.Nat.{zero-add}
 use native.Mathlib.Omega.{arith}
 use native.Mathlib.Decide.{decLt, decLe}
-use lib.Dec.{eqb, leb, ltb}
+use lib.Dec.{leb, ltb}
 use borrow.Author.Tests.{lt-ltb, le-ltb, le-leb, lt-leb, ne-eqb}
 use Rattle.lists.specs.Answers.{bit}
 use Rattle.field.specs.Field.{q, sub, mul}
 use Rattle.field.specs.Sums.{sumTo}
 use Rattle.field.proofs.Division.{mod-elim}
 use Rattle.field.proofs.Congruence.{mul-mod-mod}
-use Rattle.field.proofs.Solve as ring
-use Rattle.field.proofs.Solve.{_⊖_, red, solve}
-use Rattle.field.proofs.Sums.{sum-cong, sum-one}
+use Rattle.field.proofs.Sums.{sum-cong, sum-one, sum-from, sum-below, sum-raised, sum-turned}
+use Rattle.field.proofs.Differences.{difference-of, turned-difference}
 use Rattle.rounding.specs.Rounds.{top}
 use Rattle.slice.specs.Weights.{weigh}
 use Rattle.slice.specs.declared.Rule.{Rule}
@@ -40,37 +39,6 @@ part-done from to j total f a b c e =
     rw (e, same) refl
 
 -- ---- the rules
-
--- weights 0, and then 1
-sum-from : (n from : ℕ) (w r : ℕ → ℕ) → ((j : ℕ) → j < from → w j ≡ 0) → ((j : ℕ) → from ≤ j → w j ≡ 1) → sumTo n (λ j. w j * r j) ≡ sumTo (n - from) (λ j. r (from + j))
-unfolding sumTo
-sum-from zero from w r none one = let e : 0 - from ≡ 0 = omega arith in rw e refl
-sum-from (suc n) from w r none one = go (decLt n from) (sum-from n from w r none one)
-  where
-    go : Dec (n < from) → sumTo n (λ j. w j * r j) ≡ sumTo (n - from) (λ j. r (from + j)) → sumTo n (λ j. w j * r j) + w n * r n ≡ sumTo (suc n - from) (λ j. r (from + j))
-    go (yes h) ih =
-        let e : suc n - from ≡ n - from = omega arith in
-        rw (ih, none n h, e) (omega arith)
-    go (no h) ih =
-        let e : suc n - from ≡ suc (n - from) = omega arith in
-        let here : from + (n - from) ≡ n = omega arith in
-        rw (ih, one n (omega arith), e, here) (omega arith)
-
--- weights 1, and then 0
-sum-below : (n d : ℕ) (w r : ℕ → ℕ) → ((j : ℕ) → j < d → w j ≡ 1) → ((j : ℕ) → d ≤ j → w j ≡ 0) → sumTo n (λ j. w j * r j) ≡ sumTo (min d n - 0) (λ j. r (0 + j))
-unfolding sumTo
-sum-below zero d w r one none = let e : min d 0 - 0 ≡ 0 = omega arith in rw e refl
-sum-below (suc n) d w r one none = go (decLt n d) (sum-below n d w r one none)
-  where
-    go : Dec (n < d) → sumTo n (λ j. w j * r j) ≡ sumTo (min d n - 0) (λ j. r (0 + j)) → sumTo n (λ j. w j * r j) + w n * r n ≡ sumTo (min d (suc n) - 0) (λ j. r (0 + j))
-    go (yes h) ih =
-        let e : min d (suc n) - 0 ≡ suc n = omega arith in
-        let before : min d n - 0 ≡ n = omega arith in
-        let here : 0 + n ≡ n = omega arith in
-        rw (ih, one n h, e, before, here) (omega arith)
-    go (no h) ih =
-        let e : min d (suc n) - 0 ≡ min d n - 0 = omega arith in
-        rw (ih, none n (omega arith), e) (omega arith)
 
 module _ (n b d : ℕ) (r : ℕ → ℕ) where
   pub carry-sum : sumTo n (λ j. weigh Carry b d j * r j) ≡ sumTo (n - (b - d)) (λ j. r (b - d + j))
@@ -102,30 +70,6 @@ module _ (b d z : ℕ) (small : d ≤ b) (inside : z < b) where
       ∙ rw (hit e) (omega arith)
 
 -- ---- a digit one higher
-
--- one weight of 0 becomes 1
-sum-raised : (n at : ℕ) (w v r : ℕ → ℕ) → ((j : ℕ) → j < n → j ≢ at → v j ≡ w j) → (at < n → v at ≡ w at + 1)
-    → sumTo n (λ j. v j * r j) ≡ sumTo n (λ j. w j * r j) + cond (ltb at n) (r at) 0
-unfolding sumTo
-sum-raised zero at w v r same more = rw (le-ltb at 0 (omega arith)) refl
-sum-raised (suc n) at w v r same more = go (decLt at n) (decLt at (suc n)) (sum-raised n at w v r (λ j l. same j (omega arith)) (λ l. more (omega arith)))
-  where
-    go : Dec (at < n) → Dec (at < suc n) → sumTo n (λ j. v j * r j) ≡ sumTo n (λ j. w j * r j) + cond (ltb at n) (r at) 0
-        → sumTo n (λ j. v j * r j) + v n * r n ≡ sumTo n (λ j. w j * r j) + w n * r n + cond (ltb at (suc n)) (r at) 0
-    go (yes h) d ih =
-        rw (ih, lt-ltb at n h, lt-ltb at (suc n) (omega arith), same n (omega arith) (omega arith)) (omega arith)
-    go (no h) (yes l) ih =
-        let e : at ≡ n = omega arith in
-        let last : v n ≡ w n + 1 = rw e at (more l) in
-        rw (ih, le-ltb at n (omega arith), lt-ltb at (suc n) l, last, e) (omega arith)
-    go (no h) (no l) ih =
-        rw (ih, le-ltb at n (omega arith), le-ltb at (suc n) (omega arith), same n (omega arith) (omega arith)) (omega arith)
-
-difference-of : (s x : ℕ) → x % q ≡ sub q ((s + x) % q) (s % q)
-difference-of s x = omega arith
-
-pub reduced-difference : (a b : ℕ) → sub q a b ≡ sub q (a % q) (b % q)
-reduced-difference a b = omega arith
 
 module _ (n b d : ℕ) (r : ℕ → ℕ) where
   abbrev total : Rule → ℕ → ℕ
@@ -195,30 +139,6 @@ module _ (n b d : ℕ) (r : ℕ → ℕ) where
 
       same : (j : ℕ) → j < n → j ≢ d → weigh Below b (d + 1) j ≡ weigh Below b d j
       same j l ne = equal j ne (decLt j d)
-
--- every weight grows by 1, but for one that grows by 1 less s
-sum-turned : (n s at : ℕ) (w v r : ℕ → ℕ) → ((j : ℕ) → j < n → j ≢ at → v j ≡ w j + 1) → (at < n → v at + s ≡ w at + 1)
-    → sumTo n (λ j. v j * r j) + s * cond (ltb at n) (r at) 0 ≡ sumTo n (λ j. w j * r j) + sumTo n r
-unfolding sumTo
-sum-turned zero s at w v r more turned = rw (le-ltb at 0 (omega arith)) (omega arith)
-sum-turned (suc n) s at w v r more turned = go (decLt at n) (decLt at (suc n)) (sum-turned n s at w v r (λ j l. more j (omega arith)) (λ l. turned (omega arith)))
-  where
-    go : Dec (at < n) → Dec (at < suc n) → sumTo n (λ j. v j * r j) + s * cond (ltb at n) (r at) 0 ≡ sumTo n (λ j. w j * r j) + sumTo n r
-        → sumTo n (λ j. v j * r j) + v n * r n + s * cond (ltb at (suc n)) (r at) 0 ≡ sumTo n (λ j. w j * r j) + w n * r n + (sumTo n r + r n)
-    go (yes h) l ih =
-        let ih′ : sumTo n (λ j. v j * r j) + s * r at ≡ sumTo n (λ j. w j * r j) + sumTo n r = rw (lt-ltb at n h) at ih in
-        rw (lt-ltb at (suc n) (omega arith), more n (omega arith) (omega arith)) (omega (arith, ih′))
-    go (no h) (yes l) ih =
-        let ih′ : sumTo n (λ j. v j * r j) + s * 0 ≡ sumTo n (λ j. w j * r j) + sumTo n r = rw (le-ltb at n (omega arith)) at ih in
-        let e : at ≡ n = omega arith in
-        let here : v n + s ≡ w n + 1 = rw e at (turned l) in
-        rw (lt-ltb at (suc n) l, e) (omega (arith, ih′, ap (λ (x : ℕ). x * r n) here))
-    go (no h) (no l) ih =
-        let ih′ : sumTo n (λ j. v j * r j) + s * 0 ≡ sumTo n (λ j. w j * r j) + sumTo n r = rw (le-ltb at n (omega arith)) at ih in
-        rw (le-ltb at (suc n) (omega arith), more n (omega arith) (omega arith)) (omega (arith, ih′))
-
-turned-difference : (s t p x : ℕ) → t + x ≡ s + p → sub q (p % q) (x % q) ≡ sub q (t % q) (s % q)
-turned-difference s t p x e = solve q (omega arith) (red (ring.at p) ⊖ red (ring.at x)) (red (ring.at t) ⊖ red (ring.at s)) (omega arith) .path
 
 pub top-raised : (n b d : ℕ) (r : ℕ → ℕ) (at : ℕ) → at ≡ cond (leb (d + 1) b) (b - (d + 1)) n
     → sub q (sumTo (n - 0) (λ j. r (0 + j)) % q) (mul q b (cond (ltb at n) (r at) 0 % q)) ≡ sub q (sumTo n (λ j. top b (j + (d + 1)) * r j) % q) (sumTo n (λ j. top b (j + d) * r j) % q)

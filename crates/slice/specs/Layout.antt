@@ -2,7 +2,7 @@
 -- In a column the book comes first, then these.
 use Prim.Native.Nat.{ℕ, _+_, _*_, _-_}
 use mathlib.Core.Bool.{cond, _&&_}
-use mathlib.Core.List.{List, [], _∷_, _++_}
+use mathlib.Core.List.{List, _∷_, _++_}
 use lib.Dec.{eqb, leb, ltb}
 use lib.ListN.{getD, replicate}
 use Rattle.lists.specs.Lists.{listTo, joinTo}
@@ -10,27 +10,27 @@ use Rattle.field.specs.Forms.{Registers}
 use Rattle.settings.specs.Settings.{Params}
 use Rattle.settings.specs.Sizes.{places, shared}
 
--- the input of coefficient c
+-- the input of coefficient j
 abbrev pub inputAt : ℕ → ℕ
-inputAt c = 1320 + c
+inputAt j = 1320 + j
 
--- the two running registers of coefficient c, k = 0 the first and k = 1 the second.
+-- the two running registers of coefficient j, which = 0 the first and which = 1 the second.
 -- HIGH: the first is the carry, after round 5 F, after round 6 F − C; the second is z0 + z1 + .. so far, after round 5 also G.
 -- BOUND: hi's result and lo's; after round 6 the first of coefficient 0 is the zero check's result
 abbrev pub runningAt : ℕ → ℕ → ℕ
-runningAt k c = 1328 + 8 * k + c
+runningAt which j = 1328 + 8 * which + j
 
 -- behind the registers: this side's own numbers for the openings of the round that it took last
 abbrev pub ownAt : ℕ → ℕ
 ownAt o = 1344 + o
 
--- in column 0 alone: the y that round 1 opened, of coefficient c
+-- in column 0 alone: the y that round 1 opened, of coefficient j
 abbrev pub maskedAt : ℕ → ℕ
-maskedAt c = 1376 + c
+maskedAt j = 1376 + j
 
 -- the registers of column c: 0 behind the last of them, so that no form reads there
 unfoldable pub column : List ℕ → ℕ → Registers
-column work c i = cond (ltb i (ownAt 0)) (getD work (c * places + i) 0) 0
+column work c place = cond (ltb place (ownAt 0)) (getD work (c * places + place) 0) 0
 
 -- this side's own numbers in column c
 unfoldable pub ownIn : List ℕ → ℕ → ℕ → ℕ
@@ -38,14 +38,14 @@ ownIn work c o = getD work (c * places + ownAt o) 0
 
 -- the masked numbers that the slice holds, of eight coefficients at most
 unfoldable pub maskedIn : List ℕ → ℕ → ℕ
-maskedIn work c = cond (ltb c 8) (getD work (maskedAt c) 0) 0
+maskedIn work j = cond (ltb j 8) (getD work (maskedAt j) 0) 0
 
--- "Begin sets the whole working slice, numbers without a use to 0": place i of column c, from inputs and book,
+-- "Begin sets the whole working slice, numbers without a use to 0": a place of column c, from inputs and book,
 -- which hold n and `count` shared numbers of `width` numbers each
 unfoldable pub begunPlace : ℕ → ℕ → ℕ → List ℕ → List ℕ → ℕ → ℕ → ℕ
-begunPlace count n width inputs book c i =
-    cond (ltb i count) (getD book (i * width + c) 0)
-    (cond (leb (inputAt 0) i && ltb i (inputAt n)) (getD inputs ((i - inputAt 0) * width + c) 0)
+begunPlace count n width inputs book c place =
+    cond (ltb place count) (getD book (place * width + c) 0)
+    (cond (leb (inputAt 0) place && ltb place (inputAt n)) (getD inputs ((place - inputAt 0) * width + c) 0)
     0)
 
 unfoldable pub begunWork : Params → ℕ → List ℕ → List ℕ → List ℕ

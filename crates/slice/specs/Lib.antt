@@ -1,3 +1,4 @@
--- The working slice's layout, and the public weights of a digit's vector.
+-- The working slice's layout, its begin, and the public weights of a digit's vector.
 pub mod Layout
+pub mod Loading
 pub mod Weights

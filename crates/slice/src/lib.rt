@@ -1,24 +1,36 @@
-// A side's working slice: where its numbers stand, and weighted sums over a digit's vector in one of its columns, for crate steps, which
-// knows each place and digit to be in its range. Crate side has asked the questions first.
+// A side's working slice: where its numbers stand, how it is set at the begin, what a public 1 adds to each of its columns, reads of the
+// numbers kept in it, and weighted sums over a digit's vector in one of its columns. Who calls has asked the questions first, and
+// knows each place and digit to be in its range.
 ghost use mathlib.Core.Path.{_≡_};
 ghost use mathlib.Core.Bool.{cond};
 ghost use mathlib.Core.Logic.{_⊎_};
-ghost use Prim.Native.Nat.{ℕ, _+_, _*_, _-_, _%_, _≤_, _<_, min};
+ghost use Prim.Native.Nat.{ℕ, _+_, _*_, _-_, _%_, _≤_, _<_};
 ghost use lib.Dec.{leb, ltb};
-ghost use lib.ListN.{length};
+ghost use lib.ListN.{length, getD};
+ghost use Rattle.lists.specs.Lists.{fill};
 ghost use Rattle.field.specs.Field.{q};
 ghost use Rattle.field.specs.Forms.{value, sum, _⊟_};
 ghost use Rattle.field.specs.Sums.{sumTo};
 ghost use Rattle.rounding.specs.Rounds.{top};
-ghost use Rattle.settings.specs.Sizes.{places};
-ghost use Rattle.slice.specs.Layout.{ownAt, column};
+ghost use Rattle.settings.specs.Questions.{ShapeReady};
+ghost use Rattle.settings.specs.Settings.{paramsOf};
+ghost use Rattle.settings.specs.Sizes.{keyCount, width, mostOpenings, shared, places, workLength};
+ghost use Rattle.slice.specs.Layout.{ownAt, column, ownIn, maskedIn, begunWork, weights};
+ghost use Rattle.slice.specs.Loading.{loaded};
 ghost use Rattle.slice.specs.Weights.{weigh};
 ghost use Rattle.slice.specs.declared.Rule.the-variants.{Zero};
 use field::Q;
 use field::Q64;
 use field::mul_mod;
 use field::sub_mod;
+use lists::copy_numbers;
+use lists::least;
+use settings::KEYS;
 use settings::PLACES;
+use settings::Shape;
+use settings::WIDTH;
+use settings::for_columns;
+use settings::shared_of;
 
 // Where in a column stand the inputs, the two running registers of each coefficient, this side's
 // own numbers for the openings, and (in column 0 alone) the masked numbers.
@@ -50,6 +62,86 @@ pub struct Weighted {
     pub digit: u32,
 }
 
+// ---- Begin
+
+// Sets the whole slice to 0.
+fn clear(work: &mut [u32])
+    ensures { λ _. ⌜ now (work .exit) ≡ fill (now (work .entry)) 0 (length (now (work .entry))) (λ (i : ℕ). 0) ⌝ }
+{
+    let mut i = 0;
+    while i < work.len() {
+        work[i] = 0;
+        i += 1;
+    }
+}
+
+// One number of each of the first `count` shared numbers of `from`, from a place on.
+fn load(work: &mut [u32], at: usize, from: &[u32], column: usize, count: usize)
+    requires { ⌜ (at + count ≤ length (now work)) × (column < width) × (count * width ≤ length (now from)) ⌝ }
+    ensures { λ _. ⌜ now (work .exit) ≡ fill (now (work .entry)) at count (λ (i : ℕ). getD (now (from .entry)) (i * width + column) 0) ⌝ }
+{
+    let mut i = 0;
+    while i < count {
+        work[at + i] = from[i * WIDTH + column];
+        i += 1;
+    }
+}
+
+// Book and inputs into the columns of a cleared slice.
+fn load_columns(work: &mut [u32], book: &[u32], count: usize, inputs: &[u32], n: usize)
+    requires { ⌜ (length (now work) ≡ workLength keyCount) × (count ≤ 1320) × (n ≤ 8) × (count * width ≤ length (now book)) × (n * width ≤ length (now inputs)) ⌝ }
+    ensures { λ _. ⌜ now (work .exit) ≡ loaded count n width (now (inputs .entry)) (now (book .entry)) (now (work .entry)) width ⌝ }
+{
+    let mut c = 0;
+    while c < WIDTH {
+        load(work, c * PLACES, book, c, count);
+        load(work, c * PLACES + INPUT, inputs, c, n);
+        c += 1;
+    }
+}
+
+// Sets the whole slice for a run: book and inputs column by column, 0 elsewhere.
+pub fn begin_work(work: &mut [u32], shape: Shape, inputs: &[u32], book: &[u32])
+    requires { ⌜ ShapeReady shape ⌝ }
+    requires { ⌜ (length (now inputs) ≡ shape .n * width) × (length (now book) ≡ shared (paramsOf shape) * width) × (length (now work) ≡ workLength keyCount) ⌝ }
+    ensures { λ _. ⌜ now (work .exit) ≡ begunWork (paramsOf shape) width (now (inputs .entry)) (now (book .entry)) ⌝ }
+{
+    let count = shared_of(shape);
+    clear(work);
+    load_columns(work, book, count, inputs, shape.n as usize);
+}
+
+// ---- Columns and kept numbers
+
+// What a public 1 adds to each column on side `number`, whose keys these are.
+pub fn weights_of(number: u32, keys: [u32; KEYS]) -> [u32; WIDTH]
+    ensures { λ r. ⌜ r ≡ weights keyCount number keys ⌝ }
+{
+    let none = [0u32; KEYS];
+    if number == 0 {
+        return for_columns(1, keys, none);
+    }
+    for_columns(0, none, keys)
+}
+
+// The masked numbers that the slice holds.
+pub fn masked_in(work: &[u32]) -> [u32; 8]
+    requires { ⌜ places ≤ length (now work) ⌝ }
+    ensures { λ r. ⌜ ((j : ℕ) → getD r j 0 ≡ maskedIn (now (work .entry)) j) ⌝ }
+{
+    let mut ys = [0u32; 8];
+    copy_numbers(&mut ys, 0, work, MASKED, 8);
+    ys
+}
+
+// The first own numbers for openings that a column holds, in front of `out`.
+pub fn own_column(out: &mut [u32], work: &[u32], column: usize, count: usize)
+    requires { ⌜ (length (now work) ≡ workLength keyCount) × (column < width) × (count ≤ mostOpenings) × (count ≤ length (now out)) ⌝ }
+    ensures { λ _. ⌜ now (out .exit) ≡ fill (now (out .entry)) 0 count (ownIn (now (work .entry)) column) ⌝ }
+{
+    copy_numbers(out, 0, work, column * PLACES + OWN, count);
+}
+
 // ---- Sums over a digit's vector
 
 // a - b, or 0 if b is larger.
@@ -60,16 +152,6 @@ fn less_by(a: u32, b: u32) -> u32
         return 0;
     }
     a - b
-}
-
-// The smaller of the two.
-fn least(a: u32, b: u32) -> u32
-    ensures { λ r. ⌜ (r ≡ min a b) × (r ≤ b) ⌝ }
-{
-    if a < b {
-        return a;
-    }
-    b
 }
 
 // t(d).
@@ -97,7 +179,7 @@ pub fn register(work: &[u32], col: usize, i: usize) -> u32
 // Entries `from` to `to` of the vector at a place, each once. Sums are reduced once.
 fn part_sum(work: &[u32], col: usize, place: usize, from: usize, to: usize) -> u32
     requires { ⌜ ((col + 1) * places ≤ length (now work)) × (place + to ≤ ownAt 0) × (to ≤ 64) × (from ≤ 64) ⌝ }
-    ensures { λ r. ⌜ r ≡ sumTo (to - from) (λ (j : ℕ). column (now (work .entry)) col (place + (from + j))) % q ⌝ }
+    ensures { λ r. ⌜ r ≡ sumTo (to - from) (λ (x : ℕ). column (now (work .entry)) col (place + (from + x))) % q ⌝ }
 {
     let mut total: u64 = 0;
     let mut j = from;
@@ -108,10 +190,10 @@ fn part_sum(work: &[u32], col: usize, place: usize, from: usize, to: usize) -> u
     (total % Q64) as u32
 }
 
-// The n entries of the vector at a place, entry j times t(j + d).
+// The n entries of the vector at a place, entry x times t(x + d).
 fn top_sum(work: &[u32], col: usize, place: usize, n: usize, s: u32, d: u32) -> u32
     requires { ⌜ ((col + 1) * places ≤ length (now work)) × (place + n ≤ ownAt 0) × (n ≤ 64) × (d ≤ 65536) ⌝ }
-    ensures { λ r. ⌜ r ≡ sumTo n (λ (j : ℕ). top s (j + d) * column (now (work .entry)) col (place + j)) % q ⌝ }
+    ensures { λ r. ⌜ r ≡ sumTo n (λ (x : ℕ). top s (x + d) * column (now (work .entry)) col (place + x)) % q ⌝ }
 {
     let mut total: u64 = 0;
     let mut j = 0;
@@ -122,7 +204,7 @@ fn top_sum(work: &[u32], col: usize, place: usize, n: usize, s: u32, d: u32) -> 
     (total % Q64) as u32
 }
 
-// The entry j below b with (j + d) mod b = 0.
+// The entry x below b with (x + d) mod b = 0.
 fn zero_entry(b: u32, d: u32) -> usize
     requires { ⌜ (1 ≤ b) × (d ≤ b) ⌝ }
     ensures { λ r. ⌜ (r < b) × ((r + d ≡ 0) ⊎ (r + d ≡ b)) ⌝ }
@@ -150,22 +232,22 @@ pub fn weighted_sum(work: &[u32], col: usize, terms: Weighted) -> u32
         Rule::Zero => register(work, col, place + zero_entry(b, d)) % Q,
         Rule::Top => top_sum(work, col, place, n, b, d),
         Rule::Over => part_sum(work, col, place, less_by(b + 1, d) as usize, n),
-        Rule::Below => part_sum(work, col, place, 0, least(d, n as u32) as usize),
+        Rule::Below => part_sum(work, col, place, 0, least(d as usize, n)),
     }
 }
 
 // An entry of the vector of n at a place, or 0 behind its end.
-fn entry_at(work: &[u32], col: usize, place: usize, n: usize, j: usize) -> u32
+fn entry_at(work: &[u32], col: usize, place: usize, n: usize, x: usize) -> u32
     requires { ⌜ ((col + 1) * places ≤ length (now work)) × (place + n ≤ ownAt 0) ⌝ }
-    ensures { λ r. ⌜ r ≡ cond (ltb j n) (column (now (work .entry)) col (place + j)) 0 % q ⌝ }
+    ensures { λ r. ⌜ r ≡ cond (ltb x n) (column (now (work .entry)) col (place + x)) 0 % q ⌝ }
 {
-    if j < n {
-        return register(work, col, place + j) % Q;
+    if x < n {
+        return register(work, col, place + x) % Q;
     }
     0
 }
 
-// The entry j with j + d = b, or n if there is none.
+// The entry x with x + d = b, or n if there is none.
 fn back_from(b: u32, d: u32, n: usize) -> usize
     ensures { λ r. ⌜ r ≡ cond (leb d b) (b - d) n ⌝ }
 {

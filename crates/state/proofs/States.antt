@@ -87,7 +87,7 @@ pub places-most : (s : Side) → Whole s → placesOf s ≤ 8
 places-most s w = by (eqb (s .settings .shape .kind) 0)
   where
     by : (b : Bool) → cond b (s .settings .shape .n) 1 ≤ 8
-    by true = w .ready .most
+    by true = w .ready .shape .most
     by false = omega arith
 
 -- what an answer that is not refused knows

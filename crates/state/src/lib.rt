@@ -1,12 +1,11 @@
-// A side of a run, server or phone: its kept fields, what is due, its answer and its opening count.
+// A side of a run, server or phone: its kept fields, what is due, its steps, its opening count and its answer.
 ghost use mathlib.Core.Path.{_≡_};
-ghost use Prim.Native.Nat.{ℕ, _≤_};
-ghost use lib.ListN.{length, getD};
-ghost use Rattle.lists.specs.Lists.{fill};
+ghost use Prim.Native.Nat.{_≤_};
 ghost use Rattle.settings.specs.Schedule.{rounds, steps};
 ghost use Rattle.settings.specs.Settings.{paramsOf};
 ghost use Rattle.settings.specs.Sizes.{openingsUpTo};
 ghost use Rattle.state.specs.State.{isSending, isTaking, isFinished, whole, sendDue, takeDue, underWay, finished, Whole, freshSide, moved, inPhase, stepOf, phaseAfter, atStep, placesOf, answerNo, answerCall, roundsTaken, countCall};
+use lists::copy_numbers;
 use settings::KEYS;
 use settings::NO_ROOM;
 use settings::NOT_DUE;
@@ -192,7 +191,7 @@ pub fn in_phase(side: Side, phase: Phase) -> Side
 
 // ---- Steps
 
-// The steps that the side has made in its latest run. `opening_count`, and `send` and `take` of crate side, have asked for whole fields.
+// The steps that the side has made in its latest run. The caller has asked for whole fields.
 pub fn step_of(side: Side) -> u32
     requires { ⌜ Whole side ⌝ }
     ensures { λ r. ⌜ (r ≡ stepOf side) × (r ≤ steps) ⌝ }
@@ -282,18 +281,6 @@ fn answer_no(side: Side, out: &[u32]) -> u32
     0
 }
 
-// The first `count` numbers of `from`, in front of `out`. `answer` has asked for the room; `take` of crate side knows both lengths.
-pub fn copy_front(out: &mut [u32], from: &[u32], count: usize)
-    requires { ⌜ (count ≤ length (now from)) × (count ≤ length (now out)) ⌝ }
-    ensures { λ _. ⌜ now (out .exit) ≡ fill (now (out .entry)) 0 count (λ (j : ℕ). getD (now (from .entry)) j 0) ⌝ }
-{
-    let mut i = 0;
-    while i < count {
-        out[i] = from[i];
-        i += 1;
-    }
-}
-
 // The opened answer of a finished run, in front of `out`.
 pub fn answer(side: Side, out: &mut [u32]) -> AnswerResult
     ensures { λ r. ⌜ record { result = r; out = now (out .exit) } ≡ answerCall side (now (out .entry)) ⌝ }
@@ -304,7 +291,7 @@ pub fn answer(side: Side, out: &mut [u32]) -> AnswerResult
     }
     let count = places_of(side);
     let held = side.answer;
-    copy_front(out, &held, count);
+    copy_numbers(out, 0, &held, 0, count);
     AnswerResult {
         refused: 0,
         length: count,

@@ -82,7 +82,8 @@ zero-low kind i k e = go (eqb kind 0) (eqb k 0) (decLt i 4) (ap isZero e)
     go false b (no h) t = absurd (false≢true t)
 
 -- its limit is the digit's base, and the public digit + 1 is at most that
-pub zero-fits : (set kind i k x d up : ℕ) → set < 2 → up ≤ 1 → d ≡ digit (scaleOf set) x i → ruleOf kind i k ≡ Zero → (base (scaleOf set) i ≡ limitOf (scaleOf set) i) × (d + up ≤ limitOf (scaleOf set) i)
+pub zero-fits : (set kind i k x d up : ℕ) → set < 2 → up ≤ 1 → d ≡ digit (scaleOf set) x i → ruleOf kind i k ≡ Zero →
+    (base (scaleOf set) i ≡ limitOf (scaleOf set) i) × (d + up ≤ limitOf (scaleOf set) i)
 unfolding limitOf
 zero-fits set kind i k x d up hs hu e rule =
     let low = zero-low kind i k rule in

@@ -17,10 +17,10 @@ abbrev pub publicBy : Settings → (ℕ → ℕ) → Public
 publicBy settings masked = publicOf (termsOf settings) masked
 
 abbrev pub publicIn : Known → Public
-publicIn known = publicBy (known .settings) (λ (c : ℕ). getD (known .masked) c 0)
+publicIn known = publicBy (known .settings) (λ (j : ℕ). getD (known .masked) j 0)
 
 abbrev pub publicAt : Settings → ℕ → Public
-publicAt settings y = publicBy settings (λ (c : ℕ). y)
+publicAt settings y = publicBy settings (λ (j : ℕ). y)
 
 -- `own` holds, from place 32 × c on, a side's numbers for a round's openings in column c, of weight κ and registers r
 abbrev pub Held : Public → ℕ → ℕ → Registers → List ℕ → ℕ → Type 0

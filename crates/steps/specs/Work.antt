@@ -16,7 +16,7 @@ abbrev pub openingOn : Public → ℕ → ℕ → Registers → ℕ → ℕ
 openingOn w round κ r o = value (w .params .scale .modulus) κ r (opening w round o)
 
 abbrev pub runningOn : Public → ℕ → (ℕ → ℕ) → ℕ → Registers → ℕ → ℕ → ℕ
-runningOn w round opened κ r k c = value (w .params .scale .modulus) κ r (running w round opened k c)
+runningOn w round opened κ r which j = value (w .params .scale .modulus) κ r (running w round opened which j)
 
 -- column c, of weight κ, after a round: own openings, then first and second registers; all read the column as it was
 unfoldable pub takenColumn : Public → ℕ → (ℕ → ℕ) → ℕ → ℕ → List ℕ → List ℕ
@@ -35,7 +35,7 @@ takenColumns w round opened κs work (suc c) = takenColumn w round opened c (get
 -- the whole slice: all columns, and in column 0 the masked numbers. In round 1 these are the numbers just opened, later those
 -- that the slice holds
 unfoldable pub takenWork : Terms → ℕ → (ℕ → ℕ) → List ℕ → List ℕ → List ℕ
-takenWork t round opened κs work =
-    let w = publicOf t (cond (eqb round 1) opened (maskedIn work)) in
+takenWork T round opened κs work =
+    let w = publicOf T (cond (eqb round 1) opened (maskedIn work)) in
     let after = takenColumns w round opened κs work (length κs) in
-    cond (eqb round 1) (fill after (maskedAt 0) (t .params .n) opened) after
+    cond (eqb round 1) (fill after (maskedAt 0) (T .params .n) opened) after

@@ -1,6 +1,6 @@
 // The seven rounds on one column: what it gives to each opening, and what the opened numbers make of its running registers. Every step is
-// a linear form with public coefficients, the same in every column. Crate column calls them for openings and coefficients that there are;
-// crate side has asked the questions first.
+// a linear form with public coefficients, the same in every column. Who calls has asked the questions first, and
+// asks for openings and coefficients that there are.
 ghost use mathlib.Core.Path.{_≡_};
 ghost use mathlib.Core.Logic.{_≢_};
 ghost use Prim.Native.Nat.{ℕ, _+_, _*_, _/_, _≤_, _<_};
@@ -16,7 +16,8 @@ ghost use Rattle.settings.specs.Sizes.{openings, places};
 ghost use Rattle.book.specs.Book.{groupGap};
 ghost use Rattle.slice.specs.Layout.{column};
 ghost use Rattle.slice.specs.Weights.{ruleOf};
-ghost use Rattle.steps.specs.Steps.{lookedAt, digitOf, limitOf, vectorSum, addend, factorU, factorV, tripleOf, shiftOf, openInput, openFactor, insideForm, insides, checked, openCheck, gateResult, groupOf, checkEntry, afterCheck, running};
+ghost use Rattle.steps.specs.Steps.{lookedAt, digitOf, limitOf, vectorSum, addend, factorU, factorV, tripleOf, shiftOf, openInput, openFactor};
+ghost use Rattle.steps.specs.Steps.{insideForm, insides, checked, openCheck, gateResult, groupOf, checkEntry, afterCheck, running};
 ghost use Rattle.steps.specs.Work.{openingOn, runningOn};
 ghost use Rattle.steps.specs.Calls.{publicAt, publicIn};
 ghost use Rattle.settings.specs.Questions.{Ready};
@@ -58,12 +59,12 @@ pub struct Column {
     pub weight: u32,
 }
 
-// The first (k = 0) or second (1) gate of digit i of coefficient c, whose masked number is y.
+// The first (which = 0) or second (1) gate of digit i of coefficient j, whose masked number is y.
 struct Gate {
-    c: usize,
+    j: usize,
     y: u32,
     i: usize,
-    k: usize,
+    which: usize,
 }
 
 // ---- Numbers
@@ -75,28 +76,28 @@ fn less(a: u32, b: u32) -> u32
     if a < b { 1 } else { 0 }
 }
 
-// ---- Digits. (k is the first (0) or second (1) gate and running register of a coefficient.)
+// ---- Digits. (which: the first (0) or second (1) gate and running register of a coefficient.)
 
-// hi (k = 0) or lo.
-fn threshold_of(bound: u32, k: usize, y: u32) -> u32
+// hi (which = 0) or lo.
+fn threshold_of(bound: u32, which: usize, y: u32) -> u32
     requires { ⌜ (bound ≤ 4190208) × (1 ≤ bound) ⌝ }
-    ensures { λ r. ⌜ r ≡ threshold q bound k y ⌝ }
+    ensures { λ r. ⌜ r ≡ threshold q bound which y ⌝ }
 {
-    if k == 0 {
+    if which == 0 {
         return sub_mod(2 * bound - 1, y);
     }
     sub_mod(0, y)
 }
 
-// The number whose digits gate k looks at.
-fn looked_at(kind: u32, bound: u32, k: usize, y: u32) -> u32
+// The number whose digits a gate looks at.
+fn looked_at(kind: u32, bound: u32, which: usize, y: u32) -> u32
     requires { ⌜ (bound ≤ 4190208) × (kind ≢ 0 → 1 ≤ bound) ⌝ }
-    ensures { λ r. ⌜ r ≡ lookedAt q kind bound k y ⌝ }
+    ensures { λ r. ⌜ r ≡ lookedAt q kind bound which y ⌝ }
 {
     if kind == 0 {
         return y;
     }
-    threshold_of(bound, k, y)
+    threshold_of(bound, which, y)
 }
 
 // Digit i of a number that is split.
@@ -111,25 +112,25 @@ fn entry(split: Split, i: usize) -> u32
 fn digit_of(settings: Settings, gate: Gate) -> u32
     requires { ⌜ Ready settings ⌝ }
     requires { ⌜ gate .i < 5 ⌝ }
-    ensures { λ r. ⌜ (r ≡ digitOf (publicAt settings (gate .y)) (gate .c) (gate .i) (gate .k)) × (r < 65536) ⌝ }
+    ensures { λ r. ⌜ (r ≡ digitOf (publicAt settings (gate .y)) (gate .j) (gate .i) (gate .which)) × (r < 65536) ⌝ }
 {
     let shape = settings.shape;
-    let x = looked_at(shape.kind, settings.bound, gate.k, gate.y);
+    let x = looked_at(shape.kind, settings.bound, gate.which, gate.y);
     let split = split_number(shape.set as usize, x);
     entry(split, gate.i)
 }
 
-fn rule_of(kind: u32, i: usize, k: usize) -> Rule
-    ensures { λ r. ⌜ r ≡ ruleOf kind i k ⌝ }
+fn rule_of(kind: u32, i: usize, which: usize) -> Rule
+    ensures { λ r. ⌜ r ≡ ruleOf kind i which ⌝ }
 {
     if kind == 0 {
         if i < 4 {
-            if k == 0 {
+            if which == 0 {
                 return Rule::Carry;
             }
             return Rule::Zero;
         }
-        if k == 0 {
+        if which == 0 {
             return Rule::Top;
         }
         return Rule::Over;
@@ -147,20 +148,20 @@ fn limit_of(set: usize, i: usize) -> u32
     parts_of(set)
 }
 
-// ---- Gates: addend + u × v, of digit i of coefficient c. No public number is added: the weight does not matter.
+// ---- Gates: addend + u × v, of digit i of coefficient j. No public number is added: the weight does not matter.
 
 // A, Z, F, G, or the sum below Ti.
 fn vector_sum(work: &[u32], col: usize, settings: Settings, gate: Gate) -> u32
     requires { ⌜ Ready settings ⌝ }
-    requires { ⌜ ((col + 1) * places ≤ length (now work)) × (gate .c < settings .shape .n) × (gate .i < 5) ⌝ }
-    ensures { λ r. ⌜ ((κ : ℕ) → r ≡ value q κ (column (now (work .entry)) col) (vectorSum (publicAt settings (gate .y)) (gate .c) (gate .i) (gate .k) 0)) ⌝ }
+    requires { ⌜ ((col + 1) * places ≤ length (now work)) × (gate .j < settings .shape .n) × (gate .i < 5) ⌝ }
+    ensures { λ r. ⌜ ((κ : ℕ) → r ≡ value q κ (column (now (work .entry)) col) (vectorSum (publicAt settings (gate .y)) (gate .j) (gate .i) (gate .which) 0)) ⌝ }
 {
     let shape = settings.shape;
     let terms = Weighted {
         digit: digit_of(settings, gate),
-        place: vector_at(shape, gate.c, gate.i),
+        place: vector_at(shape, gate.j, gate.i),
         n: base_of(shape.set as usize, gate.i) as usize,
-        rule: rule_of(shape.kind, gate.i, gate.k),
+        rule: rule_of(shape.kind, gate.i, gate.which),
         limit: limit_of(shape.set as usize, gate.i),
     };
     weighted_sum(work, col, terms)
@@ -169,15 +170,16 @@ fn vector_sum(work: &[u32], col: usize, settings: Settings, gate: Gate) -> u32
 // A′ − A, Z′ − Z, F′ − F or G′ − G.
 fn vector_raise(work: &[u32], col: usize, settings: Settings, gate: Gate) -> u32
     requires { ⌜ Ready settings ⌝ }
-    requires { ⌜ ((col + 1) * places ≤ length (now work)) × (gate .c < settings .shape .n) × (gate .i < 5) ⌝ }
-    ensures { λ r. ⌜ ((κ : ℕ) → r ≡ value q κ (column (now (work .entry)) col) (vectorSum (publicAt settings (gate .y)) (gate .c) (gate .i) (gate .k) 1 ⊟ vectorSum (publicAt settings (gate .y)) (gate .c) (gate .i) (gate .k) 0)) ⌝ }
+    requires { ⌜ ((col + 1) * places ≤ length (now work)) × (gate .j < settings .shape .n) × (gate .i < 5) ⌝ }
+    ensures { λ r. ⌜ ((κ : ℕ) → r ≡ value q κ (column (now (work .entry)) col) (vectorSum (publicAt settings (gate .y)) (gate .j) (gate .i) (gate .which) 1
+        ⊟ vectorSum (publicAt settings (gate .y)) (gate .j) (gate .i) (gate .which) 0)) ⌝ }
 {
     let shape = settings.shape;
     let terms = Weighted {
         digit: digit_of(settings, gate),
-        place: vector_at(shape, gate.c, gate.i),
+        place: vector_at(shape, gate.j, gate.i),
         n: base_of(shape.set as usize, gate.i) as usize,
-        rule: rule_of(shape.kind, gate.i, gate.k),
+        rule: rule_of(shape.kind, gate.i, gate.which),
         limit: limit_of(shape.set as usize, gate.i),
     };
     raised_by(work, col, terms)
@@ -185,14 +187,14 @@ fn vector_raise(work: &[u32], col: usize, settings: Settings, gate: Gate) -> u32
 
 fn addend_value(work: &[u32], col: usize, settings: Settings, gate: Gate) -> u32
     requires { ⌜ Ready settings ⌝ }
-    requires { ⌜ ((col + 1) * places ≤ length (now work)) × (gate .c < settings .shape .n) × (gate .i < 5) × (gate .k < 2) ⌝ }
-    ensures { λ r. ⌜ ((κ : ℕ) → r ≡ value q κ (column (now (work .entry)) col) (addend (publicAt settings (gate .y)) (gate .c) (gate .i) (gate .k))) ⌝ }
+    requires { ⌜ ((col + 1) * places ≤ length (now work)) × (gate .j < settings .shape .n) × (gate .i < 5) × (gate .which < 2) ⌝ }
+    ensures { λ r. ⌜ ((κ : ℕ) → r ≡ value q κ (column (now (work .entry)) col) (addend (publicAt settings (gate .y)) (gate .j) (gate .i) (gate .which))) ⌝ }
 {
     let shape = settings.shape;
     let a = vector_sum(work, col, settings, gate);
     if shape.kind == 0 {
-        if gate.k == 1 {
-            return add_mod(register(work, col, SECOND + gate.c), a);
+        if gate.which == 1 {
+            return add_mod(register(work, col, SECOND + gate.j), a);
         }
         return a;
     }
@@ -201,28 +203,28 @@ fn addend_value(work: &[u32], col: usize, settings: Settings, gate: Gate) -> u32
 
 fn u_value(work: &[u32], col: usize, settings: Settings, gate: Gate) -> u32
     requires { ⌜ Ready settings ⌝ }
-    requires { ⌜ ((col + 1) * places ≤ length (now work)) × (gate .c < settings .shape .n) × (gate .i < 5) × (gate .k < 2) ⌝ }
-    ensures { λ r. ⌜ ((κ : ℕ) → r ≡ value q κ (column (now (work .entry)) col) (factorU (publicAt settings (gate .y)) (gate .c) (gate .i) (gate .k))) ⌝ }
+    requires { ⌜ ((col + 1) * places ≤ length (now work)) × (gate .j < settings .shape .n) × (gate .i < 5) × (gate .which < 2) ⌝ }
+    ensures { λ r. ⌜ ((κ : ℕ) → r ≡ value q κ (column (now (work .entry)) col) (factorU (publicAt settings (gate .y)) (gate .j) (gate .i) (gate .which))) ⌝ }
 {
     let shape = settings.shape;
     if shape.kind == 0 {
-        return register(work, col, FIRST + gate.c);
+        return register(work, col, FIRST + gate.j);
     }
     let t = digit_of(settings, gate) as usize;
-    let place = vector_at(shape, gate.c, gate.i);
+    let place = vector_at(shape, gate.j, gate.i);
     register(work, col, place + t)
 }
 
 fn v_value(work: &[u32], col: usize, settings: Settings, gate: Gate) -> u32
     requires { ⌜ Ready settings ⌝ }
-    requires { ⌜ ((col + 1) * places ≤ length (now work)) × (gate .c < settings .shape .n) × (gate .i < 5) × (gate .k < 2) ⌝ }
-    ensures { λ r. ⌜ ((κ : ℕ) → r ≡ value q κ (column (now (work .entry)) col) (factorV (publicAt settings (gate .y)) (gate .c) (gate .i) (gate .k))) ⌝ }
+    requires { ⌜ ((col + 1) * places ≤ length (now work)) × (gate .j < settings .shape .n) × (gate .i < 5) × (gate .which < 2) ⌝ }
+    ensures { λ r. ⌜ ((κ : ℕ) → r ≡ value q κ (column (now (work .entry)) col) (factorV (publicAt settings (gate .y)) (gate .j) (gate .i) (gate .which))) ⌝ }
 {
     let shape = settings.shape;
     if shape.kind == 0 {
         return vector_raise(work, col, settings, gate);
     }
-    register(work, col, FIRST + 8 * gate.k + gate.c)
+    register(work, col, FIRST + 8 * gate.which + gate.j)
 }
 
 // ---- What is opened
@@ -239,17 +241,17 @@ fn shift_of(settings: Settings) -> u32
 }
 
 // Round 1: y.
-fn open_input(work: &[u32], col: Column, known: Known, c: usize) -> u32
+fn open_input(work: &[u32], col: Column, known: Known, j: usize) -> u32
     requires { ⌜ Ready (known .settings) ⌝ }
-    requires { ⌜ ((col .index + 1) * places ≤ length (now work)) × (c < known .settings .shape .n) ⌝ }
-    ensures { λ r. ⌜ r ≡ value q (col .weight) (column (now (work .entry)) (col .index)) (openInput (publicIn known) c) ⌝ }
+    requires { ⌜ ((col .index + 1) * places ≤ length (now work)) × (j < known .settings .shape .n) ⌝ }
+    ensures { λ r. ⌜ r ≡ value q (col .weight) (column (now (work .entry)) (col .index)) (openInput (publicIn known) j) ⌝ }
 {
     let settings = known.settings;
     let shape = settings.shape;
     let shift = shift_of(settings);
-    let place = mask_at(shape, c);
+    let place = mask_at(shape, j);
     let a = add_mod(
-        register(work, col.index, INPUT + c),
+        register(work, col.index, INPUT + j),
         mul_mod(col.weight, shift),
     );
     sub_mod(a, register(work, col.index, place))
@@ -258,18 +260,18 @@ fn open_input(work: &[u32], col: Column, known: Known, c: usize) -> u32
 // The place of a gate's triple.
 fn triple_of(settings: Settings, gate: Gate) -> usize
     requires { ⌜ Ready settings ⌝ }
-    requires { ⌜ (gate .c < settings .shape .n) × (1 ≤ gate .i) × (gate .i < 5) × (gate .k < 2) ⌝ }
-    ensures { λ r. ⌜ (r ≡ tripleOf (publicAt settings (gate .y)) (gate .c) (gate .i) (gate .k)) × (r ≤ 1320) ⌝ }
+    requires { ⌜ (gate .j < settings .shape .n) × (1 ≤ gate .i) × (gate .i < 5) × (gate .which < 2) ⌝ }
+    ensures { λ r. ⌜ (r ≡ tripleOf (publicAt settings (gate .y)) (gate .j) (gate .i) (gate .which)) × (r ≤ 1320) ⌝ }
 {
     let shape = settings.shape;
-    triple_at(shape, gate.c, 2 * (gate.i - 1) + gate.k)
+    triple_at(shape, gate.j, 2 * (gate.i - 1) + gate.which)
 }
 
 // Rounds 2 to 5: u − a (part 0), v − b (part 1).
 fn open_factor(work: &[u32], col: usize, settings: Settings, gate: Gate, part: usize) -> u32
     requires { ⌜ Ready settings ⌝ }
-    requires { ⌜ ((col + 1) * places ≤ length (now work)) × (gate .c < settings .shape .n) × (1 ≤ gate .i) × (gate .i < 5) × (gate .k < 2) × (part < 2) ⌝ }
-    ensures { λ r. ⌜ ((κ : ℕ) → r ≡ value q κ (column (now (work .entry)) col) (openFactor (publicAt settings (gate .y)) (gate .c) (gate .i) (gate .k) part)) ⌝ }
+    requires { ⌜ ((col + 1) * places ≤ length (now work)) × (gate .j < settings .shape .n) × (1 ≤ gate .i) × (gate .i < 5) × (gate .which < 2) × (part < 2) ⌝ }
+    ensures { λ r. ⌜ ((κ : ℕ) → r ≡ value q κ (column (now (work .entry)) col) (openFactor (publicAt settings (gate .y)) (gate .j) (gate .i) (gate .which) part)) ⌝ }
 {
     let place = triple_of(settings, gate);
     if part == 0 {
@@ -281,15 +283,15 @@ fn open_factor(work: &[u32], col: usize, settings: Settings, gate: Gate, part: u
 }
 
 // BOUND: is the coefficient with the masked number y inside?
-fn inside_value(work: &[u32], col: Column, bound: u32, y: u32, c: usize) -> u32
-    requires { ⌜ (bound ≤ 4190208) × (1 ≤ bound) × ((col .index + 1) * places ≤ length (now work)) × (c < 8) ⌝ }
-    ensures { λ r. ⌜ r ≡ value q (col .weight) (column (now (work .entry)) (col .index)) (insideForm q bound y c) ⌝ }
+fn inside_value(work: &[u32], col: Column, bound: u32, y: u32, j: usize) -> u32
+    requires { ⌜ (bound ≤ 4190208) × (1 ≤ bound) × ((col .index + 1) * places ≤ length (now work)) × (j < 8) ⌝ }
+    ensures { λ r. ⌜ r ≡ value q (col .weight) (column (now (work .entry)) (col .index)) (insideForm q bound y j) ⌝ }
 {
     let hi = threshold_of(bound, 0, y);
     let lo = threshold_of(bound, 1, y);
     let d = sub_mod(
-        register(work, col.index, FIRST + c),
-        register(work, col.index, SECOND + c),
+        register(work, col.index, FIRST + j),
+        register(work, col.index, SECOND + j),
     );
     add_mod(d, mul_mod(col.weight, less(hi, lo)))
 }
@@ -301,11 +303,11 @@ fn insides_value(work: &[u32], col: Column, known: Known, m: usize) -> u32
     ensures { λ r. ⌜ r ≡ value q (col .weight) (column (now (work .entry)) (col .index)) (insides (publicIn known) m) ⌝ }
 {
     let mut total = mul_mod(col.weight, 0);
-    let mut c = 0;
-    while c < m {
-        let one = inside_value(work, col, known.settings.bound, known.masked[c], c);
+    let mut j = 0;
+    while j < m {
+        let one = inside_value(work, col, known.settings.bound, known.masked[j], j);
         total = add_mod(total, one);
-        c += 1;
+        j += 1;
     }
     total
 }
@@ -349,13 +351,13 @@ pub fn opening_value(work: &[u32], col: Column, known: Known, o: usize) -> u32
         return open_input(work, col, known, o);
     }
     if round <= 5 {
-        let c = o / 4;
+        let j = o / 4;
         let masked = known.masked;
         let gate = Gate {
-            c: c,
-            y: masked[c],
+            j: j,
+            y: masked[j],
             i: (round - 1) as usize,
-            k: o / 2 % 2,
+            which: o / 2 % 2,
         };
         return open_factor(work, col.index, known.settings, gate, o % 2);
     }
@@ -379,8 +381,8 @@ fn combine(addend: u32, v: u32, u: u32, third: u32, e: u32, f: u32) -> u32
 // addend + e × v + f × u + third − e × f.
 fn gate_value(work: &[u32], col: Column, settings: Settings, gate: Gate, e: u32, f: u32) -> u32
     requires { ⌜ Ready settings ⌝ }
-    requires { ⌜ ((col .index + 1) * places ≤ length (now work)) × (gate .c < settings .shape .n) × (1 ≤ gate .i) × (gate .i < 5) × (gate .k < 2) ⌝ }
-    ensures { λ r. ⌜ r ≡ value q (col .weight) (column (now (work .entry)) (col .index)) (gateResult (publicAt settings (gate .y)) (gate .c) (gate .i) (gate .k) e f) ⌝ }
+    requires { ⌜ ((col .index + 1) * places ≤ length (now work)) × (gate .j < settings .shape .n) × (1 ≤ gate .i) × (gate .i < 5) × (gate .which < 2) ⌝ }
+    ensures { λ r. ⌜ r ≡ value q (col .weight) (column (now (work .entry)) (col .index)) (gateResult (publicAt settings (gate .y)) (gate .j) (gate .i) (gate .which) e f) ⌝ }
 {
     let place = triple_of(settings, gate);
     let a = addend_value(work, col.index, settings, gate);
@@ -412,74 +414,74 @@ fn check_entry(work: &[u32], col: usize, known: Known, g: usize, x: u32) -> u32
 }
 
 // Whose zero check it is: its own for HIGH, the one of all for BOUND.
-fn group_of(kind: u32, c: usize) -> usize
-    ensures { λ r. ⌜ r ≡ groupOf kind c ⌝ }
+fn group_of(kind: u32, j: usize) -> usize
+    ensures { λ r. ⌜ r ≡ groupOf kind j ⌝ }
 {
     if kind == 0 {
-        return c;
+        return j;
     }
     0
 }
 
 // Round 6: HIGH's F − C; BOUND's result, for coefficient 0.
-fn after_check(work: &[u32], col: usize, known: Known, c: usize, k: usize, x: u32) -> u32
+fn after_check(work: &[u32], col: usize, known: Known, j: usize, which: usize, x: u32) -> u32
     requires { ⌜ Ready (known .settings) ⌝ }
-    requires { ⌜ ((col + 1) * places ≤ length (now work)) × (c < known .settings .shape .n) × (k < 2) × (x < q) ⌝ }
-    ensures { λ r. ⌜ ((κ : ℕ) → r ≡ value q κ (column (now (work .entry)) col) (afterCheck (publicIn known) c k x)) ⌝ }
+    requires { ⌜ ((col + 1) * places ≤ length (now work)) × (j < known .settings .shape .n) × (which < 2) × (x < q) ⌝ }
+    ensures { λ r. ⌜ ((κ : ℕ) → r ≡ value q κ (column (now (work .entry)) col) (afterCheck (publicIn known) j which x)) ⌝ }
 {
-    if k == 0 {
+    if which == 0 {
         if known.settings.shape.kind == 0 {
-            let wrap = check_entry(work, col, known, c, x);
-            return sub_mod(register(work, col, FIRST + c), wrap);
+            let wrap = check_entry(work, col, known, j, x);
+            return sub_mod(register(work, col, FIRST + j), wrap);
         }
-        if c == 0 {
+        if j == 0 {
             return check_entry(work, col, known, 0, x);
         }
-        return register(work, col, FIRST + c);
+        return register(work, col, FIRST + j);
     }
-    register(work, col, FIRST + 8 * k + c)
+    register(work, col, FIRST + 8 * which + j)
 }
 
-// Running register k of coefficient c after the round.
+// The first or second running register of coefficient j after the round.
 pub fn running_value(
     work: &[u32],
     col: Column,
     known: Known,
     opened: &[u32],
-    k: usize,
-    c: usize,
+    which: usize,
+    j: usize,
 ) -> u32
     requires { ⌜ Ready (known .settings) ⌝ }
-    requires { ⌜ ((col .index + 1) * places ≤ length (now work)) × (1 ≤ known .round) × (k < 2) × (c < known .settings .shape .n) ⌝ }
+    requires { ⌜ ((col .index + 1) * places ≤ length (now work)) × (1 ≤ known .round) × (which < 2) × (j < known .settings .shape .n) ⌝ }
     requires { ⌜ (openings (paramsOf (known .settings .shape)) (known .round) ≤ length (now opened)) × ((o : ℕ) → getD (now opened) o 0 < q) ⌝ }
-    ensures { λ r. ⌜ r ≡ runningOn (publicIn known) (known .round) (λ (o : ℕ). getD (now (opened .entry)) o 0) (col .weight) (column (now (work .entry)) (col .index)) k c ⌝ }
+    ensures { λ r. ⌜ r ≡ runningOn (publicIn known) (known .round) (λ (o : ℕ). getD (now (opened .entry)) o 0) (col .weight) (column (now (work .entry)) (col .index)) which j ⌝ }
 {
     let round = known.round;
     let masked = known.masked;
     if round == 1 {
         let gate = Gate {
-            c: c,
-            y: masked[c],
+            j: j,
+            y: masked[j],
             i: 0,
-            k: k,
+            which: which,
         };
         return vector_sum(work, col.index, known.settings, gate);
     }
     if round <= 5 {
         let i = (round - 1) as usize;
         let gate = Gate {
-            c: c,
-            y: masked[c],
+            j: j,
+            y: masked[j],
             i: i,
-            k: k,
+            which: which,
         };
-        let e = opened[4 * c + 2 * k];
-        let f = opened[4 * c + 2 * k + 1];
+        let e = opened[4 * j + 2 * which];
+        let f = opened[4 * j + 2 * which + 1];
         return gate_value(work, col, known.settings, gate, e, f);
     }
     if round == 6 {
-        let x = opened[group_of(known.settings.shape.kind, c)];
-        return after_check(work, col.index, known, c, k, x);
+        let x = opened[group_of(known.settings.shape.kind, j)];
+        return after_check(work, col.index, known, j, which, x);
     }
-    register(work, col.index, FIRST + 8 * k + c)
+    register(work, col.index, FIRST + 8 * which + j)
 }

@@ -12,8 +12,8 @@ use lib.ListN.{length, getD, take, drop, length-append, List·getD-append}
 use lib.Seq.{getD-append-add, getD-take, getD-drop}
 use Rattle.lists.specs.Lists.{every}
 use Rattle.lists.proofs.Lists.{length-listFrom, getD-listTo}
-use Rattle.lists.proofs.Every.{every-at}
-use Rattle.lists.proofs.Questions.{and-yes, and-left, and-right}
+use Rattle.lists.proofs.Every.{every-at, every-all}
+use Rattle.lists.proofs.Questions.{and-yes, and-left, and-right, or-no}
 use Rattle.stock.specs.Stock.{booksOf, serialOf, isAbove, bothStocks, isLeast, firstOf, someOf, bestOf}
 use Rattle.stock.specs.Scan.{LeastOf, serialAt}
 use Rattle.stock.specs.declared.Found.{Found}
@@ -46,20 +46,11 @@ unfolding someOf
 some-none f [] n = refl
 some-none f (b ∷ bs) n = rw (n 0 (omega arith)) (some-none f bs (λ j l. n (suc j) (omega arith)))
 
-or-no : (a b : Bool) → (a || b) ≡ false → (a ≡ false) × (b ≡ false)
-or-no true b e = absurd (true≢false e)
-or-no false b e = (refl, e)
-
 none-at : (f : List ℕ → Bool) (zs : List (List ℕ)) (j : ℕ) → someOf f zs ≡ false → j < length zs → f (getD zs j []) ≡ false
 unfolding someOf
 none-at f [] j e h = absurd (omega arith)
 none-at f (b ∷ bs) zero e h = or-no (f b) (someOf f bs) e .0
 none-at f (b ∷ bs) (suc j) e h = none-at f bs j (or-no (f b) (someOf f bs) e .1) (omega arith)
-
-every-all : (f : List ℕ → Bool) (zs : List (List ℕ)) → ((j : ℕ) → j < length zs → f (getD zs j []) ≡ true) → every f zs ≡ true
-unfolding every
-every-all f [] n = refl
-every-all f (b ∷ bs) n = rw (n 0 (omega arith)) (every-all f bs (λ j l. n (suc j) (omega arith)))
 
 -- ---- the first least book of a list
 
@@ -80,7 +71,7 @@ module _ (last : ℕ) (zs : List (List ℕ)) where
   pub best-first : (m : ℕ) → Best m → firstOf (isLeast last zs) zs ≡ getD zs m []
   best-first m h =
       first-at (isLeast last zs) zs m (h .inside)
-      (and-yes _ _ (lt-ltb last (x m) (h .above)) (every-all (no-less m) zs (λ j l. other j l (decLt last (x j)))))
+      (and-yes _ _ (lt-ltb last (x m) (h .above)) (every-all (no-less m) zs [] (λ j l. other j l (decLt last (x j)))))
       (λ j l. before j l (decLt last (x j)))
     where
       other : (j : ℕ) → j < length zs → Dec (last < x j) → no-less m (getD zs j []) ≡ true

@@ -34,6 +34,12 @@ module _ (k : ℕ) (a : Shape) (first second : List ℕ) where
       by true f = rw f (shape-refuse a rest (λ z. h (e ∙ rw f z)) ∙ sym (e ∙ rw f))
       by false f = rw f (sym (e ∙ rw f))
 
+  pub stocks-stop : (r rest : ℕ) → r ≡ askStocks k a first second 0 → ¬ (r ≡ 0) → r ≡ askStocks k a first second rest
+  stocks-stop r rest e h = sym (stocks-refuse r e h rest)
+
+  pub stocks-skip : (r x rest : ℕ) → r ≡ askStocks k a first second 0 → r ≡ 0 → x ≡ rest → x ≡ askStocks k a first second rest
+  stocks-skip r x rest e z h = h ∙ sym (stocks-go (sym e ∙ z) rest)
+
   -- set and count are as asked
   pub stocks-ok : askStocks k a first second 0 ≡ 0 → (a .set < 2) × (a .n ≤ 8)
   unfolding askStocks
@@ -45,15 +51,15 @@ module _ (k : ℕ) (a : Shape) (first second : List ℕ) where
     abbrev above : Bool
     above = someOf (isAbove last) (bothStocks (stockedSize k a) first second)
 
-    pub no-stocks : (code : ℕ) → code ≡ askStocks k a first second 0 → ¬ (code ≡ 0) → code ≡ chooseNo k a first second last
+    no-stocks : (code : ℕ) → code ≡ askStocks k a first second 0 → ¬ (code ≡ 0) → code ≡ chooseNo k a first second last
     unfolding chooseNo
-    no-stocks code e h = sym (stocks-refuse code e h _)
+    no-stocks code e h = stocks-stop code _ e h
 
-    pub no-above : askStocks k a first second 0 ≡ 0 → above ≡ false → 14 ≡ chooseNo k a first second last
+    no-above : askStocks k a first second 0 ≡ 0 → above ≡ false → 14 ≡ chooseNo k a first second last
     unfolding chooseNo ask
     no-above e f = sym (stocks-go e _ ∙ rw f)
 
-    pub all-yes : askStocks k a first second 0 ≡ 0 → above ≡ true → 0 ≡ chooseNo k a first second last
+    all-yes : askStocks k a first second 0 ≡ 0 → above ≡ true → 0 ≡ chooseNo k a first second last
     unfolding chooseNo ask
     all-yes e f = sym (stocks-go e _ ∙ rw f)
 

@@ -1,6 +1,6 @@
 -- What choose gives back: the first book whose serial is the least above the last.
 use mathlib.Core.Path.{_≡_, sym, ap, _∙_}
-use mathlib.Core.Bool.{true, false, true≢false}
+use mathlib.Core.Bool.{true, true≢false}
 use mathlib.Core.List.{List, []}
 use Prim.Native.Nat.{ℕ, _+_, _-_, _*_, _/_, _≤_, _<_}
 use native.Mathlib.Omega.{arith}
@@ -67,7 +67,7 @@ module _ (k : ℕ) (a : Shape) (first second : List ℕ) (last : ℕ) where
             let b = best-some last zs (some-above e) in
             let is : chosen k a first second last ≡ getD zs (b .0) [] = rw e (best-first last zs (b .0) (b .1)) in
             record {
-              m = b .0;
+              b = b .0;
               inside = b .1 .inside;
               is = is;
               above = b .1 .above;

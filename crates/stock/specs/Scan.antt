@@ -7,16 +7,17 @@ use lib.Dec.{eqb, leb, ltb}
 use lib.ListN.{length, getD}
 use Rattle.stock.specs.declared.Found.{Found}
 
--- the serial of book i
+-- the serial of book b
 abbrev pub serialAt : List ℕ → ℕ → ℕ → ℕ
-serialAt stock size i = getD stock (i * size) 0
+serialAt stock size b = getD stock (b * size) 0
 
--- among the serials x 0 .. x (n - 1): none above the last (serial 0), or the least such, at its first place
-pub record Least (x : ℕ → ℕ) (size last n : ℕ) (p : Found) : Type 0 where
-  pub none : p .serial ≡ 0 → (j : ℕ) → j < n → x j ≤ last
+-- among the serials of books 0 to n - 1: none above the last (serial 0), or the least such, at its first place
+pub record Least (serials : ℕ → ℕ) (size last n : ℕ) (p : Found) : Type 0 where
+  pub none : p .serial ≡ 0 → (b : ℕ) → b < n → serials b ≤ last
   pub above : 0 < p .serial → last < p .serial
-  pub least : 0 < p .serial → (j : ℕ) → j < n → last < x j → p .serial ≤ x j
-  pub place : 0 < p .serial → (k : ℕ) × (k < n) × (p .at ≡ k * size) × (p .serial ≡ x k) × ((j : ℕ) → j < k → last < x j → p .serial < x j)
+  pub least : 0 < p .serial → (b : ℕ) → b < n → last < serials b → p .serial ≤ serials b
+  pub place : 0 < p .serial → (b : ℕ) × (b < n) × (p .at ≡ b * size) × (p .serial ≡ serials b)
+      × ((other : ℕ) → other < b → last < serials other → p .serial < serials other)
 
 abbrev pub LeastOf : List ℕ → ℕ → ℕ → Found → Type 0
 LeastOf stock size last p = Least (serialAt stock size) size last (length stock / size) p

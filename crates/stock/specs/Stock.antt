@@ -16,7 +16,7 @@ abbrev pub stockedSize : ℕ → Shape → ℕ
 stockedSize k a = 1 + shared (paramsOf a) * widthOf k
 
 abbrev pub booksOf : ℕ → List ℕ → List (List ℕ)
-booksOf size stock = listTo (length stock / size) (λ (i : ℕ). take size (drop (i * size) stock))
+booksOf size stock = listTo (length stock / size) (λ (b : ℕ). take size (drop (b * size) stock))
 
 abbrev pub serialOf : List ℕ → ℕ
 serialOf book = getD book 0 0
@@ -39,12 +39,12 @@ isLeast last books book =
 -- the first book to which f says yes, or the empty part
 unfoldable pub firstOf : (List ℕ → Bool) → List (List ℕ) → List ℕ
 firstOf f [] = []
-firstOf f (b ∷ bs) = cond (f b) b (firstOf f bs)
+firstOf f (book ∷ books) = cond (f book) book (firstOf f books)
 
 -- does f say yes to a book?
 unfoldable pub someOf : (List ℕ → Bool) → List (List ℕ) → Bool
 someOf f [] = false
-someOf f (b ∷ bs) = f b || someOf f bs
+someOf f (book ∷ books) = f book || someOf f books
 
 unfoldable pub bestOf : ℕ → ℕ → List ℕ → List ℕ → List ℕ
 bestOf last size first second = firstOf (isLeast last (bothStocks size first second)) (bothStocks size first second)

@@ -11,16 +11,16 @@ module _ (k : ℕ) (a : Shape) (first second : List ℕ) (last : ℕ) where
   books = bothStocks (stockedSize k a) first second
 
   abbrev serial : ℕ → ℕ
-  serial j = serialOf (getD books j [])
+  serial b = serialOf (getD books b [])
 
-  -- what choose gives back is book m: above the last, no other above the last is less, and none before it is equal
+  -- what choose gives back is book b: above the last, no other above the last is less, and none before it is equal
   pub record Chosen (part : List ℕ) : Type 0 where
-    pub m : ℕ
-    pub inside : m < length books
-    pub is : part ≡ getD books m []
-    pub above : last < serial m
-    pub least : (j : ℕ) → j < length books → last < serial j → serial m ≤ serial j
-    pub earliest : (j : ℕ) → j < m → last < serial j → serial m < serial j
+    pub b : ℕ
+    pub inside : b < length books
+    pub is : part ≡ getD books b []
+    pub above : last < serial b
+    pub least : (other : ℕ) → other < length books → last < serial other → serial b ≤ serial other
+    pub earliest : (other : ℕ) → other < b → last < serial other → serial b < serial other
     pub size : length part ≡ stockedSize k a
 
   pub record Choice : Type 0 where

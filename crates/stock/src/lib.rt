@@ -1,4 +1,4 @@
-// Choice of a book from two lent stocks: the one with the least serial above the last.
+// Choice of a book from two lent stocks, the one with the least serial above the last; and its questions.
 ghost use mathlib.Core.Path.{_≡_};
 ghost use mathlib.Core.Bool.{_&&_};
 ghost use Prim.Native.Nat.{_+_, _*_, _/_, _%_, _≤_, _<_};

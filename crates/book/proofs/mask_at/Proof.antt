@@ -6,10 +6,10 @@ use Rattle.book.proofs.mask_at.Statement.{statement}
 use Rattle.book.proofs.mask_at.Tie as tie
 
 mul-result : tie.Need-mul-result
-mul-result c = omega (arith, mul-le-mul-left (c .before .args .c) (c .stride-of .ensures .1))
+mul-result c = omega (arith, mul-le-mul-left (c .before .args .j) (c .stride-of .ensures .1))
 
 returns : tie.Need-returns
-returns c = (rw (c .stride-of .ensures .0), omega (arith, mul-le-mul-left (c .before .args .c) (c .stride-of .ensures .1)))
+returns c = (rw (c .stride-of .ensures .0), omega (arith, mul-le-mul-left (c .before .args .j) (c .stride-of .ensures .1)))
 
 pub mask-at-spec : {M : Type 1} → statement M
 mask-at-spec = tie.close (tie.spec (λ c κs. search needs) mul-result returns)

@@ -1,5 +1,5 @@
 -- `column::prepare` meets its contract.
-use Rattle.column.proofs.Written.{fill-count}
+use Rattle.lists.proofs.Fill.{fill-count}
 use Rattle.steps.specs.Calls.{publicIn}
 use Rattle.slice.specs.Layout.{column}
 use Rattle.steps.specs.Work.{openingOn}
@@ -9,7 +9,7 @@ use Prim.Native.Nat.{_≤_, _-_}
 use mathlib.Core.Path.{_≡_, refl, sym, _∙_}
 use native.Mathlib.Omega.{arith}
 use borrow.Author.Needs.{needs}
-use lib.ListN.{length, set, length-set}
+use lib.ListN.{length, length-set}
 use Rattle.column.proofs.prepare.Statement.{statement}
 use Rattle.column.proofs.prepare.Tie as tie
 

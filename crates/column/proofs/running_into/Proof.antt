@@ -1,5 +1,5 @@
 -- `column::running_into` meets its contract.
-use Rattle.column.proofs.Written.{fill-count}
+use Rattle.lists.proofs.Fill.{fill-count}
 use Rattle.steps.specs.Calls.{publicIn}
 use Rattle.slice.specs.Layout.{column}
 use Rattle.steps.specs.Work.{runningOn}
@@ -9,12 +9,14 @@ use Prim.Native.Nat.{ℕ, _≤_, _-_}
 use mathlib.Core.Path.{_≡_, refl, sym}
 use native.Mathlib.Omega.{arith}
 use borrow.Author.Needs.{needs}
-use lib.ListN.{length, set, getD, length-set}
+use lib.ListN.{length, getD, length-set}
 use Rattle.column.proofs.running_into.Statement.{statement}
 use Rattle.column.proofs.running_into.Tie as tie
 
 abbrev Inv-loop : tie.InvT-loop
-Inv-loop out₀ work col known opened k n c₀ out c = (c ≤ n) × (out ≡ fill out₀ 0 c (runningOn (publicIn known) (known .round) (λ (o : ℕ). getD opened o 0) (col .weight) (column work (col .index)) k)) × (length out ≡ length out₀)
+Inv-loop out₀ work col known opened k n c₀ out c =
+    (c ≤ n) × (out ≡ fill out₀ 0 c (runningOn (publicIn known) (known .round) (λ (o : ℕ). getD opened o 0) (col .weight) (column work (col .index)) k))
+    × (length out ≡ length out₀)
 
 abbrev μ-loop : tie.MeasureT-loop
 μ-loop out₀ work col known opened k n c₀ out c = n - c
@@ -29,7 +31,7 @@ loop-again : tie.Need-loop-again Inv-loop μ-loop
 loop-again c = (omega arith, rw (front-more, ← c .before .before .loop .inv .1, ← c .running-value .ensures), simp length-set (omega arith))
 
 returns : tie.Need-returns Inv-loop μ-loop
-returns c = let e : c .before .loop .c ≡ (c .before .before .before .before .before .before .args .known .settings .shape .n) = omega arith in fill-count _ _ _ _ _ _ (c .before .loop .inv .1) e
+returns c = let e : c .before .loop .j ≡ (c .before .before .before .before .before .before .args .known .settings .shape .n) = omega arith in fill-count _ _ _ _ _ _ (c .before .loop .inv .1) e
 
 pub running-into-spec : {M : Type 1} → statement M
 running-into-spec =

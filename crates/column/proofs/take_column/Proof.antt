@@ -25,7 +25,10 @@ put-column-requires c κs = (c .before .before .before .before .before .before .
 returns : tie.Need-returns
 returns c =
     let a = c .before .before .before .before .before .before .before .before .before .before .before .before .before .before .before .before .before .args in
-    taken-is (publicIn (a .known)) (a .known .round) (λ (o : ℕ). getD (a .opened .now) o 0) (a .col .index) (a .col .weight) _ _ (a .own .now) _ _ _ _ _ refl (c .before .before .before .before .before .before .before .before .before .before .before .before .before .before .before .before .before .pre .1 .1 .1) (c .before .before .before .before .before .before .before .before .before .before .before .running-into .ensures) (omega arith) (c .before .before .before .before .before .before .before .running-into2 .ensures) (omega arith) (c .before .before .put-column .ensures)
+    taken-is (publicIn (a .known)) (a .known .round) (λ (o : ℕ). getD (a .opened .now) o 0) (a .col .index) (a .col .weight) _ _ (a .own .now) _ _ _ _ _ refl
+    (c .before .before .before .before .before .before .before .before .before .before .before .before .before .before .before .before .before .pre .1 .1 .1)
+    (c .before .before .before .before .before .before .before .before .before .before .before .running-into .ensures) (omega arith)
+    (c .before .before .before .before .before .before .before .running-into2 .ensures) (omega arith) (c .before .before .put-column .ensures)
 
 pub take-column-spec : {M : Type 1} → statement M
 take-column-spec =

@@ -12,7 +12,8 @@ use Rattle.column.proofs.take_columns.Statement.{statement}
 use Rattle.column.proofs.take_columns.Tie as tie
 
 abbrev Inv-loop : tie.InvT-loop
-Inv-loop work₀ known opened own weights i₀ work i = (i ≤ length weights) × (work ≡ takenColumns (publicIn known) (known .round) (λ (o : ℕ). getD opened o 0) weights work₀ i) × (length work ≡ length work₀)
+Inv-loop work₀ known opened own weights i₀ work i =
+    (i ≤ length weights) × (work ≡ takenColumns (publicIn known) (known .round) (λ (o : ℕ). getD opened o 0) weights work₀ i) × (length work ≡ length work₀)
 
 abbrev μ-loop : tie.MeasureT-loop
 μ-loop work₀ known opened own weights i₀ work i = length weights - i
@@ -24,8 +25,17 @@ loop-holds c = (omega arith, refl, refl)
 take-column-requires : tie.Need-take-column-requires Inv-loop μ-loop
 take-column-requires c κs =
     let a = c .before .before .before .before .before .before .before .before .args in
-    let p = c .before .before .before .before .before .before .before .before .pre in
-    (p .0, (omega arith, (p .1 .1 .0, held-kept (publicIn (a .known)) (a .known .round) (λ (o : ℕ). getD (a .opened .now) o 0) (p .0 .most) (a .weights .now) (a .work .now) (a .own .now) _ _ (c .before .before .before .loop .inv .1) (p .1 .1 .1 (c .before .before .before .loop .i) (omega arith)))))
+    let p = c .before .before .before .before .before .before .before .before .pre in (
+      p .0,
+      (
+        omega arith,
+        (
+          p .1 .1 .0,
+          held-kept (publicIn (a .known)) (a .known .round) (λ (o : ℕ). getD (a .opened .now) o 0) (p .0 .shape .most) (a .weights .now)
+              (a .work .now) (a .own .now) _ _ (c .before .before .before .loop .inv .1) (p .1 .1 .1 (c .before .before .before .loop .i) (omega arith)),
+        ),
+      ),
+    )
 
 loop-again : tie.Need-loop-again Inv-loop μ-loop
 unfolding takenColumns

@@ -8,15 +8,23 @@ use Rattle.dealer.proofs.deal_books.Statement.{statement}
 use Rattle.dealer.proofs.deal_books.Tie as tie
 
 returns : tie.Need-returns
-returns c = wrote-as (c .before .before .before .before .before .before .deal-coefficients .ensures) refl (high-end (c .before .before .before .before .before .before .before .before .before .before .before .before .before .args .o) (c .if1 .taken))
+returns c = wrote-as (c .before .before .before .before .before .before .deal-coefficients .ensures) refl
+    (high-end (c .before .before .before .before .before .before .before .before .before .before .before .before .before .args .o) (c .if1 .taken))
 
 deal-group-requires : tie.Need-deal-group-requires
 deal-group-requires c κs =
-    (still-lent (c .before .before .before .before .before .before .before .before .before .before .before .before .before .before .before .pre) (c .before .before .before .before .before .before .before .before .deal-coefficients .ensures), (bound-groups (c .before .before .before .before .before .before .before .before .before .before .before .before .before .before .before .args .o) (c .before .before .if1 .left), cursor-as (c .before .before .before .before .before .before .before .before .before .before .before .before .before .before .before .args .o) (c .before .before .before .before .before .before .before .before .deal-coefficients .ensures .next) (zero-add _ ∙ sym (bound-group (c .before .before .before .before .before .before .before .before .before .before .before .before .before .before .before .args .o) 0 (c .before .before .if1 .left)))))
+    let a = c .before .before .before .before .before .before .before .before .before .before .before .before .before .before .before .args in
+    let deal-coefficients = c .before .before .before .before .before .before .before .before .deal-coefficients in (
+      still-lent (c .before .before .before .before .before .before .before .before .before .before .before .before .before .before .before .pre) (deal-coefficients .ensures),
+      (bound-groups (a .o) (c .before .before .if1 .left), cursor-as (a .o) (deal-coefficients .ensures .next) (zero-add _ ∙ sym (bound-group (a .o) 0 (c .before .before .if1 .left)))),
+    )
 
 returns-2 : tie.Need-returns-2
 returns-2 c =
-    wrote-as (wrote-join (c .before .before .before .before .before .before .before .before .before .before .before .before .before .deal-coefficients .ensures) (c .before .before .before .before .deal-group .ensures) (bound-group (c .before .before .before .before .before .before .before .before .before .before .before .before .before .before .before .before .before .before .before .before .args .o) 0 (c .before .before .before .before .before .before .before .if1 .left) ∙ sym (zero-add _))) refl (bound-end (c .before .before .before .before .before .before .before .before .before .before .before .before .before .before .before .before .before .before .before .before .args .o) (c .before .before .before .before .before .before .before .if1 .left))
+    let a = c .before .before .before .before .before .before .before .before .before .before .before .before .before .before .before .before .before .before .before .before .args in
+    wrote-as (wrote-join (c .before .before .before .before .before .before .before .before .before .before .before .before .before .deal-coefficients .ensures)
+    (c .before .before .before .before .deal-group .ensures) (bound-group (a .o) 0 (c .before .before .before .before .before .before .before .if1 .left) ∙ sym (zero-add _))) refl
+    (bound-end (a .o) (c .before .before .before .before .before .before .before .if1 .left))
 
 pub deal-books-spec : {M : Type 1} → statement M
 deal-books-spec =

@@ -8,7 +8,6 @@ use Prim.Native.Nat.{_≤_, _-_}
 use mathlib.Core.Path.{_≡_, refl, sym}
 use native.Mathlib.Omega.{arith}
 use borrow.Author.Needs.{needs}
-use lib.ListN.{set}
 use Rattle.dealer.proofs.deal_coefficients.Statement.{statement}
 use Rattle.dealer.proofs.deal_coefficients.Tie as tie
 
@@ -23,10 +22,18 @@ loop-holds c =
     (omega arith, c .before .before .before .pre, wrote-as (wrote-none (first-cursor (c .before .before .before .args .o))) refl (mask-none (c .before .before .before .args .o)))
 
 deal-coefficient-requires : tie.Need-deal-coefficient-requires Inv-loop μ-loop
-deal-coefficient-requires c κs = let i = c .before .before .before .before .loop in (i .inv .1, (omega arith, cursor-as (c .before .before .before .before .before .before .before .before .args .o) (i .inv .2 .next) (zero-add _)))
+deal-coefficient-requires c κs =
+    let i = c .before .before .before .before .loop in (i .inv .1, (omega arith, cursor-as (c .before .before .before .before .before .before .before .before .args .o) (i .inv .2 .next) (zero-add _)))
 
 loop-again : tie.Need-loop-again Inv-loop μ-loop
-loop-again c = let i = c .before .before .before .before .before .before .before .before .before .loop in (omega arith, still-lent (i .inv .1) (c .before .before .before .before .deal-coefficient .ensures), wrote-as (wrote-join (i .inv .2) (c .before .before .before .before .deal-coefficient .ensures) (sym (zero-add _))) refl (sym (mask-step (c .before .before .before .before .before .before .before .before .before .before .before .before .before .args .o) (i .c))))
+loop-again c =
+    let deal-coefficient = c .before .before .before .before .deal-coefficient in
+    let i = c .before .before .before .before .before .before .before .before .before .loop in (
+      omega arith,
+      still-lent (i .inv .1) (deal-coefficient .ensures),
+      wrote-as (wrote-join (i .inv .2) (deal-coefficient .ensures) (sym (zero-add _))) refl
+          (sym (mask-step (c .before .before .before .before .before .before .before .before .before .before .before .before .before .args .o) (i .c))),
+    )
 
 returns : tie.Need-returns Inv-loop μ-loop
 returns c = let e : c .before .before .loop .c ≡ c .before .before .before .before .before .before .args .o .shape .n = omega arith in wrote-as (c .before .before .loop .inv .2) refl (rw e)

@@ -15,11 +15,13 @@ shared-slice-read-value c =
 
 add-deal-place : tie.Need-add-deal-place
 add-deal-place c =
-    omega (arith, drawn-room (c .before .before .before .before .before .before .pre .1 .0) (c .before .before .before .before .before .before .pre .1 .1) (c .before .before .before .before .before .before .pre .0))
+    let p = c .before .before .before .before .before .before .pre in
+    omega (arith, drawn-room (p .1 .0) (p .1 .1) (p .0))
 
 deal-place-requires : tie.Need-deal-place-requires
 deal-place-requires c κs =
-    (c .before .before .before .before .before .before .pre .0, next-drawn (c .before .before .before .before .before .before .pre .1 .0) (c .before .before .before .before .before .before .pre .1 .1))
+    let p = c .before .before .before .before .before .before .pre in
+    (p .0, next-drawn (p .1 .0) (p .1 .1))
 
 pub deal-drawn-spec : {M : Type 1} → statement M
 deal-drawn-spec =

@@ -10,27 +10,52 @@ use Rattle.dealer.proofs.deal_group.Tie as tie
 
 group-at-requires : tie.Need-group-at-requires
 group-at-requires c κs =
-    let h = groups-few (c .before .before .before .before .args .o) (c .before .before .before .before .args .g) (c .before .before .before .before .pre .1 .0) (c .before .before .before .before .pre .0 .ready .most) in omega arith
+    let a = c .before .before .before .before .args in
+    let p = c .before .before .before .before .pre in
+    let h = groups-few (a .o) (a .g) (p .1 .0) (p .0 .ready .most) in omega arith
 
 mul-d : tie.Need-mul-d
 mul-d c =
-    omega (arith, drawn-room (group-draws (c .before .before .before .before .before .args .o) (c .before .before .before .before .before .args .g) (c .group-at .result) (c .before .before .before .before .before .pre .1 .0) (c .group-at .ensures .0)) (cursor-as (c .before .before .before .before .before .args .o) (c .before .before .before .before .before .pre .1 .1) (sym (c .group-at .ensures .0))) (c .before .before .before .before .before .pre .0))
+    let a = c .before .before .before .before .before .args in
+    let p = c .before .before .before .before .before .pre in
+    omega (arith, drawn-room (group-draws (a .o) (a .g) (c .group-at .result) (p .1 .0) (c .group-at .ensures .0)) (cursor-as (a .o) (p .1 .1) (sym (c .group-at .ensures .0))) (p .0))
 
 shared-slice-read-d : tie.Need-shared-slice-read-d
 shared-slice-read-d c =
-    omega (arith, drawn-room (group-draws (c .before .before .before .before .before .before .args .o) (c .before .before .before .before .before .before .args .g) (c .before .group-at .result) (c .before .before .before .before .before .before .pre .1 .0) (c .before .group-at .ensures .0)) (cursor-as (c .before .before .before .before .before .before .args .o) (c .before .before .before .before .before .before .pre .1 .1) (sym (c .before .group-at .ensures .0))) (c .before .before .before .before .before .before .pre .0))
+    let a = c .before .before .before .before .before .before .args in
+    let p = c .before .before .before .before .before .before .pre in
+    omega (
+      arith,
+      drawn-room (group-draws (a .o) (a .g) (c .before .group-at .result) (p .1 .0) (c .before .group-at .ensures .0))
+          (cursor-as (a .o) (p .1 .1) (sym (c .before .group-at .ensures .0))) (p .0),
+    )
 
 deal-drawn-requires : tie.Need-deal-drawn-requires
 deal-drawn-requires c κs =
-    (c .before .before .before .before .before .before .before .before .before .pre .0, (group-draws (c .before .before .before .before .before .before .before .before .before .args .o) (c .before .before .before .before .before .before .before .before .before .args .g) (c .before .before .before .before .group-at .result) (c .before .before .before .before .before .before .before .before .before .pre .1 .0) (c .before .before .before .before .group-at .ensures .0), cursor-as (c .before .before .before .before .before .before .before .before .before .args .o) (c .before .before .before .before .before .before .before .before .before .pre .1 .1) (sym (c .before .before .before .before .group-at .ensures .0))))
+    let p = c .before .before .before .before .before .before .before .before .before .pre in
+    let a = c .before .before .before .before .before .before .before .before .before .args in
+    let group-at = c .before .before .before .before .group-at in
+    (p .0, (group-draws (a .o) (a .g) (group-at .result) (p .1 .0) (group-at .ensures .0), cursor-as (a .o) (p .1 .1) (sym (group-at .ensures .0))))
 
 deal-vector-requires : tie.Need-deal-vector-requires
 deal-vector-requires c κs =
-    let a = c .before .before .before .before .before .before .before .before .before .before .before .before .before .before .before .before .before .args in
-    (still-lent (c .before .before .before .before .before .before .before .before .before .before .before .before .before .before .before .before .before .pre .0) (c .before .before .before .before .before .before .before .deal-drawn .ensures), (group-vector (a .o) (a .draw .now) (a .g) (c .before .before .before .before .before .before .before .before .before .before .before .before .group-at .result) (a .at) _ (c .before .before .group-k .result + 2) (c .before .before .before .before .before .before .before .before .before .before .before .before .before .before .before .before .before .pre .1 .0) (c .before .before .before .before .before .before .before .before .before .before .before .before .group-at .ensures .0) (cursor-as (c .before .before .before .before .before .before .before .before .before .before .before .before .before .before .before .before .before .args .o) (c .before .before .before .before .before .before .before .before .before .before .before .before .before .before .before .before .before .pre .1 .1) (sym (c .before .before .before .before .before .before .before .before .before .before .before .before .group-at .ensures .0))) (rw (c .before .before .group-k .ensures .0)) (rw (c .before .before .before .before .before .before .before .before .before .before .group-gap .ensures .0)), c .before .before .before .before .before .before .before .deal-drawn .ensures .next))
+    let p = c .before .before .before .before .before .before .before .before .before .before .before .before .before .before .before .before .before .pre in
+    let group-at = c .before .before .before .before .before .before .before .before .before .before .before .before .group-at in
+    let deal-drawn = c .before .before .before .before .before .before .before .deal-drawn in
+    let a = c .before .before .before .before .before .before .before .before .before .before .before .before .before .before .before .before .before .args in (
+      still-lent (p .0) (deal-drawn .ensures),
+      (
+        group-vector (a .o) (a .draw .now) (a .g) (group-at .result) (a .at) _ (c .before .before .group-k .result + 2) (p .1 .0) (group-at .ensures .0)
+            (cursor-as (c .before .before .before .before .before .before .before .before .before .before .before .before .before .before .before .before .before .args .o) (p .1 .1)
+            (sym (group-at .ensures .0))) (rw (c .before .before .group-k .ensures .0)) (rw (c .before .before .before .before .before .before .before .before .before .before .group-gap .ensures .0)),
+        deal-drawn .ensures .next,
+      ),
+    )
 
 returns : tie.Need-returns
-returns c = wrote-as (wrote-join (c .before .before .before .before .before .before .before .before .before .before .before .before .deal-drawn .ensures) (c .before .before .before .before .deal-vector .ensures) refl) (c .before .before .before .before .before .before .before .before .before .before .before .before .before .before .before .before .before .group-at .ensures .0) (omega arith)
+returns c = wrote-as (wrote-join (c .before .before .before .before .before .before .before .before .before .before .before .before .deal-drawn .ensures)
+    (c .before .before .before .before .deal-vector .ensures) refl)
+    (c .before .before .before .before .before .before .before .before .before .before .before .before .before .before .before .before .before .group-at .ensures .0) (omega arith)
 
 pub deal-group-spec : {M : Type 1} → statement M
 deal-group-spec =

@@ -3,17 +3,17 @@ use borrow.Author.Needs.{needs}
 use mathlib.Core.Path.{sym, _∙_}
 use Rattle.lists.proofs.Questions.{walk}
 use Rattle.settings.proofs.Ready.{shape-ready, shape-stop, shape-skip}
-use Rattle.book.specs.Deal.{dealNo}
+use Rattle.dealer.specs.Deal.{dealNo}
 use Rattle.dealer.proofs.deal_no.Statement.{statement}
 use Rattle.dealer.proofs.deal_no.Tie as tie
 
 returns : tie.Need-returns
 unfolding dealNo
-returns c = shape-stop (c .before .before .before .before .before .args .shape) _ _ (c .before .shape-no .ensures) (c .if1 .taken)
+returns c = search shape-stop
 
 returns-2 : tie.Need-returns-2
 unfolding dealNo
-returns-2 c = shape-skip (c .before .before .before .before .before .before .before .args .shape) _ _ _ (c .before .before .before .shape-no .ensures) (c .before .before .if1 .left) (search walk depth 20)
+returns-2 c = search (walk, shape-skip) depth 20
 
 lengths-ok-requires : tie.Need-lengths-ok-requires
 lengths-ok-requires c κs =
@@ -22,15 +22,15 @@ lengths-ok-requires c κs =
 
 returns-3 : tie.Need-returns-3
 unfolding dealNo
-returns-3 c = shape-skip (c .before .before .before .before .before .before .before .before .before .args .shape) _ _ _ (c .before .before .before .before .before .shape-no .ensures) (c .before .before .before .before .if1 .left) (search walk depth 20)
+returns-3 c = search (walk, shape-skip) depth 20
 
 returns-4 : tie.Need-returns-4
 unfolding dealNo
-returns-4 c = shape-skip (c .before .before .before .before .before .before .before .before .before .before .before .args .shape) _ _ _ (c .before .before .before .before .before .before .before .shape-no .ensures) (c .before .before .before .before .before .before .if1 .left) (search walk depth 20)
+returns-4 c = search (walk, shape-skip) depth 20
 
 returns-5 : tie.Need-returns-5
 unfolding dealNo
-returns-5 c = shape-skip (c .before .before .before .before .before .before .before .before .before .before .before .args .shape) _ _ _ (c .before .before .before .before .before .before .before .shape-no .ensures) (c .before .before .before .before .before .before .if1 .left) (search walk depth 20)
+returns-5 c = search (walk, shape-skip) depth 20
 
 pub deal-no-spec : {M : Type 1} → statement M
 deal-no-spec =

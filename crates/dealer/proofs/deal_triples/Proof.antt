@@ -7,7 +7,6 @@ use Prim.Native.Nat.{_≤_, _-_, _*_}
 use mathlib.Core.Path.{_≡_, refl, sym}
 use native.Mathlib.Omega.{arith}
 use borrow.Author.Needs.{needs}
-use lib.ListN.{set}
 use Rattle.dealer.proofs.deal_triples.Statement.{statement}
 use Rattle.dealer.proofs.deal_triples.Tie as tie
 
@@ -23,11 +22,16 @@ loop-holds c =
 
 deal-triple-requires : tie.Need-deal-triple-requires Inv-loop μ-loop
 deal-triple-requires c κs =
-    let i = c .before .before .before .loop in (i .inv .1, (c .before .before .before .before .before .before .before .pre .1 .0, omega arith, cursor-as (c .before .before .before .before .before .before .before .args .o) (i .inv .2 .next) (sym (triple-step (c .before .before .before .before .before .before .before .args .o) (c .before .before .before .before .before .before .before .args .c) (i .t)))))
+    let a = c .before .before .before .before .before .before .before .args in
+    let i = c .before .before .before .loop in
+    (i .inv .1, (c .before .before .before .before .before .before .before .pre .1 .0, omega arith, cursor-as (a .o) (i .inv .2 .next) (sym (triple-step (a .o) (a .c) (i .t)))))
 
 loop-again : tie.Need-loop-again Inv-loop μ-loop
 loop-again c =
-    let i = c .before .before .before .before .before .before .before .before .loop in (omega arith, still-lent (i .inv .1) (c .before .before .before .before .deal-triple .ensures), wrote-as (wrote-join (i .inv .2) (c .before .before .before .before .deal-triple .ensures) (triple-step (c .before .before .before .before .before .before .before .before .before .before .before .before .args .o) (c .before .before .before .before .before .before .before .before .before .before .before .before .args .c) (i .t))) refl (omega arith))
+    let deal-triple = c .before .before .before .before .deal-triple in
+    let a = c .before .before .before .before .before .before .before .before .before .before .before .before .args in
+    let i = c .before .before .before .before .before .before .before .before .loop in
+    (omega arith, still-lent (i .inv .1) (deal-triple .ensures), wrote-as (wrote-join (i .inv .2) (deal-triple .ensures) (triple-step (a .o) (a .c) (i .t))) refl (omega arith))
 
 returns : tie.Need-returns Inv-loop μ-loop
 returns c = let e : c .before .loop .t ≡ 8 = omega arith in wrote-as (c .before .loop .inv .2) refl (omega arith)

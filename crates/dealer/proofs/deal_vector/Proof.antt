@@ -20,10 +20,19 @@ loop-holds c =
     (omega arith, c .before .before .before .pre .0, wrote-none (c .before .before .before .pre .1 .1))
 
 deal-place-requires : tie.Need-deal-place-requires Inv-loop μ-loop
-deal-place-requires c κs = let i = c .before .before .before .before .loop in (i .inv .1, next-vector (c .before .before .before .before .before .before .before .before .pre .1 .0) (i .j) (i .next) (c .before .before .vector-entry .result) (c .before .before .before .loop-test .taken) (i .inv .2 .next) (c .before .before .vector-entry .ensures))
+deal-place-requires c κs =
+    let vector-entry = c .before .before .vector-entry in
+    let i = c .before .before .before .before .loop in (
+      i .inv .1,
+      next-vector (c .before .before .before .before .before .before .before .before .pre .1 .0) (i .j) (i .next) (vector-entry .result) (c .before .before .before .loop-test .taken)
+          (i .inv .2 .next) (vector-entry .ensures),
+    )
 
 loop-again : tie.Need-loop-again Inv-loop μ-loop
-loop-again c = let i = c .before .before .before .before .before .before .before .before .before .loop in (omega arith, still-lent (i .inv .1) (c .before .before .before .before .deal-place .ensures), wrote-join (i .inv .2) (c .before .before .before .before .deal-place .ensures) refl)
+loop-again c =
+    let deal-place = c .before .before .before .before .deal-place in
+    let i = c .before .before .before .before .before .before .before .before .before .loop in
+    (omega arith, still-lent (i .inv .1) (deal-place .ensures), wrote-join (i .inv .2) (deal-place .ensures) refl)
 
 returns : tie.Need-returns Inv-loop μ-loop
 returns c = let e : c .before .loop .j ≡ c .before .before .before .before .before .args .size = omega arith in wrote-as (c .before .loop .inv .2) refl e

@@ -1,7 +1,6 @@
 -- `dealer::lengths_ok` meets its contract. Assumes nothing.
 use borrow.Author.Tests.{eq-eqb}
 use Rattle.lists.proofs.Questions.{walk}
-use Rattle.lists.proofs.Questions.{walk}
 use borrow.Author.Needs.{needs}
 use Rattle.dealer.proofs.lengths_ok.Statement.{statement}
 use Rattle.dealer.proofs.lengths_ok.Tie as tie

@@ -19,7 +19,9 @@ loop-holds : tie.Need-loop-holds Inv-loop μ-loop
 loop-holds c = (omega arith, search needs, paste-zero _ (c .args .at) (c .args .from .now))
 
 loop-again : tie.Need-loop-again Inv-loop μ-loop
-loop-again c = (omega arith, search needs, copy-more _ (c .before .before .loop .to) (c .before .before .before .args .from .now) (c .before .before .before .args .at) (c .before .before .loop .i) (omega arith) (omega arith) (c .before .before .loop .inv .2))
+loop-again c =
+    let a = c .before .before .before .args in
+    (omega arith, search needs, copy-more _ (c .before .before .loop .to) (a .from .now) (a .at) (c .before .before .loop .i) (omega arith) (omega arith) (c .before .before .loop .inv .2))
 
 returns : tie.Need-returns Inv-loop μ-loop
 returns c = copy-done _ _ (c .before .before .args .from .now) (c .before .before .args .at) (c .before .loop .i) (c .before .before .args .n) (omega arith) (omega arith) (c .before .loop .inv .2)

@@ -27,8 +27,12 @@ put-bits-requires c κs = omega (arith, below-field _ (c .before .before .before
 loop-again : tie.Need-loop-again Inv-loop μ-loop
 loop-again c =
     let a = c .before .before .before .before .before .before .before .before .before .args in
-    let bytes : Bytes (a .out .now) = λ j. omega (arith, c .before .before .before .before .before .before .before .before .slice-known .given j) in
-    (omega arith, cc (put-more (a .out .now) bytes (a .fields .now) (c .before .before .before .before .before .before .before .before .before .pre .1) (omega arith) (c .before .before .before .before .before .before .loop .i) (omega arith)), omega arith)
+    let bytes : Bytes (a .out .now) = λ j. omega (arith, c .before .before .before .before .before .before .before .before .slice-known .given j) in (
+      omega arith,
+      cc (put-more (a .out .now) bytes (a .fields .now) (c .before .before .before .before .before .before .before .before .before .pre .1)
+          (omega arith) (c .before .before .before .before .before .before .loop .i) (omega arith)),
+      omega arith,
+    )
 
 returns : tie.Need-returns Inv-loop μ-loop
 returns c =

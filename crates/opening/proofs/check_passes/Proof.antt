@@ -28,7 +28,9 @@ returns c = sym (allTo-no keyCount _ (c .before .before .before .loop .i) (omega
 
 loop-again : tie.Need-loop-again Inv-loop μ-loop
 unfolding allTo
-loop-again c = (omega arith, rw (add-one (c .before .before .before .loop .i)) (and-yes _ _ (c .before .before .before .loop .inv .1) (answered-yes _ _ (c .before .part-passes .ensures) (c .if1 .left))))
+loop-again c =
+    let loop = c .before .before .before .loop in
+    (omega arith, rw (add-one (loop .i)) (and-yes _ _ (loop .inv .1) (answered-yes _ _ (c .before .part-passes .ensures) (c .if1 .left))))
 
 returns-2 : tie.Need-returns-2 Inv-loop μ-loop
 unfolding checkedAt

@@ -29,7 +29,9 @@ returns c = sym (allTo-no _ _ (c .before .before .before .loop .o) (omega arith)
 
 loop-again : tie.Need-loop-again Inv-loop μ-loop
 unfolding allTo
-loop-again c = (omega arith, rw (add-one (c .before .before .before .loop .o)) (and-yes _ _ (c .before .before .before .loop .inv .1) (sym (c .before .check-passes .ensures) ∙ not-false _ (c .if1 .left))))
+loop-again c =
+    let loop = c .before .before .before .loop in
+    (omega arith, rw (add-one (loop .o)) (and-yes _ _ (loop .inv .1) (sym (c .before .check-passes .ensures) ∙ not-false _ (c .if1 .left))))
 
 returns-2 : tie.Need-returns-2 Inv-loop μ-loop
 returns-2 c =

@@ -15,7 +15,9 @@ field-of-requires c κs = (c .before .before .pre .0 ∙ ap (λ (x : ℕ). bytes
 
 returns : tie.Need-returns
 unfolding incoming
-returns c = c .field-of .ensures ∙ ap (λ (x : ℕ). fieldIn x (c .before .before .before .args .message .now) (c .before .before .before .args .o * (1 + keyCount) + c .before .before .before .args .f)) (c .before .field-count .ensures .0)
+returns c =
+    let a = c .before .before .before .args in
+    c .field-of .ensures ∙ ap (λ (x : ℕ). fieldIn x (a .message .now) (a .o * (1 + keyCount) + a .f)) (c .before .field-count .ensures .0)
 
 pub field-in-spec : {M : Type 1} → statement M
 field-in-spec =

@@ -6,10 +6,16 @@ use Rattle.opening.proofs.outgoing_column.Statement.{statement}
 use Rattle.opening.proofs.outgoing_column.Tie as tie
 
 returns : tie.Need-returns
-returns c = c .before .before .prepare-column .ensures ∙ outgoing-server (c .before .before .before .before .before .before .before .before .args .side) (c .before .before .before .before .before .before .before .before .args .work .now) (c .before .before .before .before .before .before .before .before .args .out .now) (c .before .before .before .before .before .before .before .before .args .column) _ (c .before .before .before .before .if1 .taken)
+returns c =
+    let a = c .before .before .before .before .before .before .before .before .args in
+    c .before .before .prepare-column .ensures ∙ outgoing-server (a .side) (a .work .now) (a .out .now) (a .column) _ (c .before .before .before .before .if1 .taken)
 
 returns-2 : tie.Need-returns-2
-returns-2 c = c .before .before .own-column .ensures ∙ outgoing-phone (c .before .before .before .before .before .before .before .before .before .args .side) (c .before .before .before .before .before .before .before .before .before .args .work .now) (c .before .before .before .before .before .before .before .before .before .args .out .now) (c .before .before .before .before .before .before .before .before .before .args .column) (c .before .before .before .before .openings-in .result) _ (c .before .before .before .before .before .if1 .left) (c .before .before .before .before .openings-in .ensures .0)
+returns-2 c =
+    let a = c .before .before .before .before .before .before .before .before .before .args in
+    let openings-in = c .before .before .before .before .openings-in in
+    c .before .before .own-column .ensures ∙ outgoing-phone (a .side) (a .work .now) (a .out .now) (a .column) (openings-in .result) _ (c .before .before .before .before .before .if1 .left)
+    (openings-in .ensures .0)
 
 pub outgoing-column-spec : {M : Type 1} → statement M
 outgoing-column-spec =

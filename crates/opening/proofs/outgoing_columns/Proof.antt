@@ -38,15 +38,17 @@ outgoing-column-requires c κs = (c .before .before .before .before .before .bef
 loop-again : tie.Need-loop-again Inv-loop μ-loop
 unfolding columnsTo
 loop-again c =
+    let loop = c .before .before .before .before .before .before .loop in
+    let field-column = c .before .before .before .before .field-column in
     let a = c .before .before .before .before .before .before .before .before .before .args in
-    let m = c .before .before .before .before .before .before .loop .f in
+    let m = loop .f in
     let count = openings (paramsIn (a .side .settings)) (a .side .round) in
-    let few = openings-most (paramsIn (a .side .settings)) (a .side .round) (c .before .before .before .before .before .before .before .before .before .pre .0 .ready .most) in
-    let more : _ ≡ fill (c .before .before .before .before .before .before .loop .sent) (mostOpenings * m) count (outgoingIn (a .side) (a .work .now) m) =
-    ap (λ (l : List ℕ). putMid (mostOpenings * m) (mostOpenings * m + mostOpenings - mostOpenings * m) (c .before .before .before .before .before .before .loop .sent) l) (c .before .before .outgoing-column .ensures)
-    ∙ fill-part (c .before .before .before .before .before .before .loop .sent) (mostOpenings * m) (mostOpenings * m + mostOpenings - mostOpenings * m) (outgoing keyCount (a .side) (a .work .now) (c .before .before .before .before .field-column .result)) (omega arith) _ (omega arith)
-    ∙ ap (λ (x : ℕ). fill (c .before .before .before .before .before .before .loop .sent) (mostOpenings * m) count (outgoing keyCount (a .side) (a .work .now) x)) (c .before .before .before .before .field-column .ensures .0) in
-    (omega arith, rw (add-one m, ← c .before .before .before .before .before .before .loop .inv .1) more, ap length more ∙ length-fill _ _ _ _ ∙ c .before .before .before .before .before .before .loop .inv .2)
+    let few = openings-most (paramsIn (a .side .settings)) (a .side .round) (c .before .before .before .before .before .before .before .before .before .pre .0 .ready .shape .most) in
+    let more : _ ≡ fill (loop .sent) (mostOpenings * m) count (outgoingIn (a .side) (a .work .now) m) =
+    ap (λ (l : List ℕ). putMid (mostOpenings * m) (mostOpenings * m + mostOpenings - mostOpenings * m) (loop .sent) l) (c .before .before .outgoing-column .ensures)
+    ∙ fill-part (loop .sent) (mostOpenings * m) (mostOpenings * m + mostOpenings - mostOpenings * m) (outgoing keyCount (a .side) (a .work .now) (field-column .result)) (omega arith) _ (omega arith)
+    ∙ ap (λ (x : ℕ). fill (loop .sent) (mostOpenings * m) count (outgoing keyCount (a .side) (a .work .now) x)) (field-column .ensures .0) in
+    (omega arith, rw (add-one m, ← loop .inv .1) more, ap length more ∙ length-fill _ _ _ _ ∙ loop .inv .2)
 
 returns : tie.Need-returns Inv-loop μ-loop
 returns c =

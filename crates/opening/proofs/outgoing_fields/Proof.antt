@@ -8,8 +8,10 @@ use Rattle.opening.proofs.outgoing_fields.Tie as tie
 
 returns : tie.Need-returns
 returns c =
+    let a = c .before .before .before .before .before .before .before .before .before .before .args in
     c .before .before .put-in-turn .ensures
-    ∙ turns-are (c .before .before .before .before .before .before .before .before .before .before .args .side) (c .before .before .before .before .before .before .before .before .before .before .args .work .now) (c .before .before .before .before .before .before .before .before .before .before .args .fields .now) _ _ (c .before .before .before .before .before .before .before .before .before .before .args .count) _ (c .before .before .before .before .before .before .before .before .before .before .pre .1 .1) (omega arith) (search needs) (c .before .before .before .before .before .before .outgoing-columns .ensures)
+    ∙ turns-are (a .side) (a .work .now) (a .fields .now) _ _ (a .count) _ (c .before .before .before .before .before .before .before .before .before .before .pre .1 .1) (omega arith)
+    (search needs) (c .before .before .before .before .before .before .outgoing-columns .ensures)
 
 pub outgoing-fields-spec : {M : Type 1} → statement M
 outgoing-fields-spec =

@@ -10,14 +10,18 @@ use Rattle.opening.proofs.prepare_column.Tie as tie
 
 prepare-requires : tie.Need-prepare-requires
 prepare-requires c κs =
-    let side = c .before .before .before .before .before .before .args .side in
-    let few = openings-most (paramsIn (side .settings)) (side .round) (c .before .before .before .before .before .before .pre .0 .ready .most) in
-    (c .before .before .before .before .before .before .pre .0 .ready, (c .before .before .before .before .before .before .pre .0 .round-some, c .before .before .before .before .before .before .pre .0 .round-most, omega arith, omega (arith, few)))
+    let p = c .before .before .before .before .before .before .before .pre in
+    let side = c .before .before .before .before .before .before .before .args .side in
+    let few = openings-most (paramsIn (side .settings)) (side .round) (p .0 .ready .shape .most) in
+    (p .0 .ready, (p .0 .round-some, p .0 .round-most, omega arith, omega (arith, few)))
 
 returns : tie.Need-returns
 returns c =
+    let a = c .before .before .before .before .before .before .before .before .before .before .args in
+    let masked-in = c .before .before .before .before .masked-in in
+    let weights-of = c .before .before .before .before .before .before .weights-of in
     c .before .before .prepare .ensures
-    ∙ prepared-is (c .before .before .before .before .before .before .before .before .before .args .side) (c .before .before .before .before .before .before .before .before .before .args .work .now) (c .before .before .before .before .before .before .before .before .before .args .out .now) (c .before .before .before .before .before .before .before .before .before .args .column) (c .before .before .before .before .masked-in .result) (c .before .before .before .before .before .before .weights-of .result) (c .before .before .before .before .masked-in .ensures) (c .before .before .before .before .before .before .weights-of .ensures)
+    ∙ prepared-is (a .side) (a .work .now) (a .out .now) (a .column) (masked-in .result) (weights-of .result) (masked-in .ensures) (weights-of .ensures)
 
 pub prepare-column-spec : {M : Type 1} → statement M
 prepare-column-spec =

@@ -10,7 +10,9 @@ use Rattle.phone.proofs.high_part.Statement.{statement}
 use Rattle.phone.proofs.high_part.Tie as tie
 
 refusal-requires : tie.Need-refusal-requires
-refusal-requires c κs = omega (arith, high-no-le (c .before .before .before .before .args .set) (c .before .before .before .before .args .w) _ (sym (c .before .no .given .1) ∙ c .before .before .before .high-part .ensures))
+refusal-requires c κs =
+    let a = c .before .before .before .before .args in
+    omega (arith, high-no-le (a .set) (a .w) _ (sym (c .before .no .given .1) ∙ c .before .before .before .high-part .ensures))
 
 returns : tie.Need-returns
 returns c = toZ-pos w64 (omega arith) ∙ ap highCode (sym (c .before .part .given .1) ∙ c .before .before .before .high-part .ensures)

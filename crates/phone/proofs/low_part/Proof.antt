@@ -14,7 +14,9 @@ cast-result : tie.Need-cast-result
 cast-result c = widens {w = w32} {z = c .before .part .given .0 .0} tt (search needs)
 
 refusal-requires : tie.Need-refusal-requires
-refusal-requires c κs = omega (arith, low-no-le (c .before .before .before .before .args .set) (c .before .before .before .before .args .w) _ (sym (c .before .no .given .1) ∙ c .before .before .before .low-part .ensures))
+refusal-requires c κs =
+    let a = c .before .before .before .before .args in
+    omega (arith, low-no-le (a .set) (a .w) _ (sym (c .before .no .given .1) ∙ c .before .before .before .low-part .ensures))
 
 returns : tie.Need-returns
 returns c = widened {w = w32} {z = c .before .part .given .0 .0} tt (search needs) ∙ ap lowCode (sym (c .before .part .given .1) ∙ c .before .before .before .low-part .ensures)

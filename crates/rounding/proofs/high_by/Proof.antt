@@ -1,7 +1,5 @@
 -- `rounding::high_by` meets its contract.
 use borrow.Author.Needs.{needs}
-use mathlib.Core.Path.{sym, _∙_, ap}
-use Prim.Native.Nat.{ℕ, _+_, _-_, _/_, _%_}
 use borrow.Author.Tests.{eq-eqb, ne-eqb}
 use Rattle.rounding.specs.Plain.{highOfShifted}
 use Rattle.rounding.proofs.high_by.Statement.{statement}

@@ -1,5 +1,4 @@
 -- `rounding::part_no` meets its contract: one question after the other.
-use borrow.Author.Needs.{needs}
 use Rattle.lists.proofs.Questions.{walk}
 use Rattle.rounding.specs.Calls.{partNo}
 use Rattle.rounding.proofs.part_no.Statement.{statement}

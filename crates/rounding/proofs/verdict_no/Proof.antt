@@ -9,4 +9,5 @@ pub verdict-no-spec : {M : Type 1} → statement M
 unfolding verdictNo
 verdict-no-spec =
     tie.close
-    (tie.spec (λ c. search walk depth 20) (λ c. search walk depth 20) (λ c. search walk depth 20) (λ c κs. search needs) (λ c. search walk depth 20) (λ c κs. search needs) (λ c. search walk depth 20) (λ c. search walk depth 20))
+    (tie.spec (λ c. search walk depth 20) (λ c. search walk depth 20) (λ c. search walk depth 20) (λ c κs. search needs) (λ c. search walk depth 20)
+    (λ c κs. search needs) (λ c. search walk depth 20) (λ c. search walk depth 20))

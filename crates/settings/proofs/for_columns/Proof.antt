@@ -7,13 +7,13 @@ use borrow.Author.Needs.{needs}
 use lib.ListN.{length, getD, replicate, length-set}
 use Rattle.lists.specs.Lists.{fill}
 use Rattle.lists.proofs.Fill.{fill-none, fill-more}
-use Rattle.settings.specs.Sizes.{keyCount, widthOf}
+use Rattle.settings.specs.Sizes.{keyCount, width}
 use Rattle.settings.proofs.Keys.{columns-are}
 use Rattle.settings.proofs.for_columns.Statement.{statement}
 use Rattle.settings.proofs.for_columns.Tie as tie
 
 abbrev Inv-loop : tie.InvT-loop
-Inv-loop share keys0 keys1 columns₀ i₀ columns i = (i ≤ 2 * keyCount) × (length columns ≡ widthOf keyCount) × (columns ≡ fill (replicate (widthOf keyCount) share) 1 i (λ (j : ℕ). getD (keys0 ++ keys1) j 0))
+Inv-loop share keys0 keys1 columns₀ i₀ columns i = (i ≤ 2 * keyCount) × (length columns ≡ width) × (columns ≡ fill (replicate width share) 1 i (λ (j : ℕ). getD (keys0 ++ keys1) j 0))
 
 abbrev μ-loop : tie.MeasureT-loop
 μ-loop share keys0 keys1 columns₀ i₀ columns i = 2 * keyCount - i

@@ -1,8 +1,7 @@
--- `settings::input_size` meets its contract. Assumes nothing.
+-- `settings::input_size` meets its contract.
 use Rattle.settings.specs.Sizes.{inputSize}
-use mathlib.Core.Path.{sym, ap, _∙_}
-use borrow.Author.Tests.{not-true, not-false}
 use borrow.Author.Needs.{needs}
+use Rattle.lists.proofs.Choices.{choices}
 use Rattle.settings.proofs.input_size.Statement.{statement}
 use Rattle.settings.proofs.input_size.Tie as tie
 
@@ -11,7 +10,7 @@ shape-ok-requires c κs = search needs
 
 returns : tie.Need-returns
 unfolding inputSize
-returns c = rw (sym (c .before .shape-ok .ensures) ∙ not-true _ (c .if1 .taken))
+returns c = search choices
 
 cast-result : tie.Need-cast-result
 cast-result c = search needs
@@ -21,7 +20,7 @@ mul-result c = search needs
 
 returns-2 : tie.Need-returns-2
 unfolding inputSize
-returns-2 c = rw (sym (c .before .before .shape-ok .ensures) ∙ not-false _ (c .before .if1 .left))
+returns-2 c = search choices
 
 pub input-size-spec : {M : Type 1} → statement M
 input-size-spec = tie.close (tie.spec shape-ok-requires returns cast-result mul-result returns-2)

@@ -22,7 +22,9 @@ unfolding keysOk
 returns c = every-stop keyOk _ (c .before .before .before .loop .i) (search needs) (answered-no _ _ (c .before .key-ok .ensures) (c .if1 .taken)) (c .before .before .before .loop .inv .1)
 
 loop-again : tie.Need-loop-again Inv-loop μ-loop
-loop-again c = (search needs, every-again keyOk _ (c .before .before .before .loop .i) (search needs) (answered-yes _ _ (c .before .key-ok .ensures) (c .if1 .left)) (c .before .before .before .loop .inv .1))
+loop-again c =
+    let loop = c .before .before .before .loop in
+    (search needs, every-again keyOk _ (loop .i) (search needs) (answered-yes _ _ (c .before .key-ok .ensures) (c .if1 .left)) (loop .inv .1))
 
 returns-2 : tie.Need-returns-2 Inv-loop μ-loop
 unfolding keysOk

@@ -1,13 +1,8 @@
 -- `settings::steps_in` meets its contract.
 use borrow.Author.Needs.{needs}
+use Rattle.lists.proofs.Choices.{choices}
 use Rattle.settings.proofs.steps_in.Statement.{statement}
 use Rattle.settings.proofs.steps_in.Tie as tie
-
-returns : tie.Need-returns
-returns c = rw (c .if1 .taken)
-
-returns-2 : tie.Need-returns-2
-returns-2 c = rw (c .if1 .left)
 
 pub steps-in-spec : {M : Type 1} → statement M
 steps-in-spec =
@@ -16,9 +11,9 @@ steps-in-spec =
     (λ c. search needs)
     (λ c. search needs)
     (λ c. search needs)
-    returns
+    (λ c. search choices)
     (λ c. search needs)
     (λ c. search needs)
     (λ c. search needs)
     (λ c. search needs)
-    returns-2)
+    (λ c. search choices))

@@ -14,18 +14,22 @@ returns c = rw (← c .before .send-no .ensures, ne-eqb (c .before .send-no .res
 
 write-message-requires : tie.Need-write-message-requires
 write-message-requires c κs =
-    let ready = send-ready keyCount (c .before .before .before .before .before .before .args .side) (c .before .before .before .before .before .before .args .work .now) (c .before .before .before .before .before .before .args .out .now) (sym (c .before .before .send-no .ensures) ∙ c .before .if1 .left) in
+    let a = c .before .before .before .before .before .before .args in
+    let ready = send-ready keyCount (a .side) (a .work .now) (a .out .now) (sym (c .before .before .send-no .ensures) ∙ c .before .if1 .left) in
     (ready .kept, (ready .exact, ready .below, ready .room))
 
 sent-side-requires : tie.Need-sent-side-requires
 sent-side-requires c κs =
-    send-ready keyCount (c .before .before .before .before .before .before .before .before .before .args .side) (c .before .before .before .before .before .before .before .before .before .args .work .now) (c .before .before .before .before .before .before .before .before .before .args .out .now) (sym (c .before .before .before .before .before .send-no .ensures) ∙ c .before .before .before .before .if1 .left) .kept
+    let a = c .before .before .before .before .before .before .before .before .before .args in
+    send-ready keyCount (a .side) (a .work .now) (a .out .now) (sym (c .before .before .before .before .before .send-no .ensures) ∙ c .before .before .before .before .if1 .left) .kept
 
 returns-2 : tie.Need-returns-2
 unfolding sendCall
 returns-2 c =
-    rw (← c .before .before .before .before .before .before .send-no .ensures, eq-eqb (c .before .before .before .before .before .before .send-no .result) 0 (c .before .before .before .before .before .if1 .left))
-    (after-same (c .before .before .before .write-message .ensures .0) (c .sent-side .ensures) (c .before .before .before .write-message .ensures .1))
+    let send-no = c .before .before .before .before .before .before .send-no in
+    let write-message = c .before .before .before .write-message in
+    rw (← send-no .ensures, eq-eqb (send-no .result) 0 (c .before .before .before .before .before .if1 .left))
+    (after-same (write-message .ensures .0) (c .sent-side .ensures) (write-message .ensures .1))
 
 pub send-spec : {M : Type 1} → statement M
 send-spec =

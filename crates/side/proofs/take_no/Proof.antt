@@ -1,9 +1,8 @@
 -- `side::take_no` meets its contract.
 use borrow.Author.Needs.{needs}
 use mathlib.Core.Path.{sym, _∙_}
-use lib.ListN.{length}
-use borrow.Author.Tests.{eq-eqb, ne-eqb, not-true, not-false}
-use Rattle.lists.specs.Answers.{ask}
+use borrow.Author.Tests.{not-false}
+use Rattle.lists.proofs.Questions.{walk}
 use Rattle.state.proofs.States.{due-whole}
 use Rattle.side.specs.Work.{takeDoor}
 use Rattle.side.proofs.Taking.{whole-fits}
@@ -11,26 +10,31 @@ use Rattle.side.proofs.take_no.Statement.{statement}
 use Rattle.side.proofs.take_no.Tie as tie
 
 returns : tie.Need-returns
-unfolding takeDoor ask
-returns c = rw (sym (c .before .take-due .ensures) ∙ not-true _ (c .if1 .taken))
+unfolding takeDoor
+returns c = search walk
 
 returns-2 : tie.Need-returns-2
-unfolding takeDoor ask
-returns-2 c = rw (sym (c .before .before .take-due .ensures) ∙ not-false _ (c .before .if1 .left), ne-eqb (length (c .before .before .before .before .before .args .work .now)) _ (c .if2 .taken))
+unfolding takeDoor
+returns-2 c = search walk
 
 returns-3 : tie.Need-returns-3
-unfolding takeDoor ask
-returns-3 c = rw (sym (c .before .before .before .before .take-due .ensures) ∙ not-false _ (c .before .before .before .if1 .left), eq-eqb (length (c .before .before .before .before .before .before .before .args .work .now)) _ (c .before .before .if2 .left), sym (c .before .all-below-q .ensures) ∙ not-true _ (c .if3 .taken))
+unfolding takeDoor
+returns-3 c = search walk depth 8
 
 due-header-requires : tie.Need-due-header-requires
-due-header-requires c κs = due-whole (c .before .before .before .before .before .before .before .args .side) (sym (c .before .before .before .before .take-due .ensures) ∙ not-false _ (c .before .before .before .if1 .left)) .side2
+due-header-requires c κs =
+    due-whole (c .before .before .before .before .before .before .before .args .side)
+    (sym (c .before .before .before .before .take-due .ensures) ∙ not-false _ (c .before .before .before .if1 .left)) .side2
 
 form-no-requires : tie.Need-form-no-requires
-form-no-requires c κs = rw (c .due-header .ensures) (whole-fits (c .before .before .before .before .before .before .before .before .args .side) (due-whole (c .before .before .before .before .before .before .before .before .args .side) (sym (c .before .before .before .before .before .take-due .ensures) ∙ not-false _ (c .before .before .before .before .if1 .left))))
+form-no-requires c κs =
+    let a = c .before .before .before .before .before .before .before .before .args in
+    rw (c .due-header .ensures) (whole-fits (a .side) (due-whole (a .side)
+    (sym (c .before .before .before .before .before .take-due .ensures) ∙ not-false _ (c .before .before .before .before .if1 .left))))
 
 returns-4 : tie.Need-returns-4
-unfolding takeDoor ask
-returns-4 c = rw (sym (c .before .before .before .before .before .before .take-due .ensures) ∙ not-false _ (c .before .before .before .before .before .if1 .left), eq-eqb (length (c .before .before .before .before .before .before .before .before .before .args .work .now)) _ (c .before .before .before .before .if2 .left), sym (c .before .before .before .all-below-q .ensures) ∙ not-false _ (c .before .before .if3 .left), ← c .before .due-header .ensures) (c .form-no .ensures)
+unfolding takeDoor
+returns-4 c = rw (← c .before .due-header .ensures) (search walk depth 8)
 
 pub take-no-spec : {M : Type 1} → statement M
 take-no-spec =

@@ -21,8 +21,12 @@ loop-holds c = (omega arith, omega arith, part-none _ _, omega arith)
 loop-again : tie.Need-loop-again Inv-loop μ-loop
 loop-again c =
     let loop = c .before .before .loop in
-    let a = c .before .before .before .before .args in
-    (omega arith, omega arith, part-next (a .from) (loop .j) (loop .total) _ (λ (i : ℕ). column (a .work .now) (a .col) (a .place + i)) (loop .inv .0) (loop .inv .2) (c .register .ensures), omega arith)
+    let a = c .before .before .before .before .args in (
+      omega arith,
+      omega arith,
+      part-next (a .from) (loop .j) (loop .total) _ (λ (i : ℕ). column (a .work .now) (a .col) (a .place + i)) (loop .inv .0) (loop .inv .2) (c .register .ensures),
+      omega arith,
+    )
 
 returns : tie.Need-returns Inv-loop μ-loop
 returns c =

@@ -4,9 +4,10 @@ use mathlib.Core.Path.{sym, ap, ap₂, _∙_}
 use native.Mathlib.Omega.{arith}
 use borrow.Author.Needs.{needs}
 use Rattle.field.specs.Field.{q, sub, mul}
+use Rattle.field.proofs.Differences.{reduced-difference}
 use Rattle.slice.specs.Layout.{column}
 use Rattle.slice.specs.Weights.{weigh}
-use Rattle.slice.proofs.Ranges.{carry-raised, zero-sum, reduced-difference, top-raised, over-raised, below-raised}
+use Rattle.slice.proofs.Ranges.{carry-raised, zero-sum, top-raised, over-raised, below-raised}
 use Rattle.slice.proofs.raised_by.Statement.{statement}
 use Rattle.slice.proofs.raised_by.Tie as tie
 

@@ -20,7 +20,8 @@ returns : tie.Need-returns
 returns c κ =
     let a = c .before .before .before .before .before .args in
     rw (c .before .before .enum-told .given .1)
-    (c .part-sum .ensures ∙ rw (c .before .less-by .ensures) (ap (λ (x : ℕ). x % q) (sym (carry-sum (a .terms .n) (a .terms .limit) (a .terms .digit) (λ (j : ℕ). column (a .work .now) (a .col) (a .terms .place + j))))))
+    (c .part-sum .ensures ∙ rw (c .before .less-by .ensures) (ap (λ (x : ℕ). x % q)
+    (sym (carry-sum (a .terms .n) (a .terms .limit) (a .terms .digit) (λ (j : ℕ). column (a .work .now) (a .col) (a .terms .place + j))))))
 
 returns-2 : tie.Need-returns-2
 returns-2 c κ =
@@ -29,7 +30,8 @@ returns-2 c κ =
     let z = c .before .before .before .before .before .pre .1 told in
     let entry = c .before .zero-entry in
     rw (told, z .0)
-    (ap (λ (x : ℕ). x % q) (c .register .ensures ∙ sym (zero-sum (a .terms .limit) (a .terms .digit) (entry .result) (z .1) (entry .ensures .0) (λ (j : ℕ). column (a .work .now) (a .col) (a .terms .place + j)) (entry .ensures .1))))
+    (ap (λ (x : ℕ). x % q) (c .register .ensures ∙ sym (zero-sum (a .terms .limit) (a .terms .digit) (entry .result) (z .1) (entry .ensures .0)
+    (λ (j : ℕ). column (a .work .now) (a .col) (a .terms .place + j)) (entry .ensures .1))))
 
 returns-3 : tie.Need-returns-3
 unfolding weigh
@@ -39,13 +41,15 @@ returns-4 : tie.Need-returns-4
 returns-4 c κ =
     let a = c .before .before .before .before .before .args in
     rw (c .before .before .enum-told4 .given .1)
-    (c .part-sum2 .ensures ∙ rw (c .before .less-by2 .ensures) (ap (λ (x : ℕ). x % q) (sym (over-sum (a .terms .n) (a .terms .limit) (a .terms .digit) (λ (j : ℕ). column (a .work .now) (a .col) (a .terms .place + j))))))
+    (c .part-sum2 .ensures ∙ rw (c .before .less-by2 .ensures) (ap (λ (x : ℕ). x % q)
+    (sym (over-sum (a .terms .n) (a .terms .limit) (a .terms .digit) (λ (j : ℕ). column (a .work .now) (a .col) (a .terms .place + j))))))
 
 returns-5 : tie.Need-returns-5
 returns-5 c κ =
     let a = c .before .before .before .before .before .args in
     rw (c .before .before .enum-told5 .given .1)
-    (c .part-sum3 .ensures ∙ rw (c .before .least .ensures .0) (ap (λ (x : ℕ). x % q) (sym (below-sum (a .terms .n) (a .terms .limit) (a .terms .digit) (λ (j : ℕ). column (a .work .now) (a .col) (a .terms .place + j))))))
+    (c .part-sum3 .ensures ∙ rw (c .before .least .ensures .0) (ap (λ (x : ℕ). x % q)
+    (sym (below-sum (a .terms .n) (a .terms .limit) (a .terms .digit) (λ (j : ℕ). column (a .work .now) (a .col) (a .terms .place + j))))))
 
 pub weighted-sum-spec : {M : Type 1} → statement M
 weighted-sum-spec =
@@ -69,7 +73,6 @@ weighted-sum-spec =
     (λ c. search needs)
     (λ c. search needs)
     (λ c κs. search needs)
-    (λ c. search needs)
     (λ c κs. search needs)
     returns
     returns-2

@@ -17,12 +17,13 @@ rounds-taken-requires c κs = whole-fields (c .before .before .args .side) (sym 
 openings-up-to-requires : tie.Need-openings-up-to-requires
 openings-up-to-requires c κs =
     let fields = whole-fields (c .before .before .before .args .side) (sym (c .before .before .is-whole .ensures) ∙ not-false _ (c .before .if1 .left)) in
-    (fields .ready .most, c .rounds-taken .ensures .1)
+    (fields .ready .shape .most, c .rounds-taken .ensures .1)
 
 returns-2 : tie.Need-returns-2
 unfolding countCall
 returns-2 c =
-    rw (← c .before .before .before .is-whole .ensures, not-false (c .before .before .before .is-whole .result) (c .before .before .if1 .left), ← c .before .rounds-taken .ensures .0) (c .openings-up-to .ensures)
+    let is-whole = c .before .before .before .is-whole in
+    rw (← is-whole .ensures, not-false (is-whole .result) (c .before .before .if1 .left), ← c .before .rounds-taken .ensures .0) (c .openings-up-to .ensures)
 
 pub opening-count-spec : {M : Type 1} → statement M
 opening-count-spec = tie.close (tie.spec (λ c κs. search needs) returns rounds-taken-requires openings-up-to-requires returns-2)

@@ -1,14 +1,14 @@
 -- `state::run_finished` meets its contract.
 use borrow.Author.Needs.{needs}
-use mathlib.Core.Path.{_∙_, sym, ap}
-use borrow.Author.Tests.{not-true, not-false}
+use borrow.Author.Tests.{not-false}
+use Rattle.lists.proofs.Questions.{walk}
 use Rattle.state.specs.State.{finished}
 use Rattle.state.proofs.run_finished.Statement.{statement}
 use Rattle.state.proofs.run_finished.Tie as tie
 
 returns : tie.Need-returns
 unfolding finished
-returns c = rw (← c .before .is-whole .ensures, not-true (c .before .is-whole .result) (c .if1 .taken))
+returns c = search walk
 
 returns-2 : tie.Need-returns-2
 unfolding finished

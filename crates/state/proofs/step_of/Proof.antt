@@ -14,8 +14,9 @@ returns c = (rw (← c .before .is-finished .ensures, c .if1 .taken), omega arit
 returns-2 : tie.Need-returns-2
 unfolding stepOf
 returns-2 c =
-    let e : c .steps-in .result ≡ stepOf (c .before .before .before .before .args .side) = rw (← c .before .before .before .is-finished .ensures, c .before .before .if1 .left, ← c .before .is-sending .ensures) (c .steps-in .ensures) in
-    (e, rw e (step-most (c .before .before .before .before .args .side) (c .before .before .before .before .pre)))
+    let a = c .before .before .before .before .args in
+    let e : c .steps-in .result ≡ stepOf (a .side) = rw (← c .before .before .before .is-finished .ensures, c .before .before .if1 .left, ← c .before .is-sending .ensures) (c .steps-in .ensures) in
+    (e, rw e (step-most (a .side) (c .before .before .before .before .pre)))
 
 pub step-of-spec : {M : Type 1} → statement M
 step-of-spec =

@@ -7,7 +7,13 @@ use Rattle.steps.proofs.addend_value.Tie as tie
 
 returns : tie.Need-returns
 unfolding addend
-returns c = λ κ. rw (eq-eqb _ _ (c .before .before .before .before .before .if1 .taken), eq-eqb _ _ (c .before .before .before .if2 .taken), ← c .before .before .before .before .before .before .before .vector-sum .ensures κ, ← c .before .register .ensures) (c .add-mod .ensures)
+returns c =
+    λ κ. rw (
+      eq-eqb _ _ (c .before .before .before .before .before .if1 .taken),
+      eq-eqb _ _ (c .before .before .before .if2 .taken),
+      ← c .before .before .before .before .before .before .before .vector-sum .ensures κ,
+      ← c .before .register .ensures,
+    ) (c .add-mod .ensures)
 
 returns-2 : tie.Need-returns-2
 unfolding addend

@@ -7,7 +7,13 @@ use Rattle.steps.proofs.after_check.Tie as tie
 
 returns : tie.Need-returns
 unfolding afterCheck
-returns c = λ κ. rw (eq-eqb _ _ (c .before .before .before .before .before .if1 .taken), eq-eqb _ _ (c .before .before .before .if2 .taken), ← c .before .before .check-entry .ensures κ, ← c .before .register .ensures) (c .sub-mod .ensures)
+returns c =
+    λ κ. rw (
+      eq-eqb _ _ (c .before .before .before .before .before .if1 .taken),
+      eq-eqb _ _ (c .before .before .before .if2 .taken),
+      ← c .before .before .check-entry .ensures κ,
+      ← c .before .register .ensures,
+    ) (c .sub-mod .ensures)
 
 returns-2 : tie.Need-returns-2
 unfolding afterCheck

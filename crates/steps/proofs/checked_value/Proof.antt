@@ -8,7 +8,13 @@ use Rattle.steps.proofs.checked_value.Tie as tie
 
 returns : tie.Need-returns
 unfolding checked
-returns c = rw (← c .before .before .before .before .before .group-k .ensures .0, eq-eqb _ _ (c .before .before .if1 .taken), ← c .before .before .before .before .mul-mod .ensures, ← c .before .register .ensures) (c .sub-mod .ensures)
+returns c =
+    rw (
+      ← c .before .before .before .before .before .group-k .ensures .0,
+      eq-eqb _ _ (c .before .before .if1 .taken),
+      ← c .before .before .before .before .mul-mod .ensures,
+      ← c .before .register .ensures,
+    ) (c .sub-mod .ensures)
 
 insides-value-requires : tie.Need-insides-value-requires
 insides-value-requires c κs =
@@ -17,7 +23,13 @@ insides-value-requires c κs =
 
 returns-2 : tie.Need-returns-2
 unfolding checked
-returns-2 c = rw (← c .before .before .before .before .before .before .group-k .ensures .0, ne-eqb _ _ (c .before .before .before .if1 .left), ← c .before .before .before .before .before .mul-mod .ensures, ← c .before .insides-value .ensures) (c .sub-mod2 .ensures)
+returns-2 c =
+    rw (
+      ← c .before .before .before .before .before .before .group-k .ensures .0,
+      ne-eqb _ _ (c .before .before .before .if1 .left),
+      ← c .before .before .before .before .before .mul-mod .ensures,
+      ← c .before .insides-value .ensures,
+    ) (c .sub-mod2 .ensures)
 
 pub checked-value-spec : {M : Type 1} → statement M
 checked-value-spec =

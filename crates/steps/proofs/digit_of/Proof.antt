@@ -8,7 +8,12 @@ use Rattle.steps.proofs.digit_of.Tie as tie
 returns : tie.Need-returns
 returns c =
     let a = c .before .before .before .before .before .args in
-    (rw (c .entry .ensures, c .before .split-number .ensures, c .before .before .before .looked-at .ensures), rw (c .entry .ensures, c .before .split-number .ensures) (digit-small (a .settings .shape .set) (c .before .before .before .looked-at .result) (a .gate .i) (omega arith) (omega arith) (omega arith)))
+    let split-number = c .before .split-number in
+    let looked-at = c .before .before .before .looked-at in (
+      rw (c .entry .ensures, split-number .ensures, looked-at .ensures),
+      rw (c .entry .ensures, split-number .ensures)
+          (digit-small (a .settings .shape .set) (looked-at .result) (a .gate .i) (omega arith) (omega arith) (omega arith)),
+    )
 
 pub digit-of-spec : {M : Type 1} → statement M
 digit-of-spec =

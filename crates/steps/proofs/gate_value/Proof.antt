@@ -8,7 +8,16 @@ returns : tie.Need-returns
 unfolding gateResult
 returns c =
     let κ = c .before .before .before .before .before .before .before .before .before .before .args .col .weight in
-    rw (← c .before .before .before .before .before .before .before .before .triple-of .ensures .0, ← c .before .before .before .before .before .before .before .addend-value .ensures κ, ← c .before .before .before .before .before .before .v-value .ensures κ, ← c .before .before .before .before .before .u-value .ensures κ, ← c .before .before .before .before .register .ensures, ← c .before .before .before .combine .ensures, ← c .before .before .mul-mod .ensures, ← c .before .mul-mod2 .ensures) (c .sub-mod .ensures)
+    rw (
+      ← c .before .before .before .before .before .before .before .before .triple-of .ensures .0,
+      ← c .before .before .before .before .before .before .before .addend-value .ensures κ,
+      ← c .before .before .before .before .before .before .v-value .ensures κ,
+      ← c .before .before .before .before .before .u-value .ensures κ,
+      ← c .before .before .before .before .register .ensures,
+      ← c .before .before .before .combine .ensures,
+      ← c .before .before .mul-mod .ensures,
+      ← c .before .mul-mod2 .ensures,
+    ) (c .sub-mod .ensures)
 
 pub gate-value-spec : {M : Type 1} → statement M
 gate-value-spec =

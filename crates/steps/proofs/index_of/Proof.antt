@@ -3,7 +3,6 @@ use Rattle.settings.specs.Settings.{paramsOf}
 use Prim.Native.Nat.{_/_, _≤_}
 use Rattle.book.specs.Book.{groupK}
 use native.Mathlib.Omega.{arith}
-use mathlib.Core.Path.{ap}
 use Rattle.steps.proofs.Bounds.{group-k-most, index-small}
 use borrow.Author.Needs.{needs}
 use Rattle.steps.proofs.index_of.Statement.{statement}

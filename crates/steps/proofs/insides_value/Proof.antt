@@ -26,7 +26,7 @@ unfolding insides
 loop-again c = (omega arith, rw (add-one, ← c .before .inside-value .ensures, ← c .before .before .before .before .loop .inv .1) (c .add-mod .ensures))
 
 returns : tie.Need-returns Inv-loop μ-loop
-returns c = let e : c .before .loop .c ≡ c .before .before .before .before .args .m = omega arith in rw (← e) (c .before .loop .inv .1)
+returns c = let e : c .before .loop .j ≡ c .before .before .before .before .args .m = omega arith in rw (← e) (c .before .loop .inv .1)
 
 pub insides-value-spec : {M : Type 1} → statement M
 insides-value-spec =

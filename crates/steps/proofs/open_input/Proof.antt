@@ -6,7 +6,15 @@ use Rattle.steps.proofs.open_input.Tie as tie
 
 returns : tie.Need-returns
 unfolding openInput
-returns c = rw (← c .before .before .before .before .before .before .shift-of .ensures, ← c .before .before .before .before .before .mask-at .ensures .0, ← c .before .before .before .before .register .ensures, ← c .before .register2 .ensures, ← c .before .before .before .mul-mod .ensures, ← c .before .before .add-mod .ensures) (c .sub-mod .ensures)
+returns c =
+    rw (
+      ← c .before .before .before .before .before .before .shift-of .ensures,
+      ← c .before .before .before .before .before .mask-at .ensures .0,
+      ← c .before .before .before .before .register .ensures,
+      ← c .before .register2 .ensures,
+      ← c .before .before .before .mul-mod .ensures,
+      ← c .before .before .add-mod .ensures,
+    ) (c .sub-mod .ensures)
 
 pub open-input-spec : {M : Type 1} → statement M
 open-input-spec =

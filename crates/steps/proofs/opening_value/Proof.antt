@@ -34,13 +34,17 @@ returns-2 : tie.Need-returns-2
 unfolding opening
 returns-2 c =
     let a = c .before .before .before .before .before .args in
-    rw (ne-eqb _ _ (c .before .before .before .if1 .left), le-leb _ _ (c .before .before .if2 .taken), ← open-factor-at (a .known .settings) (λ (j : ℕ). getD (a .known .masked) j 0) (a .o / 4) (a .known .round - 1) (a .o / 2 % 2) (a .o % 2)) (c .open-factor .ensures _)
+    rw (
+      ne-eqb _ _ (c .before .before .before .if1 .left),
+      le-leb _ _ (c .before .before .if2 .taken),
+      ← open-factor-at (a .known .settings) (λ (j : ℕ). getD (a .known .masked) j 0) (a .o / 4) (a .known .round - 1) (a .o / 2 % 2) (a .o % 2),
+    ) (c .open-factor .ensures _)
 
 open-check-requires : tie.Need-open-check-requires
 open-check-requires c κs =
     let a = c .before .before .before .before .args in
     let p = c .before .before .before .before .pre in
-    (p .0, omega (arith, open-late (paramsOf (a .known .settings .shape)) (a .known .round) (c .before .before .if1 .left) (c .before .if2 .left) (p .0 .some)))
+    (p .0, omega (arith, open-late (paramsOf (a .known .settings .shape)) (a .known .round) (c .before .before .if1 .left) (c .before .if2 .left) (p .0 .shape .some)))
 
 returns-3 : tie.Need-returns-3
 unfolding opening
@@ -49,12 +53,12 @@ returns-3 c = rw (ne-eqb _ _ (c .before .before .before .if1 .left), lt-leb _ _ 
 add-register : tie.Need-add-register
 add-register c =
     let a = c .before .before .before .before .args in
-    omega (arith, open-late (paramsOf (a .known .settings .shape)) (a .known .round) (c .before .before .if1 .left) (c .before .if2 .left) (c .before .before .before .before .pre .0 .some))
+    omega (arith, open-late (paramsOf (a .known .settings .shape)) (a .known .round) (c .before .before .if1 .left) (c .before .if2 .left) (c .before .before .before .before .pre .0 .shape .some))
 
 register-requires : tie.Need-register-requires
 register-requires c κs =
     let a = c .before .before .before .before .args in
-    omega (arith, open-late (paramsOf (a .known .settings .shape)) (a .known .round) (c .before .before .if1 .left) (c .before .if2 .left) (c .before .before .before .before .pre .0 .some))
+    omega (arith, open-late (paramsOf (a .known .settings .shape)) (a .known .round) (c .before .before .if1 .left) (c .before .if2 .left) (c .before .before .before .before .pre .0 .shape .some))
 
 returns-4 : tie.Need-returns-4
 unfolding opening

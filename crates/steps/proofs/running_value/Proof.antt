@@ -15,7 +15,7 @@ returns : tie.Need-returns
 unfolding running
 returns c =
     let a = c .before .before .before .before .before .args in
-    rw (eq-eqb _ _ (c .before .if1 .taken), ← vector-sum-at (a .known .settings) (λ (j : ℕ). getD (a .known .masked) j 0) (a .c) 0 (a .k) 0) (c .vector-sum .ensures _)
+    rw (eq-eqb _ _ (c .before .if1 .taken), ← vector-sum-at (a .known .settings) (λ (j : ℕ). getD (a .known .masked) j 0) (a .j) 0 (a .which) 0) (c .vector-sum .ensures _)
 
 shared-slice-read-e : tie.Need-shared-slice-read-e
 shared-slice-read-e c =
@@ -34,17 +34,24 @@ returns-2 : tie.Need-returns-2
 unfolding running
 returns-2 c =
     let a = c .before .before .before .before .before .before .before .before .args in
-    rw (ne-eqb _ _ (c .before .before .before .before .if1 .left), le-leb _ _ (c .before .before .before .if2 .taken), ← gate-result-at (a .known .settings) (λ (j : ℕ). getD (a .known .masked) j 0) (a .c) (a .known .round - 1) (a .k) _ _) (c .gate-value .ensures)
+    rw (
+      ne-eqb _ _ (c .before .before .before .before .if1 .left),
+      le-leb _ _ (c .before .before .before .if2 .taken),
+      ← gate-result-at (a .known .settings) (λ (j : ℕ). getD (a .known .masked) j 0) (a .j) (a .known .round - 1) (a .which) _ _,
+    ) (c .gate-value .ensures)
 
 mul-x : tie.Need-mul-x
 mul-x c =
     let a = c .before .before .before .before .before .before .before .args in
-    let p = check-in (paramsOf (a .known .settings .shape)) (a .known .round) (a .c) (c .before .before .before .if1 .left) (c .before .before .if2 .left) (omega arith) in omega (arith, p, c .group-of .ensures)
+    let p = check-in (paramsOf (a .known .settings .shape)) (a .known .round) (a .j) (c .before .before .before .if1 .left) (c .before .before .if2 .left) (omega arith) in
+    omega (arith, p, c .group-of .ensures)
 
 shared-slice-read-x : tie.Need-shared-slice-read-x
 shared-slice-read-x c =
     let a = c .before .before .before .before .before .before .before .before .args in
-    let p = check-in (paramsOf (a .known .settings .shape)) (a .known .round) (a .c) (c .before .before .before .before .if1 .left) (c .before .before .before .if2 .left) (omega arith) in omega (arith, p, c .before .group-of .ensures)
+    let p = check-in (paramsOf (a .known .settings .shape)) (a .known .round) (a .j) (c .before .before .before .before .if1 .left)
+    (c .before .before .before .if2 .left) (omega arith) in
+    omega (arith, p, c .before .group-of .ensures)
 
 after-check-requires : tie.Need-after-check-requires
 after-check-requires c κs =
@@ -55,7 +62,12 @@ returns-3 : tie.Need-returns-3
 unfolding running
 returns-3 c =
     let a = c .before .before .before .before .before .before .before .before .before .args in
-    rw (ne-eqb _ _ (c .before .before .before .before .before .if1 .left), lt-leb _ _ (c .before .before .before .before .if2 .left), eq-eqb _ _ (c .before .before .before .if3 .taken), ← c .before .before .group-of .ensures) (c .after-check .ensures (a .col .weight))
+    rw (
+      ne-eqb _ _ (c .before .before .before .before .before .if1 .left),
+      lt-leb _ _ (c .before .before .before .before .if2 .left),
+      eq-eqb _ _ (c .before .before .before .if3 .taken),
+      ← c .before .before .group-of .ensures,
+    ) (c .after-check .ensures (a .col .weight))
 
 returns-4 : tie.Need-returns-4
 unfolding running

@@ -14,7 +14,11 @@ returns c = λ κ. rw (eq-eqb _ _ (c .before .before .if1 .taken)) (c .register 
 register-requires-2 : tie.Need-register-requires-2
 register-requires-2 c κs =
     let a = c .before .before .before .before .before .before .args in
-    (c .before .before .before .before .before .before .pre .1 .0, omega (arith, vector-room (a .settings .shape) (a .gate .c) (a .gate .i) (omega arith) (omega arith) (omega arith) (omega arith), threshold-digit (a .settings .shape .set) (a .settings .shape .kind) (a .settings .bound) (a .gate .k) _ (a .gate .i) (c .before .digit-of .result) (omega arith) (omega arith) (c .before .before .if1 .left) (c .before .digit-of .ensures .0), c .vector-at .ensures))
+    let digit-of = c .before .digit-of in
+    let room = vector-room (a .settings .shape) (a .gate .j) (a .gate .i) (omega arith) (omega arith) (omega arith) (omega arith) in
+    let small = threshold-digit (a .settings .shape .set) (a .settings .shape .kind) (a .settings .bound) (a .gate .which) _ (a .gate .i) (digit-of .result)
+    (omega arith) (omega arith) (c .before .before .if1 .left) (digit-of .ensures .0) in
+    (c .before .before .before .before .before .before .pre .1 .0, omega (arith, room, small, c .vector-at .ensures))
 
 returns-2 : tie.Need-returns-2
 unfolding factorU

@@ -1,18 +1,18 @@
--- `opening::load` meets its contract.
+-- `slice::load` meets its contract.
 use borrow.Author.Needs.{needs}
-use mathlib.Core.Path.{_≡_, refl, sym, ap, _∙_}
+use mathlib.Core.Path.{_≡_, refl, sym}
 use Prim.Native.Nat.{ℕ, _≤_, _-_, _+_, _*_}
 use native.Mathlib.Omega.{arith}
 use lib.ListN.{length, getD, length-set}
 use Rattle.lists.specs.Lists.{fill}
 use Rattle.lists.proofs.Fill.{fill-none, fill-more}
-use Rattle.settings.specs.Sizes.{keyCount, widthOf}
-use Rattle.opening.proofs.load.Statement.{statement}
-use Rattle.opening.proofs.load.Tie as tie
+use Rattle.settings.specs.Sizes.{width}
+use Rattle.slice.proofs.load.Statement.{statement}
+use Rattle.slice.proofs.load.Tie as tie
 
 abbrev Inv-loop : tie.InvT-loop
 Inv-loop work₀ at from column count i₀ work i =
-    (i ≤ count) × (work ≡ fill work₀ at i (λ (j : ℕ). getD from (j * widthOf keyCount + column) 0)) × (length work ≡ length work₀)
+    (i ≤ count) × (work ≡ fill work₀ at i (λ (j : ℕ). getD from (j * width + column) 0)) × (length work ≡ length work₀)
 
 abbrev μ-loop : tie.MeasureT-loop
 μ-loop work₀ at from column count i₀ work i = count - i
@@ -28,4 +28,5 @@ returns c =
 pub load-spec : {M : Type 1} → statement M
 load-spec =
     tie.close
-    (tie.spec Inv-loop μ-loop (λ c. (omega arith, sym (fill-none _ _ _), refl)) (λ c. omega arith) (λ c. omega arith) (λ c. omega arith) (λ c. omega arith) (λ c. omega arith) (λ c. omega arith) (λ c. omega arith) (λ c. omega arith) (λ c. omega arith) loop-again (λ c. search needs) returns)
+    (tie.spec Inv-loop μ-loop (λ c. (omega arith, sym (fill-none _ _ _), refl)) (λ c. omega arith) (λ c. omega arith) (λ c. omega arith) (λ c. omega arith) (λ c. omega arith) (λ c. omega arith)
+    (λ c. omega arith) (λ c. omega arith) (λ c. omega arith) loop-again (λ c. search needs) returns)

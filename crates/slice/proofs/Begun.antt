@@ -2,13 +2,12 @@
 use mathlib.Core.Path.{_≡_, _∙_}
 use mathlib.Core.List.{List}
 use Prim.Native.Nat.{ℕ, _+_, _*_, _<_}
-use native.Mathlib.Omega.{arith}
 use lib.ListN.{length, getD}
 use Rattle.lists.specs.Lists.{listTo}
 use Rattle.lists.proofs.Lists.{length-listFrom, getD-listTo, ahead, ahead-fixed, join-at}
 use Rattle.settings.specs.Settings.{Params}
 use Rattle.settings.specs.Sizes.{shared, places}
 use Rattle.slice.specs.Layout.{begunPlace, begunWork}
 
 module _ (p : Params) (width : ℕ) (inputs book : List ℕ) where
   abbrev begunColumn : ℕ → List ℕ

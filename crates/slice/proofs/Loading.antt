@@ -1,21 +1,21 @@
 -- A cleared slice with book and inputs loaded column by column is the slice that begin sets.
-use mathlib.Core.Path.{_≡_, refl, sym, ap, _∙_}
+use mathlib.Core.Path.{_≡_, refl, sym, _∙_}
 use mathlib.Core.List.{List}
-use mathlib.Core.Bool.{Bool, true, false, cond, _&&_}
+use mathlib.Core.Bool.{cond, _&&_}
 use Prim.Native.Nat.{ℕ, zero, suc, _+_, _*_, _-_, _/_, _%_, _≤_, _<_}
 use native.Mathlib.Decide.{decLt, decLe}
 use native.Mathlib.Omega.{arith}
 use lib.Dec.{ltb, leb}
-use lib.ListN.{length, getD, List·getD-eq-default}
+use lib.ListN.{length, getD}
 use lib.Seq.{ext-getD}
 use borrow.Author.Tests.{lt-ltb, le-ltb, le-leb, lt-leb}
 use Rattle.lists.specs.Lists.{fill}
-use Rattle.lists.proofs.Fill.{length-fill, fill-at, fill-before, fill-behind, front-at}
+use Rattle.lists.proofs.Fill.{length-fill, fill-at, fill-before, fill-behind}
 use Rattle.settings.specs.Sizes.{shared, places}
 use Rattle.settings.specs.Settings.{Params}
 use Rattle.slice.specs.Layout.{inputAt, begunPlace, begunWork}
-use Rattle.column.proofs.Begun.{begun-length, begun-at}
-use Rattle.opening.specs.Work.{loaded}
+use Rattle.slice.proofs.Begun.{begun-length, begun-at}
+use Rattle.slice.specs.Loading.{loaded}
 
 module _ (count n width : ℕ) (inputs book work : List ℕ) where
   pub length-loaded : (m : ℕ) → length (loaded count n width inputs book work m) ≡ length work
@@ -104,11 +104,3 @@ loaded-begun p width inputs book work room most exact clear =
   where
     count : ℕ
     count = shared p
-
--- a cleared slice
-pub cleared-at : (s : List ℕ) (j : ℕ) → getD (fill s 0 (length s) (λ (i : ℕ). 0)) j 0 ≡ 0
-cleared-at s j = go (decLt j (length s))
-  where
-    go : Dec (j < length s) → getD (fill s 0 (length s) (λ (i : ℕ). 0)) j 0 ≡ 0
-    go (yes h) = front-at s (length s) (λ (i : ℕ). 0) j (omega arith) h
-    go (no h) = List·getD-eq-default (fill s 0 (length s) (λ (i : ℕ). 0)) 0 (omega (arith, length-fill s 0 (length s) (λ (i : ℕ). 0)))
