@@ -22,7 +22,7 @@ use Rattle.execution.specs.declared.Execution.{Execution}
 use Rattle.execution.specs.declared.SendStep.{SendStep}
 use Rattle.execution.specs.declared.CallKind.the-variants.{Begin, Send, Take}
 use Rattle.execution.specs.Execution.{messageRoom, refusalOf, Carried, outcomeAt, carry, carryAll, roundCalls}
-use Rattle.execution.specs.Held.{partyOf, carriedOf, Stands, Fits, ServerBegins, PhoneBegins, SendsAt, ServerSends, PhoneSends, PhoneTakes, ServerTakes, Played}
+use Rattle.execution.specs.Held.{partyOf, carriedOf, Stands, Fits, ServerBegins, PhoneBegins, SendsAt, ServerSends, PhoneSends, PhoneTakes, ServerTakes, RoundsRun}
 use Rattle.execution.proofs.Messages.{latest-kept}
 
 -- a run by its parts
@@ -211,12 +211,12 @@ drop-later m n l k h e =
     rw (← f, ← drop-drop (n - m) m l, ← drop-drop (n - m) m k, e)
 
 -- a round from its four calls
-pub round-played : (x a b c r : Execution) (server phone bytes phone′ bytes′ bytes″ server′ : List ℕ)
+pub round-run : (x a b c r : Execution) (server phone bytes phone′ bytes′ bytes″ server′ : List ℕ)
     → ServerSends x server bytes a bytes′ → PhoneTakes a phone bytes′ b phone′ → PhoneSends b phone′ bytes′ c bytes″ → ServerTakes c server bytes″ r server′
     → (bytes‴ : List ℕ) → bytes‴ ≡ bytes″
-    → Played 1 x server phone bytes r server′ phone′ bytes‴
+    → RoundsRun 1 x server phone bytes r server′ phone′ bytes‴
 unfolding carryAll
-round-played x a b c r server phone bytes phone′ bytes′ bytes″ server′ one two three four bytes‴ e =
+round-run x a b c r server phone bytes phone′ bytes′ bytes″ server′ one two three four bytes‴ e =
     record {
       is = same;
       fits = λ more f. rw e (four .fits more (three .fits more (two .fits (1 + more) (one .fits (1 + more) (record { server = f .server; phone = f .phone; room = omega (arith, f .room) })))));
@@ -230,7 +230,7 @@ round-played x a b c r server phone bytes phone′ bytes′ bytes″ server′ o
     same s serial h o =
         rw (e, four .is s serial h o phone′, three .is s serial h o server, two .is s serial h o server, one .is s serial h o phone)
 
-pub no-round : (x : Execution) (server phone bytes : List ℕ) → Played 0 x server phone bytes x server phone bytes
+pub no-round : (x : Execution) (server phone bytes : List ℕ) → RoundsRun 0 x server phone bytes x server phone bytes
 unfolding carryAll
 no-round x server phone bytes = record { is = same; fits = λ more f. record { server = f .server; phone = f .phone; room = omega (arith, f .room) }; size = refl; behind = refl; grows = omega arith }
   where
@@ -245,8 +245,8 @@ last-round s serial h o zero x = refl
 last-round s serial h o (suc n) x = last-round s serial h o n _
 
 pub round-more : (n : ℕ) (x y r : Execution) (server phone bytes server′ phone′ bytes′ server″ phone″ bytes″ : List ℕ)
-    → Played n x server phone bytes y server′ phone′ bytes′ → Played 1 y server′ phone′ bytes′ r server″ phone″ bytes″
-    → Played (n + 1) x server phone bytes r server″ phone″ bytes″
+    → RoundsRun n x server phone bytes y server′ phone′ bytes′ → RoundsRun 1 y server′ phone′ bytes′ r server″ phone″ bytes″
+    → RoundsRun (n + 1) x server phone bytes r server″ phone″ bytes″
 round-more n x y r server phone bytes server′ phone′ bytes′ server″ phone″ bytes″ a b =
     rw (add-one n)
     (record {

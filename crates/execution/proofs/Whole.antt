@@ -26,7 +26,7 @@ use Rattle.execution.specs.declared.RunTerms.{RunTerms}
 use Rattle.execution.specs.declared.Execution.{Execution}
 use Rattle.execution.specs.declared.CallKind.the-variants.{Deal}
 use Rattle.execution.specs.Execution.{refusalOf, Carried, carry, carryAll, roundCalls, runCalls, serverInputs, phoneInputs, drawIn, serverInput, phoneInput, zeroWork, dealNoOf, executed}
-use Rattle.execution.specs.Held.{carriedOf, Fits, runBytes, runAt, startOf, ServerBegins, PhoneBegins, Played, Executes, PlaysFrom}
+use Rattle.execution.specs.Held.{carriedOf, Fits, runBytes, runAt, startOf, ServerBegins, PhoneBegins, RoundsRun, Executes, RunsFrom}
 use Rattle.execution.proofs.Calls.{stopped}
 
 -- ---- The parts of the numbers, as far as there are so many
@@ -123,18 +123,18 @@ module _ (x : Execution) (t : RunTerms) (numbers book0 book1 bytes : List ℕ) (
             ∙ sym (stopped (t .settings) (t .serial) h (withBook o book1) (carriedOf one w0 zeroWork bytes) peer begin (still z))
             ∙ stopped (t .settings) (t .serial) h o (carriedOf one w0 zeroWork bytes) peer begin (still z)
 
-    module _ (r : Execution) (w0′ w1′ after : List ℕ) (played : Played rounds both w0 w1 bytes r w0′ w1′ after) where
+    module _ (r : Execution) (w0′ w1′ after : List ℕ) (ran : RoundsRun rounds both w0 w1 bytes r w0′ w1′ after) where
       abbrev end : Carried
       end = carryAll (t .settings) (t .serial) h o x₀ runCalls
 
       carried : carriedOf r w0′ w1′ after ≡ end
       unfolding carryAll
       carried =
-          played .is (t .settings) (t .serial) h o
+          ran .is (t .settings) (t .serial) h o
           ∙ ap (λ (y : Carried). carryAll (t .settings) (t .serial) h o y (roundCalls rounds)) both-begun
 
       long : r .length ≤ length after
-      long = omega (arith, played .fits 0 both-fit .room)
+      long = omega (arith, ran .fits 0 both-fit .room)
 
       executes : Executes end r bytes after
       executes =
@@ -145,12 +145,12 @@ module _ (x : Execution) (t : RunTerms) (numbers book0 book1 bytes : List ℕ) (
             server-is = ap (λ (y : Carried). y .parties .observer .side) carried;
             phone-is = ap (λ (y : Carried). y .parties .peer .side) carried;
             length-is = size;
-            messages-are = sym (take-append-drop (r .length) after) ∙ ap₂ (λ (y z : List ℕ). y ++ z) messages (played .behind ∙ ap (λ (n : ℕ). drop n bytes) size);
-            fits = omega (arith, long, size, played .size);
+            messages-are = sym (take-append-drop (r .length) after) ∙ ap₂ (λ (y z : List ℕ). y ++ z) messages (ran .behind ∙ ap (λ (n : ℕ). drop n bytes) size);
+            fits = omega (arith, long, size, ran .size);
           }
 
-  pub plays-from : (r : Execution) (w0′ w1′ after : List ℕ) → Played rounds both w0 w1 bytes r w0′ w1′ after → PlaysFrom x t numbers book0 book1 r bytes after
-  plays-from r w0′ w1′ after played = record { is = λ h o a b c d e f. executes h o a b c d e f r w0′ w1′ after played }
+  pub runs-from : (r : Execution) (w0′ w1′ after : List ℕ) → RoundsRun rounds both w0 w1 bytes r w0′ w1′ after → RunsFrom x t numbers book0 book1 r bytes after
+  runs-from r w0′ w1′ after ran = record { is = λ h o a b c d e f. executes h o a b c d e f r w0′ w1′ after ran }
 
 -- ---- The deal
 
@@ -194,7 +194,7 @@ module _ (t : RunTerms) (numbers b0 b1 : List ℕ) (e0 : length b0 ≡ bookSize 
   unfolding dealCall
   phone-book z = sym (ap (λ (x : Dealt). x .phone) (rw (started z) at deal))
 
-  pub whole-run : (r : Execution) (before after : List ℕ) → PlaysFrom (startOf refused) t numbers book0 book1 r before after → Executes (executed t numbers) r before after
+  pub whole-run : (r : Execution) (before after : List ℕ) → RunsFrom (startOf refused) t numbers book0 book1 r before after → Executes (executed t numbers) r before after
   unfolding executed
   whole-run r before after p =
       rw (← no-is) (p .is (serverInput t numbers) (phoneInput t numbers) refl refl server-book refl refl phone-book)

@@ -134,7 +134,7 @@ dealNoOf t numbers =
     let a = t .settings .shape in
     dealNo keyCount a (t .keys0) (t .keys1) (drawIn a numbers) (replicate (bookSize a) 0) (replicate (bookSize a) 0)
 
--- dealt, begun by both, the server first, and played round by round
+-- dealt, begun by both, the server first, and carried from round to round
 unfoldable pub executed : RunTerms → List ℕ → Carried
 executed t numbers =
     carryAll (t .settings) (t .serial) (serverInput t numbers) (phoneInput t numbers)

@@ -137,7 +137,7 @@ pub record ServerTakes (x : Execution) (before bytes : List ℕ) (r : Execution)
   pub same : r .length ≡ x .length
 
 -- n rounds: both working slices and the messages go from the first three lists to the last three
-pub record Played (n : ℕ) (x : Execution) (serverWork phoneWork bytes : List ℕ) (r : Execution) (serverAfter phoneAfter bytesAfter : List ℕ) : Type 0 where
+pub record RoundsRun (n : ℕ) (x : Execution) (serverWork phoneWork bytes : List ℕ) (r : Execution) (serverAfter phoneAfter bytesAfter : List ℕ) : Type 0 where
   pub is : (s : Settings) (serial : ℕ) (h o : PartyInput)
       → carriedOf r serverAfter phoneAfter bytesAfter ≡ carryAll s serial h o (carriedOf x serverWork phoneWork bytes) (roundCalls n)
   pub fits : (more : ℕ) → Fits x bytes (2 * n + more) → Fits r bytesAfter more
@@ -163,7 +163,7 @@ pub record Executes (x : Carried) (r : Execution) (before after : List ℕ) : Ty
   pub fits : length (x .messages) ≤ length before
 
 -- both begins and the rounds, from an execution x that has not begun; h and o: what the begins are handed, which count where nothing was refused
-pub record PlaysFrom (x : Execution) (t : RunTerms) (numbers book0 book1 : List ℕ) (r : Execution) (before after : List ℕ) : Type 0 where
+pub record RunsFrom (x : Execution) (t : RunTerms) (numbers book0 book1 : List ℕ) (r : Execution) (before after : List ℕ) : Type 0 where
   pub is : (h o : PartyInput)
       → runOf (t .settings) (t .serial) h ≡ runAt t 0 → h .inputs ≡ serverInputs (t .settings .shape) numbers → (x .refusal .number ≡ 0 → h .book ≡ book0)
       → runOf (t .settings) (t .serial) o ≡ runAt t 1 → o .inputs ≡ phoneInputs (t .settings .shape) numbers → (x .refusal .number ≡ 0 → o .book ≡ book1)

@@ -1,4 +1,4 @@
-// A run carried through in one process: dealt, begun by both sides and played round by round, up to the first refusal. It gives back
+// A run carried through in one process: dealt, begun by both sides and carried from round to round, up to the first refusal. It gives back
 // every message, both sides and the refusal.
 ghost use mathlib.Core.Path.{_≡_};
 ghost use Prim.Native.Nat.{_+_, _*_, _≤_};
@@ -6,7 +6,7 @@ ghost use lib.ListN.{length};
 ghost use Rattle.settings.specs.Sizes.{keyCount, mostBytes, bookSize};
 ghost use Rattle.settings.specs.Schedule.{rounds};
 ghost use Rattle.execution.specs.Execution.{noRefusal, refusalOf, executed};
-ghost use Rattle.execution.specs.Held.{Stands, Fits, runAt, silentEndpoint, startOf, ServerBegins, PhoneBegins, SendsAt, ServerSends, PhoneSends, PhoneTakes, ServerTakes, Played, runBytes, CutsAt, Executes, PlaysFrom};
+ghost use Rattle.execution.specs.Held.{Stands, Fits, runAt, silentEndpoint, startOf, ServerBegins, PhoneBegins, SendsAt, ServerSends, PhoneSends, PhoneTakes, ServerTakes, RoundsRun, runBytes, CutsAt, Executes, RunsFrom};
 use dealer::deal;
 use lists::least;
 use settings::KEYS;
@@ -322,9 +322,9 @@ fn server_take(x: Execution, work: &mut [u32], messages: &[u8]) -> Execution
 }
 
 // One round: the server sends and the phone takes, then the phone sends and the server takes.
-fn play_round(x: Execution, server: &mut [u32], phone: &mut [u32], messages: &mut [u8]) -> Execution
+fn run_round(x: Execution, server: &mut [u32], phone: &mut [u32], messages: &mut [u8]) -> Execution
     requires { ⌜ Fits x (now messages) 2 ⌝ }
-    ensures { λ r. ⌜ Played 1 x (now (server .entry)) (now (phone .entry)) (now (messages .entry)) r (now (server .exit)) (now (phone .exit)) (now (messages .exit)) ⌝ }
+    ensures { λ r. ⌜ RoundsRun 1 x (now (server .entry)) (now (phone .entry)) (now (messages .entry)) r (now (server .exit)) (now (phone .exit)) (now (messages .exit)) ⌝ }
 {
     let sent = server_send(x, server, messages);
     let taken = phone_take(sent, phone, messages);
@@ -333,19 +333,14 @@ fn play_round(x: Execution, server: &mut [u32], phone: &mut [u32], messages: &mu
 }
 
 // The seven rounds.
-fn play_rounds(
-    x: Execution,
-    server: &mut [u32],
-    phone: &mut [u32],
-    messages: &mut [u8],
-) -> Execution
+fn run_rounds(x: Execution, server: &mut [u32], phone: &mut [u32], messages: &mut [u8]) -> Execution
     requires { ⌜ Fits x (now messages) (2 * rounds) ⌝ }
-    ensures { λ r. ⌜ Played rounds x (now (server .entry)) (now (phone .entry)) (now (messages .entry)) r (now (server .exit)) (now (phone .exit)) (now (messages .exit)) ⌝ }
+    ensures { λ r. ⌜ RoundsRun rounds x (now (server .entry)) (now (phone .entry)) (now (messages .entry)) r (now (server .exit)) (now (phone .exit)) (now (messages .exit)) ⌝ }
 {
     let mut at = x;
     let mut round: u32 = 0;
     while round < ROUNDS {
-        at = play_round(at, server, phone, messages);
+        at = run_round(at, server, phone, messages);
         round += 1;
     }
     at
@@ -371,8 +366,8 @@ fn cuts_of(shape: Shape, count: usize) -> Cuts
     }
 }
 
-// Both sides begin with their parts of the numbers and their books, unless the deal was refused, and play the rounds.
-fn begin_and_play(
+// Both sides begin with their parts of the numbers and their books, unless the deal was refused, and go through the rounds.
+fn begin_and_run(
     dealt: Execution,
     terms: RunTerms,
     numbers: &[u32],
@@ -381,7 +376,7 @@ fn begin_and_play(
     messages: &mut [u8],
 ) -> Execution
     requires { ⌜ Fits dealt (now messages) (2 * rounds) ⌝ }
-    ensures { λ r. ⌜ PlaysFrom dealt terms (now (numbers .entry)) (now (book0 .entry)) (now (book1 .entry)) r (now (messages .entry)) (now (messages .exit)) ⌝ }
+    ensures { λ r. ⌜ RunsFrom dealt terms (now (numbers .entry)) (now (book0 .entry)) (now (book1 .entry)) r (now (messages .entry)) (now (messages .exit)) ⌝ }
 {
     let mut server = [0u32; WORK_LENGTH];
     let mut phone = [0u32; WORK_LENGTH];
@@ -392,7 +387,7 @@ fn begin_and_play(
     let run1 = run_at(terms, 1);
     let one = begin_server(dealt, run0, &numbers[..first], book0, &mut server);
     let both = begin_phone(one, run1, &numbers[first..second], book1, &mut phone);
-    play_rounds(both, &mut server, &mut phone, messages)
+    run_rounds(both, &mut server, &mut phone, messages)
 }
 
 // The run with lent books of the size that the shape asks for.
@@ -412,7 +407,7 @@ fn execute_in(
     let cuts = cuts_of(shape, numbers.len());
     let second = cuts.draw;
     let refused = deal(shape, keys0, keys1, &numbers[second..], book0, book1);
-    begin_and_play(start(refused), terms, numbers, book0, book1, messages)
+    begin_and_run(start(refused), terms, numbers, book0, book1, messages)
 }
 
 // The run of these terms. The numbers are the server's inputs, the phone's inputs and the draw; where some are missing, the calls are

@@ -60,7 +60,13 @@ fn answer_part(stream: Stream, kept: &mut [u8], bytes: &[u8], out: &mut [u8]) ->
 }
 
 // Reads a part, and answers its lines. Where the read fails, says so on standard error.
-fn read_part(fd: i32, stream: Stream, kept: &mut [u8], part: &mut [u8], out: &mut [u8]) -> InputState
+fn read_part(
+    fd: i32,
+    stream: Stream,
+    kept: &mut [u8],
+    part: &mut [u8],
+    out: &mut [u8],
+) -> InputState
     requires { ⌜ length (now kept) ≡ keptLength ⌝ }
     requires { ⌜ 112 ≤ length (now out) ⌝ }
 {

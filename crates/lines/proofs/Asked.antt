@@ -13,17 +13,17 @@ use Rattle.lists.proofs.Lists.{getD-listTo, listTo-getD}
 use Rattle.lists.proofs.Every.{below-at, every-listTo}
 use Rattle.lists.proofs.Questions.{and-true, passed}
 use Rattle.field.specs.Field.{q}
-use Rattle.settings.specs.Sizes.{keyCount, shared, drawLength, workLength}
+use Rattle.settings.specs.Sizes.{keyCount, width, shared, drawLength, workLength}
 use Rattle.settings.specs.Questions.{askShape, isBit, countOk, boundOk, askSettings}
 use Rattle.settings.proofs.Ready.{count-ready}
 use Rattle.settings.specs.Settings.{paramsIn}
-use Rattle.book.specs.Deal.{dealNo}
+use Rattle.dealer.specs.Deal.{dealNo}
 use Rattle.state.specs.State.{freshSide, whole, sendDue, takeDue, underWay}
 use Rattle.side.specs.Side.{handedNo, beginNo}
 use Rattle.syntax.specs.declared.Request.{Request}
 use Rattle.lines.specs.Plain.{secretOf, requestNo, settingsOf}
 use Rattle.side.specs.declared.Run.{Run}
-use Rattle.lines.specs.Run.{width, ones, inColumns}
+use Rattle.lines.specs.Run.{ones, inColumns}
 use Rattle.lines.proofs.Handed.{ones-ok, columns-long, columns-below, zeros-below, length-front}
 
 -- what a begin is handed: "keys 1, serial = line number"

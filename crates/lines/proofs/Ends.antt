@@ -15,10 +15,11 @@ use Rattle.lists.proofs.Questions.{passed, both-yes}
 use Rattle.field.specs.Field.{q}
 use Rattle.settings.specs.declared.Settings.{Settings}
 use Rattle.settings.specs.Settings.{paramsIn}
-use Rattle.settings.specs.Sizes.{keyCount, shared, drawLength, workLength, bookSize, inputSize}
+use Rattle.settings.specs.Sizes.{keyCount, width, shared, drawLength, workLength, bookSize, inputSize}
 use Rattle.settings.specs.Questions.{askShape, isBit, countOk, boundOk, askSettings, shapeOk, Ready}
 use Rattle.settings.proofs.Ready.{settings-ready, settings-rest}
-use Rattle.book.specs.Deal.{multipliers, dealNo}
+use Rattle.book.specs.Books.{multipliers}
+use Rattle.dealer.specs.Deal.{dealNo}
 use Rattle.state.specs.declared.Side.{Side}
 use Rattle.state.specs.State.{whole, sendDue, takeDue, underWay, finished, placesOf, heldAnswer, answerNo, answerCall}
 use Rattle.state.proofs.States.{finished-whole, places-most}
@@ -30,7 +31,7 @@ use Rattle.execution.specs.Theorems.{GoesThrough}
 use Rattle.execution.proofs.Honest.{honest-run-goes-through}
 use Rattle.lines.specs.declared.LineResult.{LineResult}
 use Rattle.lines.specs.Plain.{settingsOf, secretOf, requestNo, resultFor}
-use Rattle.lines.specs.Run.{width, ones, termsFor, inColumns, zerosFor, numbersFor, answeredBy}
+use Rattle.lines.specs.Run.{ones, termsFor, inColumns, zerosFor, numbersFor, answeredBy}
 use Rattle.lines.proofs.Handed.{settings-pass-all, ones-ok, columns-long, columns-below, missing-none, front-zeros, behind-zeros, zeros-below, length-front}
 
 -- ---- The answer of a side that has ended
@@ -94,7 +95,7 @@ module _ (serial : ℕ) (o : Request) (ok : requestNo serial o ≡ 0) (fits : se
 
   shape-yes : shapeOk (s .shape) ≡ true
   unfolding shapeOk
-  shape-yes = both-yes (isBit (o .set) && isBit (o .kind) && countOk (o .count)) (boundOk (o .kind) (o .bound)) (fixed .settings) .0
+  shape-yes = both-yes (shapeOk (s .shape)) (boundOk (o .kind) (o .bound)) (fixed .settings) .0
 
   idle-is : Idle keyCount serial freshParty
   unfolding underWay sendDue takeDue whole askSettings askShape ask

@@ -15,23 +15,23 @@ use Rattle.lists.proofs.Lists.{length-listFrom, getD-listTo, listTo-cong}
 use Rattle.lists.proofs.Every.{below-at, every-listTo}
 use Rattle.lists.proofs.Questions.{passed, and-yes}
 use Rattle.field.specs.Field.{q, sub}
-use Rattle.settings.specs.Sizes.{keyCount, widthOf}
-use Rattle.settings.specs.Questions.{isBit, countOk, boundOk, keysOk, askSettings, askShape, settingsOk}
+use Rattle.settings.specs.Sizes.{keyCount, width, widthOf}
+use Rattle.settings.specs.Questions.{isBit, countOk, boundOk, keysOk, askSettings, askShape, shapeOk, settingsOk}
 use Rattle.settings.specs.declared.Settings.{Settings}
-use Rattle.book.specs.Deal.{multipliers}
+use Rattle.book.specs.Books.{multipliers}
 use Rattle.runs.specs.Records.{missingShares}
-use Rattle.lines.specs.Run.{width, ones, inColumns}
+use Rattle.lines.specs.Run.{ones, inColumns}
 
 -- settings that passed questions 1 to 3
 pub settings-pass-all : (s : Settings) (rest : ℕ) → askSettings 0 s rest ≡ 0 → settingsOk s ≡ true
-unfolding askSettings askShape
+unfolding askSettings askShape shapeOk
 settings-pass-all s rest e =
     let a = s .shape in
     let one = passed (isBit 0) 0 _ e in
     let bits = passed (isBit (a .set) && isBit (a .kind)) 0 _ (one .1) in
     let two = passed (countOk (a .n)) 1 _ (bits .1) in
     let three = passed (boundOk (a .kind) (s .bound)) 2 rest (two .1) in
-    and-yes (isBit (a .set) && isBit (a .kind) && countOk (a .n)) (boundOk (a .kind) (s .bound))
+    and-yes (shapeOk a) (boundOk (a .kind) (s .bound))
     (and-yes (isBit (a .set) && isBit (a .kind)) (countOk (a .n)) (bits .0) (two .0))
     (three .0)
 

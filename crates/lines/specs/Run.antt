@@ -3,7 +3,7 @@ use Prim.Native.Nat.{ℕ, _+_, _*_, _/_}
 use mathlib.Core.List.{List, _++_}
 use lib.ListN.{length, getD, replicate}
 use Rattle.lists.specs.Lists.{listTo}
-use Rattle.settings.specs.Sizes.{keyCount, widthOf, drawLength}
+use Rattle.settings.specs.Sizes.{keyCount, width, drawLength}
 use Rattle.settings.specs.Settings.{paramsIn}
 use Rattle.state.specs.declared.Side.{Side}
 use Rattle.state.specs.State.{answerCall}
@@ -11,10 +11,6 @@ use Rattle.syntax.specs.declared.Request.{Request}
 use Rattle.execution.specs.declared.RunTerms.{RunTerms}
 use Rattle.lines.specs.declared.LineResult.{LineResult}
 use Rattle.lines.specs.Plain.{settingsOf, secretOf}
-
--- the numbers of a shared number on one side
-abbrev pub width : ℕ
-width = widthOf keyCount
 
 -- "keys 1, serial = line number"
 abbrev pub ones : List ℕ

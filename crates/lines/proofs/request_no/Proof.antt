@@ -24,14 +24,14 @@ array-share-prefix-numbers c =
     let o = c .before .before .before .before .before .args .request in
     let ready = settings-ready 0 (settingsOf o) 0 (sym ((c .before .before .before .settings-no .ensures ∙ ap (λ (z : Settings). askSettings 0 z 0) (c .before .before .before .before .settings-of .ensures))) ∙ c .before .before .if1 .left) in
     let eight : length (o .numbers) ≡ 8 = search needs in
-    omega (arith, ready .1 .most, eight)
+    omega (arith, ready .1 .shape .most, eight)
 
 slice-aggregate-all-below-q : tie.Need-slice-aggregate-all-below-q
 slice-aggregate-all-below-q c =
     let o = c .before .before .before .before .before .before .args .request in
     let ready = settings-ready 0 (settingsOf o) 0 (sym ((c .before .before .before .before .settings-no .ensures ∙ ap (λ (z : Settings). askSettings 0 z 0) (c .before .before .before .before .before .settings-of .ensures))) ∙ c .before .before .before .if1 .left) in
     let eight : length (o .numbers) ≡ 8 = search needs in
-    length-front (o .count) (o .numbers) (omega (arith, ready .1 .most, eight))
+    length-front (o .count) (o .numbers) (omega (arith, ready .1 .shape .most, eight))
 
 returns-2 : tie.Need-returns-2
 unfolding requestNo

@@ -14,7 +14,8 @@ use native.Mathlib.Omega.{arith}
 use lib.ListN.{length, length-replicate}
 use Rattle.lines.proofs.Handed.{length-front}
 use Rattle.lines.proofs.Ends.{request-ready, run-gives, spread-zeros}
-use Rattle.lines.specs.Run.{width, zerosFor}
+use Rattle.settings.specs.Sizes.{width}
+use Rattle.lines.specs.Run.{zerosFor}
 use Rattle.execution.specs.declared.RunTerms.{RunTerms}
 use Rattle.execution.specs.Execution.{executed}
 
@@ -40,21 +41,21 @@ array-share-prefix-coefficients : tie.Need-array-share-prefix-coefficients
 array-share-prefix-coefficients c =
     let a = c .before .before .before .before .args in
     let eight : length (a .request .numbers) ≡ 8 = search needs in
-    let most = request-ready (a .serial) (a .request) (c .before .before .before .before .pre .0) .most in
+    let most = request-ready (a .serial) (a .request) (c .before .before .before .before .pre .0) .shape .most in
     omega (arith, eight, most)
 
 slice-aggregate-spread-2 : tie.Need-slice-aggregate-spread-2
 slice-aggregate-spread-2 c =
     let a = c .before .before .before .before .before .args in
     let eight : length (a .request .numbers) ≡ 8 = search needs in
-    let most = request-ready (a .serial) (a .request) (c .before .before .before .before .before .pre .0) .most in
+    let most = request-ready (a .serial) (a .request) (c .before .before .before .before .before .pre .0) .shape .most in
     length-front (a .request .count) (a .request .numbers) (omega (arith, eight, most))
 
 spread-requires : tie.Need-spread-requires
 spread-requires c κs =
     let a = c .before .before .before .before .before .args in
     let eight : length (a .request .numbers) ≡ 8 = search needs in
-    let most = request-ready (a .serial) (a .request) (c .before .before .before .before .before .pre .0) .most in
+    let most = request-ready (a .serial) (a .request) (c .before .before .before .before .before .pre .0) .shape .most in
     let long : length (a .numbers .now) ≡ a .request .count * width + zerosFor (a .request) = ap length (c .before .before .before .before .before .pre .1) ∙ length-replicate {A = ℕ} _ 0 in
     sym (length-front (a .request .count * width) (a .numbers .now) (omega (arith, long))) ∙ ap (λ (n : ℕ). n * width) (length-front (a .request .count) (a .request .numbers) (omega (arith, eight, most)))
 

@@ -12,7 +12,8 @@ use native.Mathlib.Omega.{arith}
 use lib.ListN.{replicate}
 use Rattle.lines.proofs.Handed.{front-zeros, zeros-long}
 use Rattle.lines.proofs.Ends.{request-ready}
-use Rattle.lines.specs.Run.{width, zerosFor}
+use Rattle.settings.specs.Sizes.{width}
+use Rattle.lines.specs.Run.{zerosFor}
 use Rattle.lines.specs.Plain.{settingsOf}
 use Rattle.settings.specs.declared.Settings.{Settings}
 use Rattle.settings.specs.Settings.{paramsIn}
@@ -25,7 +26,7 @@ draw-length-requires : tie.Need-draw-length-requires
 draw-length-requires c κs =
     let a = c .before .args in
     let ready = request-ready (a .serial) (a .request) (c .before .pre) in
-    rw (c .settings-of .ensures) (ready .sets, ready .most)
+    rw (c .settings-of .ensures) (ready .shape .sets, ready .shape .most)
 
 cast-size : tie.Need-cast-size
 cast-size c = search needs
@@ -43,13 +44,13 @@ array-borrow-prefix-numbers : tie.Need-array-borrow-prefix-numbers
 array-borrow-prefix-numbers c =
     let a = c .before .before .before .args in
     let ready = request-ready (a .serial) (a .request) (c .before .before .before .pre) in
-    omega (arith, ready .most, c .before .draw-length .ensures .1)
+    omega (arith, ready .shape .most, c .before .draw-length .ensures .1)
 
 slice-aggregate-run-in : tie.Need-slice-aggregate-run-in
 slice-aggregate-run-in c =
     let a = c .before .before .before .before .args in
     let ready = request-ready (a .serial) (a .request) (c .before .before .before .before .pre) in
-    zeros-long _ (2 * 8 * width + 1320 * width + 144) (omega (arith, ready .most, c .before .before .draw-length .ensures .1))
+    zeros-long _ (2 * 8 * width + 1320 * width + 144) (omega (arith, ready .shape .most, c .before .before .draw-length .ensures .1))
 
 run-in-requires : tie.Need-run-in-requires
 run-in-requires c κs =
@@ -57,7 +58,7 @@ run-in-requires c κs =
     let ready = request-ready (a .serial) (a .request) (c .before .before .before .before .pre) in
     let drawn : c .before .before .draw-length .result ≡ drawLength (paramsIn (settingsOf (a .request))) width = c .before .before .draw-length .ensures .0 ∙ ap (λ (z : Settings). drawLength (paramsIn z) width) (c .before .before .before .settings-of .ensures) in
     let size : 2 * (a .request .count * width) + c .before .before .draw-length .result ≡ a .request .count * width + zerosFor (a .request) = omega (arith, drawn) in
-    (c .before .before .before .before .pre, front-zeros (2 * (a .request .count * width) + c .before .before .draw-length .result) (2 * 8 * width + 1320 * width + 144) (omega (arith, ready .most, c .before .before .draw-length .ensures .1)) ∙ ap (λ (n : ℕ). replicate n 0) size)
+    (c .before .before .before .before .pre, front-zeros (2 * (a .request .count * width) + c .before .before .draw-length .result) (2 * 8 * width + 1320 * width + 144) (omega (arith, ready .shape .most, c .before .before .draw-length .ensures .1)) ∙ ap (λ (n : ℕ). replicate n 0) size)
 
 returns : tie.Need-returns
 returns c = search needs

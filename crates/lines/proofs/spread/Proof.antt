@@ -6,7 +6,8 @@ use native.Mathlib.Omega.{arith}
 use lib.ListN.{length, getD, length-set}
 use Rattle.lists.specs.Lists.{fill}
 use Rattle.lists.proofs.Fill.{fill-none, front-more, whole-is}
-use Rattle.lines.specs.Run.{width, inColumns}
+use Rattle.settings.specs.Sizes.{width}
+use Rattle.lines.specs.Run.{inColumns}
 use Rattle.lines.proofs.spread.Statement.{statement}
 use Rattle.lines.proofs.spread.Tie as tie
 

@@ -1,15 +1,15 @@
 use borrow.Author.Needs.{needs}
-use Rattle.execution.proofs.play_round.Statement.{statement}
-use Rattle.execution.proofs.play_round.Tie as tie
-use Rattle.execution.proofs.play_round.Reads as reads
-use Rattle.execution.proofs.play_round.Lts as lts
+use Rattle.execution.proofs.run_round.Statement.{statement}
+use Rattle.execution.proofs.run_round.Tie as tie
+use Rattle.execution.proofs.run_round.Reads as reads
+use Rattle.execution.proofs.run_round.Lts as lts
 use Rattle.execution.proofs.phone_send.Reads as phone-send-reads
 use Rattle.execution.proofs.phone_take.Reads as phone-take-reads
 use Rattle.execution.proofs.server_send.Reads as server-send-reads
 use Rattle.execution.proofs.server_take.Reads as server-take-reads
 use native.Mathlib.Omega.{arith}
 use mathlib.Core.Path.{refl, _∙_}
-use Rattle.execution.proofs.Calls.{round-played, fits-less}
+use Rattle.execution.proofs.Calls.{round-run, fits-less}
 
 -- src/lib.rt:337:9
 server-send-requires : tie.Need-server-send-requires
@@ -41,10 +41,10 @@ same-length-3 c = c .before .before .before .before .before .before .before .pho
 
 -- src/lib.rt:328:1
 returns : tie.Need-returns
-returns c = round-played _ _ _ _ _ _ _ _ _ _ _ _ (c .before .before .before .before .before .before .before .before .before .before .before .before .before .before .before .before .before .server-send .ensures) (c .before .before .before .before .before .before .before .before .before .before .before .before .phone-take .ensures) (c .before .before .before .before .before .before .before .phone-send .ensures) (c .before .before .server-take .ensures) _ refl
+returns c = round-run _ _ _ _ _ _ _ _ _ _ _ _ (c .before .before .before .before .before .before .before .before .before .before .before .before .before .before .before .before .before .server-send .ensures) (c .before .before .before .before .before .before .before .before .before .before .before .before .phone-take .ensures) (c .before .before .before .before .before .before .before .phone-send .ensures) (c .before .before .server-take .ensures) _ refl
 
-pub play-round-spec : {M : Type 1} → statement M
-play-round-spec =
+pub run-round-spec : {M : Type 1} → statement M
+run-round-spec =
     tie.close
     (tie.spec
     server-send-requires

@@ -3,17 +3,17 @@ use mathlib.Core.Path.{_≡_, refl, sym, ap, _∙_}
 use native.Mathlib.Omega.{arith}
 use borrow.Author.Needs.{needs}
 use lib.ListN.{length, set, getD, length-set}
-use Rattle.execution.proofs.play_rounds.Statement.{statement}
-use Rattle.execution.proofs.play_rounds.Tie as tie
-use Rattle.execution.proofs.play_rounds.Reads as reads
-use Rattle.execution.proofs.play_rounds.Lts as lts
-use Rattle.execution.proofs.play_round.Reads as play-round-reads
+use Rattle.execution.proofs.run_rounds.Statement.{statement}
+use Rattle.execution.proofs.run_rounds.Tie as tie
+use Rattle.execution.proofs.run_rounds.Reads as reads
+use Rattle.execution.proofs.run_rounds.Lts as lts
+use Rattle.execution.proofs.run_round.Reads as run-round-reads
 use Rattle.settings.specs.Schedule.{rounds}
-use Rattle.execution.specs.Held.{Played}
+use Rattle.execution.specs.Held.{RoundsRun}
 use Rattle.execution.proofs.Calls.{no-round, round-more}
 
 abbrev Inv-loop : tie.InvT-loop
-Inv-loop server₀ phone₀ messages₀ at₀ round₀ server phone messages at round = Played round at₀ server₀ phone₀ messages₀ at server phone messages × (round ≤ rounds) × (length server ≡ length server₀) × (length phone ≡ length phone₀)
+Inv-loop server₀ phone₀ messages₀ at₀ round₀ server phone messages at round = RoundsRun round at₀ server₀ phone₀ messages₀ at server phone messages × (round ≤ rounds) × (length server ≡ length server₀) × (length phone ≡ length phone₀)
 
 abbrev μ-loop : tie.MeasureT-loop
 μ-loop server₀ phone₀ messages₀ at₀ round₀ server phone messages at round = rounds - round
@@ -23,8 +23,8 @@ loop-holds : tie.Need-loop-holds Inv-loop μ-loop
 loop-holds c = (no-round _ _ _ _, omega arith, refl, refl)
 
 -- src/lib.rt:356:9
-play-round-requires : tie.Need-play-round-requires Inv-loop μ-loop
-play-round-requires c κs =
+run-round-requires : tie.Need-run-round-requires Inv-loop μ-loop
+run-round-requires c κs =
     let more = c .before .before .before .before .loop .inv .0 .fits (2 * (rounds - c .before .before .before .before .loop .round)) in
     let f = more (record { server = c .before .before .before .before .before .before .before .before .pre .server; phone = c .before .before .before .before .before .before .before .before .pre .phone; room = omega (arith, c .before .before .before .before .before .before .before .before .pre .room) }) in
     record { server = f .server; phone = f .phone; room = omega (arith, f .room) }
@@ -39,7 +39,7 @@ loop-less c = omega arith
 
 -- src/lib.rt:355:5
 loop-again : tie.Need-loop-again Inv-loop μ-loop
-loop-again c = (round-more _ _ _ _ _ _ _ _ _ _ _ _ _ (c .before .before .before .before .before .before .before .before .before .before .before .loop .inv .0) (c .before .before .before .before .before .before .play-round .ensures), omega arith, search needs, search needs)
+loop-again c = (round-more _ _ _ _ _ _ _ _ _ _ _ _ _ (c .before .before .before .before .before .before .before .before .before .before .before .loop .inv .0) (c .before .before .before .before .before .before .run-round .ensures), omega arith, search needs, search needs)
 
 -- src/lib.rt:344:1
 same-length : tie.Need-same-length Inv-loop μ-loop
@@ -57,14 +57,14 @@ same-length-3 c = search needs
 returns : tie.Need-returns Inv-loop μ-loop
 returns c = let e : c .before .loop .round ≡ rounds = omega arith in rw (← e) (c .before .loop .inv .0)
 
-pub play-rounds-spec : {M : Type 1} → statement M
-play-rounds-spec =
+pub run-rounds-spec : {M : Type 1} → statement M
+run-rounds-spec =
     tie.close
     (tie.spec
     Inv-loop
     μ-loop
     loop-holds
-    play-round-requires
+    run-round-requires
     add-round
     loop-less
     loop-again

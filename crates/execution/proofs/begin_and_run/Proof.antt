@@ -1,17 +1,17 @@
 use borrow.Author.Needs.{needs}
-use Rattle.execution.proofs.begin_and_play.Statement.{statement}
-use Rattle.execution.proofs.begin_and_play.Tie as tie
-use Rattle.execution.proofs.begin_and_play.Reads as reads
-use Rattle.execution.proofs.begin_and_play.Lts as lts
+use Rattle.execution.proofs.begin_and_run.Statement.{statement}
+use Rattle.execution.proofs.begin_and_run.Tie as tie
+use Rattle.execution.proofs.begin_and_run.Reads as reads
+use Rattle.execution.proofs.begin_and_run.Lts as lts
 use Rattle.execution.proofs.begin_phone.Reads as begin-phone-reads
 use Rattle.execution.proofs.begin_server.Reads as begin-server-reads
 use Rattle.execution.proofs.cuts_of.Reads as cuts-of-reads
-use Rattle.execution.proofs.play_rounds.Reads as play-rounds-reads
+use Rattle.execution.proofs.run_rounds.Reads as run-rounds-reads
 use Rattle.execution.proofs.run_at.Reads as run-at-reads
 use mathlib.Core.Path.{_≡_, refl, sym, ap, _∙_}
 use native.Mathlib.Omega.{arith}
 use lib.Seq.{length-take-le}
-use Rattle.execution.proofs.Whole.{server-part, phone-part, plays-from}
+use Rattle.execution.proofs.Whole.{server-part, phone-part, runs-from}
 
 cuts-of-requires : tie.Need-cuts-of-requires
 cuts-of-requires c κs = search needs
@@ -49,14 +49,14 @@ slice-aggregate-begin-phone c = search needs
 begin-phone-requires : tie.Need-begin-phone-requires
 begin-phone-requires c κs = search needs
 
-slice-aggregate-play-rounds : tie.Need-slice-aggregate-play-rounds
-slice-aggregate-play-rounds c = search needs
+slice-aggregate-run-rounds : tie.Need-slice-aggregate-run-rounds
+slice-aggregate-run-rounds c = search needs
 
-slice-aggregate-play-rounds-2 : tie.Need-slice-aggregate-play-rounds-2
-slice-aggregate-play-rounds-2 c = search needs
+slice-aggregate-run-rounds-2 : tie.Need-slice-aggregate-run-rounds-2
+slice-aggregate-run-rounds-2 c = search needs
 
-play-rounds-requires : tie.Need-play-rounds-requires
-play-rounds-requires c κs = c .before .before .before .before .begin-phone .ensures .fits _ 14 (c .before .before .before .before .before .before .before .before .begin-server .ensures .fits _ 14 (c .before .before .before .before .before .before .before .before .before .before .before .before .before .before .before .before .before .before .pre))
+run-rounds-requires : tie.Need-run-rounds-requires
+run-rounds-requires c κs = c .before .before .before .before .begin-phone .ensures .fits _ 14 (c .before .before .before .before .before .before .before .before .begin-server .ensures .fits _ 14 (c .before .before .before .before .before .before .before .before .before .before .before .before .before .before .before .before .before .before .pre))
 
 same-length : tie.Need-same-length
 same-length c = search needs
@@ -67,10 +67,10 @@ returns c =
     let cut = c .before .before .before .before .before .before .before .before .before .before .before .before .before .before .before .before .before .before .cuts-of .ensures in
     let one = rw (c .before .before .before .before .before .before .before .before .before .before .before .before .before .before .before .before .before .run-at .ensures, server-part (a .terms .settings .shape) (a .numbers .now) _ _ (cut .phone-is) (cut .draw-is)) at (c .before .before .before .before .before .before .before .before .before .before .before .before .before .begin-server .ensures) in
     let two = rw (c .before .before .before .before .before .before .before .before .before .before .before .before .before .before .before .before .run-at2 .ensures, phone-part (a .terms .settings .shape) (a .numbers .now) _ _ (cut .phone-is) (cut .draw-is)) at (c .before .before .before .before .before .before .before .before .before .begin-phone .ensures) in
-    plays-from (a .dealt) (a .terms) (a .numbers .now) (a .book0 .now) (a .book1 .now) (a .messages .now) _ _ _ _ one two (c .before .before .before .before .before .before .before .before .before .before .before .before .before .before .before .before .before .before .before .before .before .before .before .pre) _ _ _ _ (c .before .before .before .before .play-rounds .ensures)
+    runs-from (a .dealt) (a .terms) (a .numbers .now) (a .book0 .now) (a .book1 .now) (a .messages .now) _ _ _ _ one two (c .before .before .before .before .before .before .before .before .before .before .before .before .before .before .before .before .before .before .before .before .before .before .before .pre) _ _ _ _ (c .before .before .before .before .run-rounds .ensures)
 
-pub begin-and-play-spec : {M : Type 1} → statement M
-begin-and-play-spec =
+pub begin-and-run-spec : {M : Type 1} → statement M
+begin-and-run-spec =
     tie.close
     (tie.spec
     cuts-of-requires
@@ -85,8 +85,8 @@ begin-and-play-spec =
     part-begin-phone-end
     slice-aggregate-begin-phone
     begin-phone-requires
-    slice-aggregate-play-rounds
-    slice-aggregate-play-rounds-2
-    play-rounds-requires
+    slice-aggregate-run-rounds
+    slice-aggregate-run-rounds-2
+    run-rounds-requires
     same-length
     returns)
