@@ -1,19 +1,19 @@
 -- Each call of a run: what the working functions leave is the run carried one call further.
-use Prim.Native.Nat.{ℕ, zero, suc, _+_, _*_, _-_, _≤_}
+use Prim.Native.Nat.{ℕ, zero, suc, _+_, _-_, _≤_}
 use mathlib.Core.Path.{_≡_, refl, sym, ap, _∙_}
-use mathlib.Core.List.{List, [], _∷_, _++_, append-nil}
+use mathlib.Core.List.{List, [], append-nil}
 use native.Mathlib.Numerals.{add-one}
 use native.Mathlib.Omega.{arith}
-use lib.ListN.{length, take, drop}
+use lib.ListN.{length, drop}
 use lib.Seq.{drop-drop}
-use borrow.Author.Tests.{eq-eqb, ne-eqb}
+use borrow.Author.Tests.{ne-eqb}
 use Rattle.settings.specs.declared.Settings.{Settings}
-use Rattle.settings.specs.Sizes.{keyCount, mostBytes}
+use Rattle.settings.specs.Sizes.{keyCount}
 use Rattle.state.specs.declared.Side.{Side}
 use Rattle.side.specs.declared.Done.{Done}
 use Rattle.side.specs.declared.Run.{Run}
 use Rattle.side.specs.Side.{After, beginCall, takeCall}
-use Rattle.runs.specs.Records.{PartyInput, PartyState, JointState, Party, Call, outcome, step, runOf}
+use Rattle.runs.specs.Records.{PartyInput, PartyState, Party, Call, outcome, step, runOf}
 use Rattle.runs.specs.Records.Party.{observer, peer}
 use Rattle.runs.specs.Records.Call.{begin, send, takeLatest}
 use Rattle.execution.specs.declared.Refusal.{Refusal}
@@ -64,7 +64,8 @@ module _ (x : Execution) (run : Run) (inputs book before : List ℕ) where
           → carriedOf (withServer x f (d .side)) after phoneWork bytes ≡ carry (run .settings) (run .serial) h o (carriedOf x before phoneWork bytes) observer begin
       unfolding carry outcomeAt outcome step
       server-same h o a b c phoneWork bytes =
-          let was : _≡_ {A = After} (record { done = d; work = after }) (beginCall keyCount (x .server .side) (runOf (run .settings) (run .serial) h) (h .inputs) (h .book) before) = rw (a, b, c) call in
+          let was : _≡_ {A = After} (record { done = d; work = after }) (beginCall keyCount (x .server .side) (runOf (run .settings) (run .serial) h) (h .inputs) (h .book) before) =
+          rw (a, b, c) call in
           rw z
           (carried-is (e ∙ ap (λ (r : After). refusalOf Begin 0 (r .done .refused)) was)
           (ap (λ (r : After). record { side = r .done .side; work = r .work; latest = partyOf (x .server) before bytes .latest }) was)
@@ -79,7 +80,8 @@ module _ (x : Execution) (run : Run) (inputs book before : List ℕ) where
           → carriedOf (withPhone x f (d .side)) serverWork after bytes ≡ carry (run .settings) (run .serial) h o (carriedOf x serverWork before bytes) peer begin
       unfolding carry outcomeAt outcome step
       phone-same h o a b c serverWork bytes =
-          let was : _≡_ {A = After} (record { done = d; work = after }) (beginCall keyCount (x .phone .side) (runOf (run .settings) (run .serial) o) (o .inputs) (o .book) before) = rw (a, b, c) call in
+          let was : _≡_ {A = After} (record { done = d; work = after }) (beginCall keyCount (x .phone .side) (runOf (run .settings) (run .serial) o) (o .inputs) (o .book) before) =
+          rw (a, b, c) call in
           rw z
           (carried-is (e ∙ ap (λ (r : After). refusalOf Begin 1 (r .done .refused)) was) refl
           (ap (λ (r : After). record { side = r .done .side; work = r .work; latest = partyOf (x .phone) before bytes .latest }) was)

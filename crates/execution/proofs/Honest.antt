@@ -12,13 +12,13 @@ use Rattle.lists.proofs.Questions.{both-yes}
 use Rattle.settings.specs.declared.Settings.{Settings}
 use Rattle.settings.specs.Settings.{Params, paramsIn, termsOf}
 use Rattle.settings.specs.Sizes.{keyCount, widthOf, mostBytes, messageLength}
-use Rattle.settings.specs.Schedule.{rounds, steps}
+use Rattle.settings.specs.Schedule.{rounds}
 use Rattle.settings.proofs.Sizes.{openings-most}
 use Rattle.column.specs.Run.{plainOpened}
-use Rattle.runs.specs.Records.{PartyInput, JointState, Party, Call, ScheduledCall, Observation, Outcome, outcome, step, jointAfter}
+use Rattle.runs.specs.Records.{PartyInput, JointState, Party, Call, ScheduledCall, Observation, jointAfter}
 use Rattle.runs.specs.Records.Party.{observer, peer}
 use Rattle.runs.specs.Records.Observation.{began, sent, took, answered, counted}
-use Rattle.runs.specs.Demands.{Fixed, Secret, Shares, Possible, Start, observerInput, peerInput, partyNumber, outFor, roundInOrder, holds, carriedThrough}
+use Rattle.runs.specs.Demands.{Start, observerInput, peerInput, outFor, roundInOrder, holds, carriedThrough}
 use Rattle.runs.specs.Progress.{Counts, none, sentOf, stepCounts, countsAfter, jointAt}
 use Rattle.runs.proofs.Doors.{accepted}
 use Rattle.runs.proofs.PartyStates.{which-below}
@@ -28,7 +28,7 @@ use Rattle.runs.proofs.Carried.{next-near, carried}
 use Rattle.runs.proofs.Whole.{honest-pair, allowed}
 use Rattle.runs.proofs.Theorem.{honest, progress, every-run-ends}
 use Rattle.execution.specs.Execution.{Carried, noRefusal, refusalOf, refusalIn, messageIn, messageRoom, roundCalls, runCalls, outcomeAt, carry, carryAll}
-use Rattle.execution.specs.Theorems.{GoesThrough, HonestRunGoesThrough}
+use Rattle.execution.specs.Theorems.{HonestRunGoesThrough}
 
 -- ---- A call that was accepted
 

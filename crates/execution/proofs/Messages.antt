@@ -1,12 +1,10 @@
 -- A message that is sent behind the others: where it stands, and that the others stay.
 use Prim.Native.Nat.{ℕ, zero, suc, _+_, _-_, _≤_}
 use mathlib.Core.Path.{_≡_, refl, sym, ap, _∙_}
-use mathlib.Core.Bool.{Bool, true, false, cond}
-use mathlib.Core.List.{List, [], _∷_, _++_, append-assoc}
+use mathlib.Core.List.{List, [], _∷_, _++_}
 use native.Mathlib.Omega.{arith}
-use lib.Dec.{eqb}
-use lib.ListN.{length, take, drop, length-take, length-drop, length-append}
-use lib.Seq.{length-take-le, take-all, take-take, take-at, drop-at, take-append-add, drop-append-add}
+use lib.ListN.{length, take, drop}
+use lib.Seq.{length-take-le, take-take, take-at, drop-at, take-append-add, drop-append-add}
 use Rattle.execution.specs.declared.Endpoint.{Endpoint}
 use Rattle.execution.specs.Held.{Stands}
 

@@ -5,7 +5,7 @@ use mathlib.Core.Bool.{Bool, true, false, cond}
 use mathlib.Core.List.{List, [], _++_, append-nil, append-assoc}
 use native.Mathlib.Omega.{arith}
 use lib.Dec.{eqb, leb}
-use lib.ListN.{length, take, drop, replicate, length-replicate, length-drop, drop-of-length-le}
+use lib.ListN.{length, take, drop, length-replicate, length-drop, drop-of-length-le}
 use lib.Seq.{take-at, take-all, drop-drop, length-take-le, length-front}
 use borrow.Author.Tests.{le-leb, eq-eqb, ne-eqb, eqb-true}
 use borrow.Rule.Slice.PartMut.{midOf, postOf, putMid, put-same, same-len-mid}
@@ -24,7 +24,6 @@ use Rattle.side.specs.Side.{AfterSend, sendNo, sentSide, afterSend, sendCall}
 use Rattle.side.proofs.Sending.{send-ready}
 use Rattle.runs.proofs.Laws.{message-sized}
 use Rattle.execution.specs.declared.Endpoint.{Endpoint}
-use Rattle.execution.specs.declared.SendStep.{SendStep}
 use Rattle.execution.specs.Execution.{messageRoom}
 use Rattle.execution.specs.Held.{partyOf, Stands, sendOf, messageSent, sentParty, SendsAt}
 use Rattle.execution.proofs.Messages.{front-stays, message-behind, message-stands, message-end}
@@ -142,8 +141,11 @@ module _ (e : Endpoint) (work before : List ℕ) (at : ℕ) (stands : Stands (e 
             (rw after-is (message-stands before at (message keyCount (e .side) work) tail (omega arith) (r .length) (sized ∙ sym length-is)) ∙ sym (latest-sent there said));
         messages-are = rw (after-is, said) (message-behind before at (message keyCount (e .side) work) tail (omega arith) (r .length) (sized ∙ sym length-is));
         front = rw after-is (front-stays before at (message keyCount (e .side) work) tail (omega arith));
-        behind = rw after-is (ap (λ (n : ℕ). drop (at + n) (take at before ++ (message keyCount (e .side) work ++ tail))) (length-is ∙ sym sized) ∙ message-end before at (message keyCount (e .side) work) tail (omega arith)) ∙ tail-is (message keyCount (e .side) work) (r .length) (sized ∙ sym length-is);
-        size = same-len-mid at (length before - at) before out (rw out-is (length-front part (message keyCount (e .side) work) (length (message keyCount (e .side) work)) (sym (length-take-le (length (message keyCount (e .side) work)) part (omega (arith, sized, fits, part-long))))));
+        behind = rw after-is (ap (λ (n : ℕ). drop (at + n) (take at before ++ (message keyCount (e .side) work ++ tail))) (length-is ∙ sym sized)
+            ∙ message-end before at (message keyCount (e .side) work) tail (omega arith)) ∙ tail-is (message keyCount (e .side) work) (r .length) (sized ∙ sym length-is);
+        size = same-len-mid at (length before - at) before out (rw out-is
+            (length-front part (message keyCount (e .side) work) (length (message keyCount (e .side) work))
+            (sym (length-take-le (length (message keyCount (e .side) work)) part (omega (arith, sized, fits, part-long))))));
         stands = record { begins = omega arith; ends = omega arith };
         grows = omega arith;
         most = omega (arith, length-is, fits);

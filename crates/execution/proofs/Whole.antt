@@ -1,15 +1,15 @@
 -- The whole run: from the deal, both begins and the rounds.
-use Prim.Native.Nat.{ℕ, zero, suc, _+_, _*_, _-_, _≤_, _<_, min}
+use Prim.Native.Nat.{ℕ, zero, suc, _+_, _*_, _-_, _≤_, min}
 use mathlib.Core.Path.{_≡_, refl, sym, ap, ap₂, _∙_}
 use mathlib.Core.Bool.{Bool, true, false, cond, _&&_}
-use mathlib.Core.List.{List, [], _∷_, _++_}
+use mathlib.Core.List.{List, _++_}
 use native.Mathlib.Omega.{arith}
-use native.Mathlib.Decide.{decLt}
 use lib.Dec.{eqb, leb}
-use lib.ListN.{length, take, drop, replicate, length-replicate, length-drop, drop-of-length-le, take-append-drop}
+use lib.ListN.{length, take, drop, replicate, length-replicate, length-drop, take-append-drop}
 use lib.Seq.{take-all, drop-drop, length-take-le}
 use borrow.Author.Tests.{ne-eqb, eqb-true, ltb-true, leb-true}
 use borrow.Rule.Slice.PartMut.{midOf}
+use Rattle.lists.proofs.Lists.{take-min, drop-min}
 use Rattle.lists.proofs.Questions.{both-yes}
 use Rattle.settings.specs.declared.Shape.{Shape}
 use Rattle.settings.specs.Settings.{paramsOf}
@@ -17,33 +17,17 @@ use Rattle.settings.specs.Questions.{isBit, countOk, shapeOk}
 use Rattle.settings.specs.Sizes.{keyCount, widthOf, shared, bookSize, inputSize}
 use Rattle.settings.proofs.Sizes.{shared-most}
 use Rattle.settings.specs.Schedule.{rounds}
-use Rattle.book.specs.Books.{multipliers, serverBook, phoneBook}
 use Rattle.dealer.specs.Deal.{Dealt, dealNo, dealCall}
 use Rattle.runs.specs.Records.{PartyInput, runOf}
 use Rattle.runs.specs.Records.Party.{observer, peer}
 use Rattle.runs.specs.Records.Call.{begin}
 use Rattle.execution.specs.declared.RunTerms.{RunTerms}
 use Rattle.execution.specs.declared.Execution.{Execution}
-use Rattle.execution.specs.declared.CallKind.the-variants.{Deal}
 use Rattle.execution.specs.Execution.{refusalOf, Carried, carry, carryAll, roundCalls, runCalls, serverInputs, phoneInputs, drawIn, serverInput, phoneInput, zeroWork, dealNoOf, executed}
 use Rattle.execution.specs.Held.{carriedOf, Fits, runBytes, runAt, startOf, ServerBegins, PhoneBegins, RoundsRun, Executes, RunsFrom}
 use Rattle.execution.proofs.Calls.{stopped}
 
 -- ---- The parts of the numbers, as far as there are so many
-
-take-min : (m n : ℕ) (l : List ℕ) → n ≡ min m (length l) → take n l ≡ take m l
-take-min m n l e = go (decLt m (length l))
-  where
-    go : Dec (m < length l) → take n l ≡ take m l
-    go (yes h) = let f : n ≡ m = omega arith in rw f
-    go (no h) = take-all n l (omega arith) ∙ sym (take-all m l (omega arith))
-
-drop-min : (m n : ℕ) (l : List ℕ) → n ≡ min m (length l) → drop n l ≡ drop m l
-drop-min m n l e = go (decLt m (length l))
-  where
-    go : Dec (m < length l) → drop n l ≡ drop m l
-    go (yes h) = let f : n ≡ m = omega arith in rw f
-    go (no h) = drop-of-length-le l {i = n} (omega arith) ∙ sym (drop-of-length-le l {i = m} (omega arith))
 
 module _ (a : Shape) (numbers : List ℕ) (first second : ℕ) (e : first ≡ min (inputSize a) (length numbers))
     (f : second ≡ first + min (inputSize a) (length numbers - first)) where

@@ -1,5 +1,5 @@
 -- A run carried through in order, up to the first refusal: the deal, both begins, and the seven rounds.
-use Prim.Native.Nat.{ℕ, zero, suc, _*_}
+use Prim.Native.Nat.{ℕ, zero, suc}
 use mathlib.Core.Bool.{cond}
 use mathlib.Core.List.{List, [], _∷_, _++_}
 use lib.Dec.{eqb}

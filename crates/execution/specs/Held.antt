@@ -1,5 +1,5 @@
 -- What the code holds of a run under way, as the run carried so far.
-use Prim.Native.Nat.{ℕ, suc, _+_, _*_, _-_, _≤_, min}
+use Prim.Native.Nat.{ℕ, _+_, _*_, _-_, _≤_, min}
 use mathlib.Core.Path.{_≡_}
 use mathlib.Core.Bool.{cond}
 use mathlib.Core.List.{List, _++_}
@@ -14,7 +14,7 @@ use Rattle.state.specs.declared.Side.{Side}
 use Rattle.state.specs.State.{freshSide}
 use Rattle.side.specs.declared.Run.{Run}
 use Rattle.side.specs.Side.{AfterSend, sendCall}
-use Rattle.runs.specs.Records.{PartyInput, PartyState, JointState, Party, Call, runOf}
+use Rattle.runs.specs.Records.{PartyInput, PartyState, JointState, runOf}
 use Rattle.runs.specs.Records.Party.{observer, peer}
 use Rattle.runs.specs.Records.Call.{begin, send, takeLatest}
 use Rattle.execution.specs.declared.RunTerms.{RunTerms}

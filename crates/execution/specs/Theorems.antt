@@ -4,7 +4,7 @@ use mathlib.Core.Path.{_≡_}
 use mathlib.Core.List.{List, []}
 use Rattle.settings.specs.declared.Settings.{Settings}
 use Rattle.settings.specs.Sizes.{keyCount}
-use Rattle.runs.specs.Records.{PartyInput, JointState, jointAfter}
+use Rattle.runs.specs.Records.{JointState}
 use Rattle.runs.specs.Demands.{Fixed, Secret, Shares, Possible, Start, observerInput, peerInput, Ended}
 use Rattle.execution.specs.Execution.{Carried, noRefusal, runCalls, carryAll}
 

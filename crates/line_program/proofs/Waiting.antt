@@ -6,12 +6,12 @@ use mathlib.Core.List.{List, [], _++_, append-nil}
 use native.Mathlib.Omega.{arith}
 use lib.ListN.{length, take, drop, length-take, length-drop}
 use lib.Seq.{take-all, drop-drop}
+use Rattle.lists.proofs.Lists.{take-min}
 use Rattle.stream.specs.declared.Stream.{Stream}
 use Rattle.stream.specs.declared.Step.{Step}
 use Rattle.stream.specs.Stream.{atLine, heldOf, keptAfter, nextLine, isLeft}
 use Rattle.stream.specs.Theorems.{State, afterCall}
 use Rattle.stream.proofs.Standing.{left-line}
-use Rattle.stream.proofs.Held.{take-min}
 use Rattle.stream.proofs.Calls.{some-used, used-fits, held-fits, calls-more}
 use Rattle.text.specs.Text.{textAt, puts}
 use Rattle.text.proofs.Puts.{front-put, within-put, length-put}

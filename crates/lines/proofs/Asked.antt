@@ -88,7 +88,8 @@ in-turn true false d r s t e f = refl
 in-turn true true false r s t e f = refl
 in-turn true true true r s t e f = e refl ∙ no-more s t (f refl)
 
-module _ (serial : ℕ) (o : Request) (eight : length (o .numbers) ≡ 8) (draw inputs zeros a b work : List ℕ) (l : LentSlices o draw inputs zeros a b) (work-long : length work ≡ workLength keyCount) where
+module _ (serial : ℕ) (o : Request) (eight : length (o .numbers) ≡ 8) (draw inputs zeros a b work : List ℕ) (l : LentSlices o draw inputs zeros a b)
+    (work-long : length work ≡ workLength keyCount) where
   deal-asks : dealNo keyCount (settingsOf o .shape) ones ones draw a b ≡ ask (isBit (o .set) && isBit (o .kind)) 1 (ask (countOk (o .count)) 2 0)
   unfolding dealNo askShape ask
   deal-asks = rw (ones-ok, eq-eqb _ _ (l .draw-long), eq-eqb _ _ (l .server-long), eq-eqb _ _ (l .phone-long), l .draw-below)
@@ -123,8 +124,10 @@ module _ (serial : ℕ) (o : Request) (eight : length (o .numbers) ≡ 8) (draw 
   unfolding requestNo askSettings askShape ask
   asked-in-order server phone f g =
       rw (deal-asks, begin-asks 0 (omega arith) (inColumns (secretOf o)) server, begin-asks 1 (omega arith) zeros phone)
-      (in-turn (isBit (o .set) && isBit (o .kind)) (countOk (o .count)) (boundOk (o .kind) (o .bound)) (ask (allBelow q (secretOf o)) 6 (ask (ltb 0 serial) 7 0)) (handed (inColumns (secretOf o)) server) (handed zeros phone)
+      (in-turn (isBit (o .set) && isBit (o .kind)) (countOk (o .count)) (boundOk (o .kind) (o .bound)) (ask (allBelow q (secretOf o)) 6 (ask (ltb 0 serial) 7 0))
+      (handed (inColumns (secretOf o)) server) (handed zeros phone)
       (λ e. ap (λ (x : Bool). ask x 6 (ask (ltb 0 serial) 7 0)) (sym (columns-same (secretOf o))) ∙ sym (handed-asks (inColumns (secretOf o)) server (coefficients-long e) f))
       (λ e z. handed-asks zeros phone (ap length (l .zeros) ∙ length-replicate {A = ℕ} (o .count * width) 0) g
       ∙ ap (λ (x : Bool). ask x 6 (ask (ltb 0 serial) 7 0)) (ap (allBelow q) (l .zeros) ∙ zeros-below (o .count * width))
-      ∙ passed-yes (ask (ltb 0 serial) 7 0) ∙ passed (allBelow q (inColumns (secretOf o))) 5 (ask (ltb 0 serial) 7 0) (sym (handed-asks (inColumns (secretOf o)) server (coefficients-long e) f) ∙ z) .1))
+      ∙ passed-yes (ask (ltb 0 serial) 7 0) ∙ passed (allBelow q (inColumns (secretOf o))) 5 (ask (ltb 0 serial) 7 0)
+      (sym (handed-asks (inColumns (secretOf o)) server (coefficients-long e) f) ∙ z) .1))

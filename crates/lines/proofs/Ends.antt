@@ -26,7 +26,7 @@ use Rattle.state.proofs.States.{finished-whole, places-most}
 use Rattle.runs.specs.Records.{answerOf, missingShares, JointState}
 use Rattle.runs.specs.Demands.{Fixed, Idle, observerInput, peerInput}
 use Rattle.syntax.specs.declared.Request.{Request}
-use Rattle.execution.specs.Execution.{Carried, noRefusal, refusalOf, carryAll, runCalls, serverInputs, phoneInputs, drawIn, freshParty, notBegun, dealNoOf, executed}
+use Rattle.execution.specs.Execution.{Carried, noRefusal, refusalOf, carryAll, runCalls, serverInputs, phoneInputs, drawIn, freshParty, dealNoOf, executed}
 use Rattle.execution.specs.Theorems.{GoesThrough}
 use Rattle.execution.proofs.Honest.{honest-run-goes-through}
 use Rattle.lines.specs.declared.LineResult.{LineResult}

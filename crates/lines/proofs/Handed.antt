@@ -1,12 +1,11 @@
 -- What the deal and the begins of a play are handed.
-use Prim.Native.Nat.{ℕ, zero, suc, _+_, _*_, _/_, _%_, _≤_, _<_, min}
+use Prim.Native.Nat.{ℕ, zero, suc, _+_, _*_, _/_, _%_, _≤_, _<_}
 use mathlib.Core.Path.{_≡_, refl, sym, ap, _∙_}
 use mathlib.Core.Bool.{true, _&&_}
 use mathlib.Core.List.{List, [], _∷_}
 use native.Mathlib.Omega.{arith}
 use lib.Dec.{ltb, lit<}
-use lib.Seq.{length-take-le, take-all}
-use native.Mathlib.Decide.{decLt}
+use lib.Seq.{length-take-le}
 use Rattle.text.specs.Decimal.{tooLarge}
 use lib.ListN.{length, getD, take, drop, replicate, length-replicate, getD-replicate, replicate-append-replicate}
 use borrow.Author.Tests.{lt-ltb}
@@ -101,16 +100,9 @@ pub missing-none : (xs : List ℕ) → missingShares width (multipliers ones one
 unfolding missingShares
 missing-none xs =
     listTo-cong (length xs * width) _ (λ (x : ℕ). 0)
-    (λ x l. none-left (getD (multipliers ones ones) (x % width) 0) (getD xs (x / width) 0) (getD (inColumns xs) (x / width * width + x % width) 0) (one-of keyCount (x % width) (omega arith)) (columns-at xs x l))
+    (λ x l. none-left (getD (multipliers ones ones) (x % width) 0) (getD xs (x / width) 0) (getD (inColumns xs) (x / width * width + x % width) 0) (one-of keyCount (x % width) (omega arith))
+    (columns-at xs x l))
     ∙ zeros-are 0 (length xs * width)
-
--- so many of a list, or all
-pub take-min : (m n : ℕ) (l : List ℕ) → n ≡ min m (length l) → take n l ≡ take m l
-take-min m n l e = go (decLt m (length l))
-  where
-    go : Dec (m < length l) → take n l ≡ take m l
-    go (yes h) = let f : n ≡ m = omega arith in rw f
-    go (no h) = take-all n l (omega arith) ∙ sym (take-all m l (omega arith))
 
 -- no number is too large in the empty list
 pub none-below : (i : ℕ) → getD {A = ℕ} [] i 0 < tooLarge

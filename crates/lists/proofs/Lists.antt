@@ -1,11 +1,13 @@
--- Lists by an index function, and lists joined of pieces: where a piece stands, and when a list is the join of its own pieces.
+-- Lists by an index function; lists joined of pieces: where a piece stands, and when a list is the join of its own pieces; the front of a
+-- list.
 use mathlib.Core.Path.{_≡_, refl, sym, ap, ap₂, _∙_}
 use mathlib.Core.List.{List, [], _∷_, _++_, map}
-use Prim.Native.Nat.{ℕ, zero, suc, _+_, _*_, _-_, _≤_, _<_}
+use Prim.Native.Nat.{ℕ, zero, suc, _+_, _*_, _-_, _≤_, _<_, min}
 use native.Mathlib.Nat.{zero-add, add-zero, add-assoc, mul-zero, mul-suc}
+use native.Mathlib.Decide.{decLt}
 use native.Mathlib.Omega.{arith}
-use lib.ListN.{length, getD, drop, length-append, List·getD-append, length-drop, replicate}
-use lib.Seq.{ext-getD, getD-append-add, getD-drop}
+use lib.ListN.{length, getD, take, drop, length-append, List·getD-append, length-drop, drop-of-length-le, replicate}
+use lib.Seq.{ext-getD, getD-append-add, getD-drop, take-all}
 use Rattle.lists.specs.Lists.{listFrom, listTo, joinFrom, joinTo}
 
 -- ---- runs f i, .., f (i + n - 1)
@@ -166,3 +168,18 @@ pub padded : (xs ys : List ℕ) (n c : ℕ) → getD (xs ++ replicate n 0) c 0 +
 padded [] ys n c = rw (getD-zeros n c) (zero-add (getD ys c 0))
 padded (x ∷ xs) ys n zero = add-zero x
 padded (x ∷ xs) ys n (suc c) = padded xs ys n c
+
+-- ---- the front of a list: so many, or all; and what is behind it
+pub take-min : (m n : ℕ) (l : List ℕ) → n ≡ min m (length l) → take n l ≡ take m l
+take-min m n l e = go (decLt m (length l))
+  where
+    go : Dec (m < length l) → take n l ≡ take m l
+    go (yes h) = let f : n ≡ m = omega arith in rw f
+    go (no h) = take-all n l (omega arith) ∙ sym (take-all m l (omega arith))
+
+pub drop-min : (m n : ℕ) (l : List ℕ) → n ≡ min m (length l) → drop n l ≡ drop m l
+drop-min m n l e = go (decLt m (length l))
+  where
+    go : Dec (m < length l) → drop n l ≡ drop m l
+    go (yes h) = let f : n ≡ m = omega arith in rw f
+    go (no h) = drop-of-length-le l {i = n} (omega arith) ∙ sym (drop-of-length-le l {i = m} (omega arith))

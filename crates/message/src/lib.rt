@@ -118,7 +118,7 @@ fn get_number(bytes: &[u8], first: usize, count: usize) -> u64
 }
 
 // The `count` bytes of x, from place `first` on.
-fn put_number(out: &mut [u8], first: usize, count: usize, x: u64)
+fn write_number(out: &mut [u8], first: usize, count: usize, x: u64)
     requires { ⌜ (first + count ≤ length (now out)) × (count ≤ 8) ⌝ }
     ensures { λ _. ⌜ now (out .exit) ≡ fill (now (out .entry)) first count (byteOf count x) ⌝ }
 {
@@ -150,7 +150,7 @@ fn put_bits(out: &mut [u8], at: usize, width: usize, value: u32)
     let count = (used + width + 7) / 8;
     let head = wide(out[at / 8]) >> (8 - used);
     let x = ((head << width) + value as u64) << (8 * count - used - width);
-    put_number(out, at / 8, count, x);
+    write_number(out, at / 8, count, x);
 }
 
 // ---- Reader
@@ -220,7 +220,7 @@ pub fn put_message(out: &mut [u8], header: Header, fields: &[u32]) -> usize
     ensures { λ r. ⌜ (r ≡ bytesFor (messageBits (length (now (fields .entry)))))
         × (now (out .exit) ≡ inFront (messageOf (headerNumber header) (now (fields .entry))) (now (out .entry))) ⌝ }
 {
-    put_number(out, 0, Header::BYTES, header.number());
+    write_number(out, 0, Header::BYTES, header.number());
     put_fields(out, fields);
     length_of(fields.len())
 }

@@ -4,21 +4,14 @@ use mathlib.Core.Path.{_≡_, refl, sym, ap, _∙_}
 use mathlib.Core.Bool.{true, false}
 use mathlib.Core.List.{List, _++_}
 use native.Mathlib.Omega.{arith}
-use native.Mathlib.Decide.{decLt}
 use borrow.Author.Tests.{lt-ltb, le-ltb}
 use lib.ListN.{length, take, length-take}
-use lib.Seq.{paste, take-all, take-append-add, length-paste-head}
+use lib.Seq.{paste, take-append-add, length-paste-head}
+use Rattle.lists.proofs.Lists.{take-min}
 use Rattle.stream.specs.declared.Stream.{Stream}
 use Rattle.stream.specs.declared.Step.{Step}
 use Rattle.lists.specs.Lists.{inFront, lengthBefore}
 use Rattle.stream.specs.Stream.{atLine, withBytes, keptAfter, nextLine}
-
-pub take-min : (m n : ℕ) (l : List ℕ) → n ≡ min m (length l) → take n l ≡ take m l
-take-min m n l e = go (decLt m (length l))
-  where
-    go : Dec (m < length l) → take n l ≡ take m l
-    go (yes h) = let s : n ≡ m = omega arith in rw s refl
-    go (no h) = take-all n l (omega arith) ∙ sym (take-all m l (omega arith))
 
 module _ (kept bytes : List ℕ) (held from n : ℕ) (front : from ≡ min held (length kept)) (room : n ≡ min (length kept - from) (length bytes)) where
   held-is : withBytes kept held bytes ≡ take from kept ++ take n bytes

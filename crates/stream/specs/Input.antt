@@ -10,10 +10,10 @@ unfoldable pub linesOf : List ℕ → List (List ℕ)
 linesOf [] = []
 linesOf (b ∷ bs) = cond (eqb b 10) ([] ∷ linesOf bs) (toFirst b (linesOf bs))
 
--- what is written for each line, given its number and its bytes; k is the number of the first
+-- what is written for each line, given its number and its bytes; `number` is that of the first
 unfoldable pub answersFrom : (ℕ → List ℕ → List ℕ) → ℕ → List (List ℕ) → List ℕ
-answersFrom answer k [] = []
-answersFrom answer k (l ∷ ls) = answer k l ++ answersFrom answer (suc k) ls
+answersFrom answer number [] = []
+answersFrom answer number (l ∷ ls) = answer number l ++ answersFrom answer (suc number) ls
 
 -- what is written for a whole input
 unfoldable pub outputOf : (ℕ → List ℕ → List ℕ) → List ℕ → List ℕ

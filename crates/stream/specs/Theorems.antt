@@ -25,9 +25,9 @@ afterCall answer a bytes =
 -- calls until a part is used up: a call uses one byte at least, so as many calls as bytes are enough
 unfoldable pub afterCalls : (ℕ → List ℕ → List ℕ) → ℕ → State → List ℕ → State
 afterCalls answer zero a bytes = a
-afterCalls answer (suc k) a bytes =
+afterCalls answer (suc calls) a bytes =
     cond (eqb (length bytes) 0) a
-    (afterCalls answer k (afterCall answer a bytes) (drop (nextLine (a .stream) (a .kept) bytes .used) bytes))
+    (afterCalls answer calls (afterCall answer a bytes) (drop (nextLine (a .stream) (a .kept) bytes .used) bytes))
 
 -- one part after another
 unfoldable pub afterParts : (ℕ → List ℕ → List ℕ) → State → List (List ℕ) → State
@@ -52,7 +52,7 @@ abbrev pub WritesTheOutput : Type 0
 WritesTheOutput =
     (answer : ℕ → List ℕ → List ℕ) (kept : List ℕ)
     → 0 < length kept
-    → ((k : ℕ) (line : List ℕ) → answer k (take (length kept) line) ≡ answer k line)
+    → ((number : ℕ) (line : List ℕ) → answer number (take (length kept) line) ≡ answer number line)
     → (parts : List (List ℕ))
     → length (linesOf (concatenated parts)) < 18446744073709551616
     → writtenFor answer kept parts ≡ outputOf answer (concatenated parts)

@@ -27,14 +27,14 @@ kindIn w = cond (isByte 72 w) (fit 0) (cond (isByte 66 w) (fit 1) unfit)
 unfoldable pub setIn : List ℕ → ReadNumber
 setIn w = cond (isByte 45 w) (fit 0) (numberIn w)
 
--- "H or B, set or `-` (meaning 0), B, then coefficients": the word at place k
+-- "H or B, set or `-` (meaning 0), B, then coefficients": the word at place i
 unfoldable pub fieldAt : ℕ → List ℕ → ReadNumber
-fieldAt k w = cond (eqb k 0) (kindIn w) (cond (eqb k 1) (setIn w) (numberIn w))
+fieldAt i w = cond (eqb i 0) (kindIn w) (cond (eqb i 1) (setIn w) (numberIn w))
 
--- the words from place k on
+-- the words from place i on
 unfoldable pub fieldsFrom : ℕ → List (List ℕ) → List ReadNumber
-fieldsFrom k [] = []
-fieldsFrom k (w ∷ ws) = fieldAt k w ∷ fieldsFrom (suc k) ws
+fieldsFrom i [] = []
+fieldsFrom i (w ∷ ws) = fieldAt i w ∷ fieldsFrom (suc i) ws
 
 -- have all words their form?
 unfoldable pub allGood : List ReadNumber → Bool

@@ -11,7 +11,7 @@ use borrow.Author.Tests.{le-ltb, lt-ltb, le-leb, lt-leb, ne-eqb}
 use lib.ListN.{length, getD, drop, drop-of-length-le}
 use lib.Seq.{drop-cons}
 use Rattle.lists.specs.Lists.{every}
-use Rattle.text.specs.Decimal.{mostDigits, tooLarge, digitByte, valueFrom, valueOf, fit, unfit, numberIn, noDigits, badDigits, withDigit, withDigits, numberOf}
+use Rattle.text.specs.Decimal.{mostDigits, tooLarge, digitByte, valueFrom, valueOf, fit, unfit, numberIn, noDigits, badDigits, withDigit, withDigits, numberRead}
 use Rattle.text.specs.declared.DigitsRead.{DigitsRead}
 
 -- a digit is no byte below `0`
@@ -72,9 +72,9 @@ read-on n v (b ∷ w) h l = go (digitByte b) refl (decLt n mostDigits) (decLt (v
 
 -- the number of what has been read, by the tests of `numberIn`
 number-of : (n v : ℕ) (long digits large : Bool)
-    → numberOf (cond long badDigits (cond digits (cond large badDigits (read (suc n) v)) badDigits))
+    → numberRead (cond long badDigits (cond digits (cond large badDigits (read (suc n) v)) badDigits))
     ≡ cond long unfit (cond digits (cond large unfit (fit v)) unfit)
-unfolding numberOf
+unfolding numberRead
 number-of n v true digits large = refl
 number-of n v false false large = refl
 number-of n v false true true = refl
@@ -87,12 +87,12 @@ some-bytes : (b : ℕ) (w : List ℕ)
 unfolding numberIn
 some-bytes b w = rw (ne-eqb (suc (length w)) 0 (λ e. omega (arith, e))) refl
 
-pub read-word : (w : List ℕ) → numberOf (withDigits noDigits w) ≡ numberIn w
-unfolding withDigits numberOf numberIn
+pub read-word : (w : List ℕ) → numberRead (withDigits noDigits w) ≡ numberIn w
+unfolding withDigits numberRead numberIn
 read-word [] = refl
 read-word (b ∷ w) =
     let n : 0 + suc (length w) ≡ suc (length w) = omega arith in
-    ap numberOf (read-on 0 0 (b ∷ w) (omega arith) (omega arith))
+    ap numberRead (read-on 0 0 (b ∷ w) (omega arith) (omega arith))
     ∙ (rw n (number-of (length w) (valueOf (b ∷ w)) (ltb mostDigits (suc (length w))) (every digitByte (b ∷ w)) (leb tooLarge (valueOf (b ∷ w)))))
     ∙ sym (some-bytes b w)
 

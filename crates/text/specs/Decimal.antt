@@ -69,5 +69,5 @@ withDigits d [] = d
 withDigits d (b ∷ bs) = withDigits (withDigit d b) bs
 
 -- the number, when its last byte has been read
-unfoldable pub numberOf : DigitsRead → ReadNumber
-numberOf d = cond (d .good) (cond (eqb (d .count) 0) unfit (fit (d .value))) unfit
+unfoldable pub numberRead : DigitsRead → ReadNumber
+numberRead d = cond (d .good) (cond (eqb (d .count) 0) unfit (fit (d .value))) unfit

@@ -27,10 +27,10 @@ abbrev pub lastDigit : ℕ → ℕ
 lastDigit n = 48 + n % 10
 
 -- a number in decimal: one below 10 is its digit; any other is its tenth, rounded down, in decimal, and then its last digit.
--- k is how many digits more than one it may have
+-- `more` is how many digits more than one it may have
 unfoldable pub decimalIn : ℕ → ℕ → List ℕ
 decimalIn zero n = lastDigit n ∷ []
-decimalIn (suc k) n = cond (ltb n 10) (lastDigit n ∷ []) (decimalIn k (n / 10) ++ lastDigit n ∷ [])
+decimalIn (suc more) n = cond (ltb n 10) (lastDigit n ∷ []) (decimalIn more (n / 10) ++ lastDigit n ∷ [])
 
 -- a number below 10^20, so any of 64 bits
 unfoldable pub decimal : ℕ → List ℕ

@@ -3,7 +3,7 @@
 ghost use mathlib.Core.Path.{_≡_};
 ghost use mathlib.Core.List.{[], _∷_};
 ghost use Prim.Native.Nat.{_<_};
-ghost use Rattle.text.specs.Decimal.{digitByte, noDigits, badDigits, withDigit, numberOf, numberIn};
+ghost use Rattle.text.specs.Decimal.{digitByte, noDigits, badDigits, withDigit, numberRead, numberIn};
 ghost use Rattle.text.specs.Numbers.{startNumbers, malformedInput, blankByte, withNumberDigit, numbersEnded, afterByte, afterBytes, stored, kept, keptOver};
 ghost use Rattle.text.specs.Text.{textAt, puts, lastDigit, decimalIn, decimal, numbersText, hexDigit, hexByte, hexBytes};
 
@@ -85,7 +85,7 @@ fn add_digit(read: DigitsRead, byte: u8) -> DigitsRead
 
 // The number, when its last byte has been read.
 fn end_digits(read: DigitsRead) -> ReadNumber
-    ensures { λ r. ⌜ r ≡ numberOf read ⌝ }
+    ensures { λ r. ⌜ r ≡ numberRead read ⌝ }
 {
     if !read.good {
         return ReadNumber {

@@ -1,44 +1,32 @@
+-- `execution::server_take` meets its contract. Assumes nothing.
 use borrow.Author.Needs.{needs}
 use Rattle.execution.proofs.server_take.Statement.{statement}
 use Rattle.execution.proofs.server_take.Tie as tie
-use Rattle.execution.proofs.server_take.Reads as reads
-use Rattle.execution.proofs.server_take.Lts as lts
-use Rattle.execution.proofs.refusal_of.Reads as refusal-of-reads
-use Rattle.side.proofs.take.Reads as take-reads
 use native.Mathlib.Omega.{arith}
 use Rattle.execution.proofs.Calls.{server-not-taken, server-takes}
 
--- src/lib.rt:306:9
 returns : tie.Need-returns
 returns c = server-not-taken (c .before .before .before .before .args .x) (c .before .before .before .before .args .work .now) (c .before .before .before .before .args .messages .now) (c .if1 .taken)
 
--- src/lib.rt:313:33
 sub-take : tie.Need-sub-take
 sub-take c = omega (arith, c .before .before .before .before .before .before .before .before .pre .phone .begins)
 
--- src/lib.rt:313:33
 part-take-start : tie.Need-part-take-start
-part-take-start c = omega (arith, c .before .before .before .before .before .before .before .before .pre .phone .begins, c .before .before .before .before .before .before .before .before .pre .phone .ends, c .before .before .before .before .before .before .before .before .pre .room)
+part-take-start c =
+    let p = c .before .before .before .before .before .before .before .before .pre in
+    omega (arith, p .phone .begins, p .phone .ends, p .room)
 
--- src/lib.rt:313:33
 part-take-end : tie.Need-part-take-end
-part-take-end c = omega (arith, c .before .before .before .before .before .before .before .before .pre .phone .begins, c .before .before .before .before .before .before .before .before .pre .phone .ends, c .before .before .before .before .before .before .before .before .pre .room)
+part-take-end c =
+    let p = c .before .before .before .before .before .before .before .before .pre in
+    omega (arith, p .phone .begins, p .phone .ends, p .room)
 
--- src/lib.rt:313:9
-take-requires : tie.Need-take-requires
-take-requires c κs = search needs
-
--- src/lib.rt:316:18
-refusal-of-requires : tie.Need-refusal-of-requires
-refusal-of-requires c κs = search needs
-
--- src/lib.rt:301:1
-same-length : tie.Need-same-length
-same-length c = search needs
-
--- src/lib.rt:301:1
 returns-2 : tie.Need-returns-2
-returns-2 c = server-takes (c .before .before .before .before .before .before .before .before .before .before .before .before .before .before .args .x) (c .before .before .before .before .before .before .before .before .before .before .before .before .before .before .args .work .now) (c .before .before .before .before .before .before .before .before .before .before .before .before .before .before .args .messages .now) (c .before .before .before .before .before .before .before .before .before .before .if1 .left) (c .before .before .before .before .take .result) (c .refusal-of .result) _ (c .before .before .before .before .take .ensures) (c .refusal-of .ensures)
+returns-2 c =
+    let a = c .before .before .before .before .before .before .before .before .before .before .before .before .before .before .args in
+    let take = c .before .before .before .before .take in
+    server-takes (a .x) (a .work .now) (a .messages .now) (c .before .before .before .before .before .before .before .before .before .before .if1 .left) (take .result)
+    (c .refusal-of .result) _ (take .ensures) (c .refusal-of .ensures)
 
 pub server-take-spec : {M : Type 1} → statement M
 server-take-spec =
@@ -48,7 +36,7 @@ server-take-spec =
     sub-take
     part-take-start
     part-take-end
-    take-requires
-    refusal-of-requires
-    same-length
+    (λ c κs. search needs)
+    (λ c κs. search needs)
+    (λ c. search needs)
     returns-2)

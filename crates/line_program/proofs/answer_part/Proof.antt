@@ -45,15 +45,21 @@ loop-less c =
 
 loop-again : tie.Need-loop-again Inv-loop μ-loop
 loop-again c =
+    let answer-some = c .before .before .before .before .before .before .before .before .answer-some in
     let loop = c .before .before .before .before .before .before .before .before .before .before .before .before .before .before .loop in
-    let bytes = c .before .before .before .before .before .before .before .before .before .before .before .before .before .before .before .before .before .before .args .bytes .now in
-    (omega (arith, length-rest bytes (loop .at), c .before .before .before .before .before .before .before .before .answer-some .ensures .1 .0), search needs, search needs, part-on (loop .here) (c .before .before .before .before .before .before .before .before .answer-some .result .stream) (loop .kept) _ bytes _ (loop .at) (c .before .before .before .before .before .before .before .before .answer-some .result .used) (c .before .before .before .before .before .before .before .before .answer-some .result .waiting) _ (c .before .before .before .before .before .before .before .before .answer-some .ensures .0) (loop .inv .3))
+    let bytes = c .before .before .before .before .before .before .before .before .before .before .before .before .before .before .before .before .before .before .args .bytes .now in (
+      omega (arith, length-rest bytes (loop .at), answer-some .ensures .1 .0),
+      search needs,
+      search needs,
+      part-on (loop .here) (answer-some .result .stream) (loop .kept) _ bytes _ (loop .at) (answer-some .result .used) (answer-some .result .waiting) _ (answer-some .ensures .0) (loop .inv .3),
+    )
 
 returns : tie.Need-returns Inv-loop μ-loop
 returns c = λ e. absurd (true≢false (sym e ∙ c .if1 .left))
 
 returns-2 : tie.Need-returns-2 Inv-loop μ-loop
-returns-2 c = λ _. part-done (c .before .loop .here) (c .before .loop .kept) (c .before .before .before .before .before .args .bytes .now) (c .before .loop .at) _ (omega arith) (c .before .loop .inv .3)
+returns-2 c =
+    λ _. part-done (c .before .loop .here) (c .before .loop .kept) (c .before .before .before .before .before .args .bytes .now) (c .before .loop .at) _ (omega arith) (c .before .loop .inv .3)
 
 pub answer-part-spec : {M : Type 1} → statement M
 answer-part-spec =

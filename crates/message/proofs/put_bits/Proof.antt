@@ -18,7 +18,7 @@ returns c =
     let w = c .before .before .before .before .wide in
     let bytes : Bytes (a .out .now) = λ j. omega (arith, c .before .before .before .before .before .before .slice-known .given j) in
     put-is (a .out .now) bytes (a .at) (a .width) (a .value) (w .result) _ (omega arith) (omega arith)
-    (c .before .before .before .before .before .before .before .pre .1) (omega arith) (w .ensures .0) (c .before .before .put-number .ensures)
+    (c .before .before .before .before .before .before .before .pre .1) (omega arith) (w .ensures .0) (c .before .before .write-number .ensures)
 
 pub put-bits-spec : {M : Type 1} → statement M
 put-bits-spec =

@@ -11,7 +11,7 @@ returns c =
     let a = c .before .before .before .before .before .before .before .before .before .before .before .before .args in
     let bytes : Bytes (a .out .now) = λ j. omega (arith, c .before .before .before .before .before .before .before .before .before .before .before .slice-known .given j) in
     let h = c .before .before .before .before .before .before .before .before .number .result in
-    (c .length-of .ensures, cc (put-message-is (a .out .now) bytes _ h (a .fields .now) (omega arith) (omega arith) (c .before .before .before .before .before .before .before .put-number .ensures)))
+    (c .length-of .ensures, cc (put-message-is (a .out .now) bytes _ h (a .fields .now) (omega arith) (omega arith) (c .before .before .before .before .before .before .before .write-number .ensures)))
 
 pub put-message-spec : {M : Type 1} → statement M
 put-message-spec =

@@ -3,7 +3,7 @@ use Prim.Native.Nat.{_≤_, _-_}
 use mathlib.Core.Path.{_≡_, ap, _∙_}
 use native.Mathlib.Omega.{arith}
 use lib.ListN.{length, drop}
-use Rattle.text.specs.Decimal.{noDigits, withDigits, numberOf}
+use Rattle.text.specs.Decimal.{noDigits, withDigits, numberRead}
 use Rattle.text.specs.declared.DigitsRead.{DigitsRead}
 use Rattle.text.proofs.Words.{read-word, digits-more, digits-done}
 use Rattle.text.proofs.number_in.Statement.{statement}
@@ -27,7 +27,7 @@ returns : tie.Need-returns Inv-loop μ-loop
 returns c =
     let loop = c .before .before .loop in
     let word = c .before .before .before .before .before .args .word .now in
-    c .end-digits .ensures ∙ ap numberOf (digits-done (loop .read) _ word (loop .i) (omega arith) (loop .inv .1)) ∙ read-word word
+    c .end-digits .ensures ∙ ap numberRead (digits-done (loop .read) _ word (loop .i) (omega arith) (loop .inv .1)) ∙ read-word word
 
 pub number-in-spec : {M : Type 1} → statement M
 number-in-spec =

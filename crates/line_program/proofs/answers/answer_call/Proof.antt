@@ -1,27 +1,20 @@
+-- `line_program::answers::answer_call` meets its contract. Assumes nothing.
 use borrow.Author.Needs.{needs}
 use Rattle.line_program.proofs.answers.answer_call.Statement.{statement}
 use Rattle.line_program.proofs.answers.answer_call.Tie as tie
-use Rattle.line_program.proofs.answers.answer_call.Reads as reads
-use Rattle.line_program.proofs.answers.answer_call.Lts as lts
-use Rattle.lines.proofs.answer_line.Reads as answer-line-reads
-use Rattle.stream.proofs.next_line.Reads as next-line-reads
 use mathlib.Core.Path.{sym, ap}
 use native.Mathlib.Omega.{arith}
 use lib.Seq.{length-take-le}
 use Rattle.stream.specs.declared.Step.{Step}
 use Rattle.line_program.proofs.Waiting.{held-in, called-open, called-ended, put-within}
 
-next-line-requires : tie.Need-next-line-requires
-next-line-requires c κs = search needs
-
-same-length : tie.Need-same-length
-same-length c = search needs
-
 returns : tie.Need-returns
 returns c =
     let a = c .before .before .before .before .before .before .before .before .before .before .args in
-    let step = c .before .before .before .before .before .next-line in
-    (called-open (a .stream) (a .kept .now) (a .bytes .now) (step .result) (step .ensures .0) (a .out .now) _ (a .waiting) (step .ensures .1) (c .if1 .taken), (ap (λ (x : Step). x .used) (step .ensures .0), omega arith))
+    let step = c .before .before .before .before .before .next-line in (
+      called-open (a .stream) (a .kept .now) (a .bytes .now) (step .result) (step .ensures .0) (a .out .now) _ (a .waiting) (step .ensures .1) (c .if1 .taken),
+      (ap (λ (x : Step). x .used) (step .ensures .0), omega arith),
+    )
 
 slice-reshare-prefix-answer-line : tie.Need-slice-reshare-prefix-answer-line
 slice-reshare-prefix-answer-line c =
@@ -35,34 +28,27 @@ slice-aggregate-answer-line c =
     let step = c .before .before .before .before .before .before .before .next-line in
     sym (length-take-le _ _ (omega (arith, held-in (a .stream) (a .kept .now) (a .bytes .now) (step .result) (step .ensures .0))))
 
-answer-line-requires : tie.Need-answer-line-requires
-answer-line-requires c κs = search needs
-
-same-length-2 : tie.Need-same-length-2
-same-length-2 c = search needs
-
-same-length-3 : tie.Need-same-length-3
-same-length-3 c = search needs
-
 returns-2 : tie.Need-returns-2
 returns-2 c =
+    let p = c .before .before .before .before .before .before .before .before .before .before .before .before .before .before .before .pre in
     let a = c .before .before .before .before .before .before .before .before .before .before .before .before .before .before .before .args in
     let step = c .before .before .before .before .before .before .before .before .before .before .next-line in
     let line = c .before .before .answer-line in (
-      called-ended (a .stream) (a .kept .now) (a .bytes .now) (step .result) (step .ensures .0) (a .out .now) _ (a .waiting) (step .ensures .1) (line .result) _ (c .before .before .before .before .before .if1 .left) (line .ensures .0) (line .ensures .1) (c .before .before .before .before .before .before .before .before .before .before .before .before .before .before .before .pre),
-      (ap (λ (x : Step). x .used) (step .ensures .0), put-within (a .out .now) _ (a .waiting) (line .result) _ (line .ensures .0) (omega (arith, c .before .before .before .before .before .before .before .before .before .before .before .before .before .before .before .pre))),
+      called-ended (a .stream) (a .kept .now) (a .bytes .now) (step .result) (step .ensures .0) (a .out .now) _ (a .waiting) (step .ensures .1)
+          (line .result) _ (c .before .before .before .before .before .if1 .left) (line .ensures .0) (line .ensures .1) (p),
+      (ap (λ (x : Step). x .used) (step .ensures .0), put-within (a .out .now) _ (a .waiting) (line .result) _ (line .ensures .0) (omega (arith, p))),
     )
 
 pub answer-call-spec : {M : Type 1} → statement M
 answer-call-spec =
     tie.close
     (tie.spec
-    next-line-requires
-    same-length
+    (λ c κs. search needs)
+    (λ c. search needs)
     returns
     slice-reshare-prefix-answer-line
     slice-aggregate-answer-line
-    answer-line-requires
-    same-length-2
-    same-length-3
+    (λ c κs. search needs)
+    (λ c. search needs)
+    (λ c. search needs)
     returns-2)

@@ -26,21 +26,39 @@ answer-call-requires c κs = omega (arith, leb-true)
 
 add-used : tie.Need-add-used Inv-loop μ-loop
 add-used c =
+    let answer-call = c .before .before .before .before .before .answer-call in
     let loop = c .before .before .before .before .before .before .before .before .before .before .before .loop in
-    omega (arith, used-in (loop .here) (loop .kept) (c .before .before .before .before .before .before .before .before .before .before .before .before .before .before .before .args .bytes .now) (loop .used) (c .before .before .before .before .before .answer-call .result .used) (omega arith) (c .before .before .before .before .before .answer-call .ensures .1 .0))
+    omega (
+      arith,
+      used-in (loop .here) (loop .kept) (c .before .before .before .before .before .before .before .before .before .before .before .before .before .before .before .args .bytes .now)
+          (loop .used) (answer-call .result .used) (omega arith) (answer-call .ensures .1 .0),
+    )
 
 loop-less : tie.Need-loop-less Inv-loop μ-loop
 loop-less c =
+    let answer-call = c .before .before .before .before .before .before .answer-call in
     let loop = c .before .before .before .before .before .before .before .before .before .before .before .before .loop in
-    omega (arith, more-used (loop .here) (loop .kept) (c .before .before .before .before .before .before .before .before .before .before .before .before .before .before .before .before .args .bytes .now) (loop .used) (c .before .before .before .before .before .before .answer-call .result .used) (omega arith) (c .before .before .before .before .before .before .answer-call .ensures .1 .0))
+    omega (
+      arith,
+      more-used (loop .here) (loop .kept)
+          (c .before .before .before .before .before .before .before .before .before .before .before .before .before .before .before .before .args .bytes .now) (loop .used) (answer-call .result .used)
+          (omega arith) (answer-call .ensures .1 .0),
+    )
 
 loop-again : tie.Need-loop-again Inv-loop μ-loop
 loop-again c =
     let loop = c .before .before .before .before .before .before .before .before .before .before .before .before .loop in
     let bytes = c .before .before .before .before .before .before .before .before .before .before .before .before .before .before .before .before .args .bytes .now in
     let call = c .before .before .before .before .before .before .answer-call in
-    let more = more-used (loop .here) (loop .kept) bytes (loop .used) (call .result .used) (omega arith) (call .ensures .1 .0) in
-    (used-in (loop .here) (loop .kept) bytes (loop .used) (call .result .used) (omega arith) (call .ensures .1 .0), omega (arith, call .ensures .1 .1), search needs, search needs, omega arith, omega arith, calls-on (loop .here) (loop .kept) bytes (loop .used) (call .result .used) (omega arith) (call .ensures .1 .0) (loop .out) (loop .waiting) _ _ (call .ensures .0) (loop .inv .6))
+    let more = more-used (loop .here) (loop .kept) bytes (loop .used) (call .result .used) (omega arith) (call .ensures .1 .0) in (
+      used-in (loop .here) (loop .kept) bytes (loop .used) (call .result .used) (omega arith) (call .ensures .1 .0),
+      omega (arith, call .ensures .1 .1),
+      search needs,
+      search needs,
+      omega arith,
+      omega arith,
+      calls-on (loop .here) (loop .kept) bytes (loop .used) (call .result .used) (omega arith) (call .ensures .1 .0) (loop .out) (loop .waiting) _ _ (call .ensures .0) (loop .inv .6),
+    )
 
 returns : tie.Need-returns Inv-loop μ-loop
 returns c = (c .before .before .loop .inv .6, (omega arith, (λ h. omega (arith, leb-false), omega arith)))

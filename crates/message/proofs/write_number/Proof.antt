@@ -1,4 +1,4 @@
--- `message::put_number` meets its contract.
+-- `message::write_number` meets its contract.
 use Rattle.lists.proofs.Fill.{fill-none, fill-more}
 use Rattle.lists.specs.Lists.{fill}
 use Rattle.message.specs.Fields.{byteOf}
@@ -7,8 +7,8 @@ use mathlib.Core.Path.{_≡_, refl, sym, ap, _∙_}
 use native.Mathlib.Omega.{arith}
 use borrow.Author.Needs.{needs}
 use lib.ListN.{length, length-set}
-use Rattle.message.proofs.put_number.Statement.{statement}
-use Rattle.message.proofs.put_number.Tie as tie
+use Rattle.message.proofs.write_number.Statement.{statement}
+use Rattle.message.proofs.write_number.Tie as tie
 
 abbrev Inv-loop : tie.InvT-loop
 Inv-loop out₀ first count x k₀ out k = (k ≤ count) × (out ≡ fill out₀ first k (byteOf count x)) × (length out ≡ length out₀)
@@ -28,8 +28,8 @@ returns c =
     let e : c .before .loop .k ≡ a .count = omega arith in
     c .before .loop .inv .1 ∙ ap (λ (m : ℕ). fill (a .out .now) (a .first) m (byteOf (a .count) (a .x))) e
 
-pub put-number-spec : {M : Type 1} → statement M
-put-number-spec =
+pub write-number-spec : {M : Type 1} → statement M
+write-number-spec =
     tie.close
     (tie.spec
     Inv-loop
