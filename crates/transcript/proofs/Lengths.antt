@@ -19,7 +19,8 @@ use Rattle.execution.specs.declared.Refusal.{Refusal}
 use Rattle.execution.specs.declared.CallKind.{CallKind}
 use Rattle.execution.specs.declared.CallKind.the-variants.{Deal, Begin, Send, Take, Answer}
 use Rattle.execution.specs.Held.{runBytes}
-use Rattle.transcript.specs.Transcript.{callName, partyText, roundOf, sizeOf, messageLine, messageLines, refusalLine, numbersLine, answerOf, answerText, answerLine, answersText, openingsLine, resultText, runText, outLength}
+use Rattle.transcript.specs.Transcript.{callName, partyText, roundOf, sizeOf, messageLine, messageLines, refusalLine, numbersLine}
+use Rattle.transcript.specs.Transcript.{answerOf, answerText, answerLine, answersText, openingsLine, resultText, runText, outLength}
 
 length-hex : (bytes : List ℕ) → length (hexBytes bytes) ≡ 2 * length bytes
 unfolding hexBytes

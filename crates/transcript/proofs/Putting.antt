@@ -20,8 +20,8 @@ use Rattle.state.specs.State.{AfterAnswer}
 use Rattle.transcript.specs.Transcript.{roundOf, sizeOf, messageLine, messageLines, answerOf, answerText, answersText}
 
 -- one part behind another
-pub put-then : (s a b : Text) (xs ys : List ℕ) → a ≡ puts s xs → b ≡ puts a ys → b ≡ puts s (xs ++ ys)
-put-then s a b xs ys p q = q ∙ ap (λ (t : Text). puts t ys) p ∙ puts-append s xs ys
+pub put-then : {a b : Text} (s : Text) (xs ys : List ℕ) → a ≡ puts s xs → b ≡ puts a ys → b ≡ puts s (xs ++ ys)
+put-then s xs ys p q = q ∙ ap (λ (t : Text). puts t ys) p ∙ puts-append s xs ys
 
 -- ---- A list as far as there are so many members
 
@@ -97,4 +97,4 @@ module _ (server phone : Side) (a₀ : AfterAnswer) (e₀ : a₀ ≡ answerOf se
 
   pub answer-both : (a₁ : AfterAnswer) → a₁ ≡ answerOf phone → a₀ .result .refused ≡ 0 → (y : Text) → y ≡ puts x (answerText 1 a₁) → y ≡ puts s (answersText server phone)
   unfolding answersText
-  answer-both a₁ e₁ h y q = rw (← e₀, ← e₁, eq-eqb (a₀ .result .refused) 0 h) (put-then s x y _ _ p q)
+  answer-both a₁ e₁ h y q = rw (← e₀, ← e₁, eq-eqb (a₀ .result .refused) 0 h) (put-then s _ _ p q)

@@ -127,11 +127,11 @@ runText a refusal server phone messages =
 abbrev pub transcriptText : Shape → Carried → List ℕ
 transcriptText a x = runText a (x .refusal) (x .parties .observer .side) (x .parties .peer .side) (x .messages)
 
--- "set, kind, n, bound, serial" and the keys of both sides: how many numbers stand before the inputs and the draw
+-- how many numbers stand before the inputs and the draw: set, kind, n, bound, serial, and the keys of both sides
 abbrev pub headLength : ℕ
 headLength = 5 + 2 * keyCount
 
--- what the numbers of an input say before the inputs: set, kind, n, bound, serial, the server's keys, the phone's keys
+-- what they say: set, kind, n, bound, serial, the server's keys, the phone's keys
 abbrev pub termsIn : List ℕ → RunTerms
 termsIn numbers =
     record {

@@ -1,4 +1,5 @@
-use mathlib.Core.Path.{_≡_, refl, sym, _∙_}
+-- `transcript::whole::transcript` meets its contract. Assumes nothing.
+use mathlib.Core.Path.{refl}
 use lib.ListN.{length-take}
 use native.Mathlib.Omega.{arith}
 use Rattle.transcript.specs.Transcript.{malformedLine}
@@ -7,34 +8,11 @@ use borrow.Author.Needs.{needs}
 use Rattle.transcript.proofs.whole.transcript.Statement.{statement}
 use Rattle.transcript.proofs.whole.transcript.Tie as tie
 
-put-malformed-requires : tie.Need-put-malformed-requires
-put-malformed-requires c κs = search needs
-
-same-length : tie.Need-same-length
-same-length c = search needs
-
 returns : tie.Need-returns
 returns c =
-    let few = too-few (c .before .before .before .before .before .before .before .args .numbers .now) (omega arith) in
-    rw (← few) (in-front (c .before .before .before .before .before .before .before .args .out .now) malformedLine _ _ (c .before .before .put-malformed .ensures) (omega arith) (c .before .before .before .before .before .before .before .pre))
-
-terms-in-requires : tie.Need-terms-in-requires
-terms-in-requires c κs = search needs
-
-sub-execute : tie.Need-sub-execute
-sub-execute c = search needs
-
-part-execute-start : tie.Need-part-execute-start
-part-execute-start c = search needs
-
-part-execute-end : tie.Need-part-execute-end
-part-execute-end c = search needs
-
-slice-aggregate-execute : tie.Need-slice-aggregate-execute
-slice-aggregate-execute c = search needs
-
-execute-requires : tie.Need-execute-requires
-execute-requires c κs = omega arith
+    let a = c .before .before .before .before .before .before .before .args in
+    let few = too-few (a .numbers .now) (omega arith) in
+    rw (← few) (in-front (a .out .now) malformedLine _ _ (c .before .before .put-malformed .ensures) (omega arith) (c .before .before .before .before .before .before .before .pre))
 
 array-share-prefix-messages : tie.Need-array-share-prefix-messages
 array-share-prefix-messages c = omega (arith, c .before .before .execute .ensures .length-is, c .before .before .execute .ensures .fits)
@@ -42,35 +20,32 @@ array-share-prefix-messages c = omega (arith, c .before .before .execute .ensure
 slice-aggregate-put-run : tie.Need-slice-aggregate-put-run
 slice-aggregate-put-run c = simp length-take (omega (arith, c .before .before .before .execute .ensures .length-is, c .before .before .before .execute .ensures .fits))
 
-put-run-requires : tie.Need-put-run-requires
-put-run-requires c κs = search needs
-
-same-length-2 : tie.Need-same-length-2
-same-length-2 c = search needs
-
 returns-2 : tie.Need-returns-2
 returns-2 c =
-    let run = c .before .before .before .before .before .before .execute .ensures in
-    let numbers = c .before .before .before .before .before .before .before .before .before .before .before .before .before .args .numbers .now in
+    let a = c .before .before .before .before .before .before .before .before .before .before .before .before .before .args in
+    let enough = c .before .before .before .before .before .before .before .before .before .before .if1 .left in
+    let room = c .before .before .before .before .before .before .before .before .before .before .before .before .before .pre in
     let terms = c .before .before .before .before .before .before .before .before .before .terms-in in
-    rw (← text-is numbers (omega arith) (terms .result) (terms .ensures) (c .before .before .before .before .before .before .execute .result) _ _ run)
-    (in-front (c .before .before .before .before .before .before .before .before .before .before .before .before .before .args .out .now) _ _ _ (c .before .before .put-run .ensures) (text-fits numbers (omega arith) (terms .result) (terms .ensures) (c .before .before .before .before .before .before .execute .result) _ _ run refl) (c .before .before .before .before .before .before .before .before .before .before .before .before .before .pre))
+    let x = c .before .before .before .before .before .before .execute in
+    let is = text-is (a .numbers .now) enough (terms .result) (terms .ensures) (x .result) _ _ (x .ensures) in
+    let fits = text-fits (a .numbers .now) enough (terms .result) (terms .ensures) (x .result) _ _ (x .ensures) refl in
+    rw (← is) (in-front (a .out .now) _ _ _ (c .before .before .put-run .ensures) fits room)
 
 pub transcript-spec : {M : Type 1} → statement M
 transcript-spec =
     tie.close
     (tie.spec
-    put-malformed-requires
-    same-length
+    (λ c κs. search needs)
+    (λ c. search needs)
     returns
-    terms-in-requires
-    sub-execute
-    part-execute-start
-    part-execute-end
-    slice-aggregate-execute
-    execute-requires
+    (λ c κs. search needs)
+    (λ c. search needs)
+    (λ c. search needs)
+    (λ c. search needs)
+    (λ c. search needs)
+    (λ c κs. omega arith)
     array-share-prefix-messages
     slice-aggregate-put-run
-    put-run-requires
-    same-length-2
+    (λ c κs. search needs)
+    (λ c. search needs)
     returns-2)
