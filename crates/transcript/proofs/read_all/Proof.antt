@@ -8,13 +8,13 @@ use Rattle.transcript.proofs.read_all.Statement.{statement}
 use Rattle.transcript.proofs.read_all.Tie as tie
 
 abbrev Inv-loop : tie.InvT-loop
-Inv-loop fd numbers₀ turn₀ turns₀ numbers turn turns = length numbers ≡ length numbers₀
+Inv-loop fd numbers₀ input₀ reads₀ numbers input reads = length numbers ≡ length numbers₀
 
 abbrev μ-loop : tie.MeasureT-loop
-μ-loop fd numbers₀ turn₀ turns₀ numbers turn turns = turns
+μ-loop fd numbers₀ input₀ reads₀ numbers input reads = reads
 
-start-requires : tie.Need-start-requires Inv-loop μ-loop
-start-requires c κs = tt
+start-numbers-requires : tie.Need-start-numbers-requires Inv-loop μ-loop
+start-numbers-requires c κs = tt
 
 loop-holds : tie.Need-loop-holds Inv-loop μ-loop
 loop-holds c = refl
@@ -22,8 +22,8 @@ loop-holds c = refl
 read-some-requires : tie.Need-read-some-requires Inv-loop μ-loop
 read-some-requires c κs = tt
 
-end-requires : tie.Need-end-requires Inv-loop μ-loop
-end-requires c κs = tt
+end-numbers-requires : tie.Need-end-numbers-requires Inv-loop μ-loop
+end-numbers-requires c κs = tt
 
 returns : tie.Need-returns Inv-loop μ-loop
 returns c = tt
@@ -34,12 +34,12 @@ read-all-spec =
     (tie.spec
     Inv-loop
     μ-loop
-    start-requires
+    start-numbers-requires
     loop-holds
     read-some-requires
     (λ c. omega arith)
     (λ c. omega arith)
     (λ c. search needs)
-    end-requires
+    end-numbers-requires
     (λ c. search needs)
     returns)

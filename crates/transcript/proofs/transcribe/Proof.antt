@@ -1,6 +1,6 @@
 -- `transcript::transcribe` meets its contract. Assumes nothing.
-use native.Mathlib.Omega.{arith}
 use lib.ListN.{length-take}
+use native.Mathlib.Omega.{arith}
 use borrow.Author.Needs.{needs}
 use Rattle.transcript.proofs.transcribe.Statement.{statement}
 use Rattle.transcript.proofs.transcribe.Tie as tie
@@ -16,7 +16,6 @@ transcribe-spec =
     (λ c κs. search needs)
     (λ c. search needs)
     (λ c. search needs)
-    (λ c κs. search needs)
     (λ c κs. search needs)
     (λ c. search needs)
     slice-aggregate-write-all

@@ -1,0 +1,2 @@
+-- The text of a transcript.
+pub mod Transcript
