@@ -134,7 +134,8 @@ fn deal_vectors(
 ) -> usize
     requires { ⌜ DealSlices o (now draw) (now server) (now phone) ⌝ }
     requires { ⌜ (c < o .shape .n) × (at ≡ cursorFor o (vectorAt (paramsFor o) c 0)) × (r ≡ splitOf (paramsFor o .scale) (drawn (paramsFor o) width (now draw) (maskAt (paramsFor o) c))) ⌝ }
-    ensures { λ r. ⌜ Wrote o (now (draw .entry)) (now (server .entry)) (now (phone .entry)) (vectorAt (paramsFor o) c 0) (sumTo 5 (base (paramsFor o .scale))) (now (server .exit)) (now (phone .exit)) r ⌝ }
+    ensures { λ r. ⌜ Wrote o (now (draw .entry)) (now (server .entry)) (now (phone .entry)) (vectorAt (paramsFor o) c 0) (sumTo 5 (base
+        (paramsFor o .scale))) (now (server .exit)) (now (phone .exit)) r ⌝ }
 {
     let mut next = at;
     let mut i = 0;
@@ -158,7 +159,8 @@ fn deal_mask(
 ) -> usize
     requires { ⌜ DealSlices o (now draw) (now server) (now phone) ⌝ }
     requires { ⌜ (c < o .shape .n) × (at ≡ cursorFor o (maskAt (paramsFor o) c)) ⌝ }
-    ensures { λ r. ⌜ Wrote o (now (draw .entry)) (now (server .entry)) (now (phone .entry)) (maskAt (paramsFor o) c) (1 + sumTo 5 (base (paramsFor o .scale))) (now (server .exit)) (now (phone .exit)) r ⌝ }
+    ensures { λ r. ⌜ Wrote o (now (draw .entry)) (now (server .entry)) (now (phone .entry)) (maskAt (paramsFor o) c) (1 + sumTo 5 (base
+        (paramsFor o .scale))) (now (server .exit)) (now (phone .exit)) r ⌝ }
 {
     let shape = o.shape;
     let k = mask_at(shape, c);
@@ -296,7 +298,9 @@ fn all_keys_ok(keys0: [u32; KEYS], keys1: [u32; KEYS]) -> bool
 // Question 5: the draw, and the two lent books. (`deal_no` has asked 1 and 2.)
 fn lengths_ok(shape: Shape, draw: &[u32], server: &[u32], phone: &[u32]) -> bool
     requires { ⌜ (shape .set < 2) × (shape .n ≤ 8) ⌝ }
-    ensures { λ r. ⌜ r ≡ (eqb (length (now (draw .entry))) (drawLength (paramsOf shape) width) && eqb (length (now (server .entry))) (shared (paramsOf shape) * width) && eqb (length (now (phone .entry))) (shared (paramsOf shape) * width)) ⌝ }
+    ensures { λ r. ⌜ r ≡ (eqb (length (now (draw .entry))) (drawLength (paramsOf shape) width)
+        && eqb (length (now (server .entry))) (shared (paramsOf shape) * width)
+        && eqb (length (now (phone .entry))) (shared (paramsOf shape) * width)) ⌝ }
 {
     let size = shared_of(shape) * WIDTH;
     if draw.len() != draw_length(shape) {
@@ -344,7 +348,8 @@ pub fn deal(
     server: &mut [u32],
     phone: &mut [u32],
 ) -> u32
-    ensures { λ r. ⌜ record { refused = r; server = now (server .exit); phone = now (phone .exit) } ≡ dealCall keyCount shape keys0 keys1 (now (draw .entry)) (now (server .entry)) (now (phone .entry)) ⌝ }
+    ensures { λ r. ⌜ record { refused = r; server = now (server .exit); phone = now (phone .exit) }
+        ≡ dealCall keyCount shape keys0 keys1 (now (draw .entry)) (now (server .entry)) (now (phone .entry)) ⌝ }
 {
     let no = deal_no(shape, keys0, keys1, draw, server, phone);
     if no != 0 {

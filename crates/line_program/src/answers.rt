@@ -33,7 +33,8 @@ fn answer_call(
     waiting: usize,
 ) -> Answered
     requires { ⌜ waiting + 112 ≤ length (now out) ⌝ }
-    ensures { λ r. ⌜ standing (r .stream) (now (kept .exit)) (now (out .exit)) (r .waiting) ≡ afterCall lineAnswer (standing stream (now (kept .entry)) (now (out .entry)) waiting) (now (bytes .entry)) ⌝ }
+    ensures { λ r. ⌜ standing (r .stream) (now (kept .exit)) (now (out .exit)) (r .waiting)
+        ≡ afterCall lineAnswer (standing stream (now (kept .entry)) (now (out .entry)) waiting) (now (bytes .entry)) ⌝ }
     ensures { λ r. ⌜ r .used ≡ nextLine stream (now (kept .entry)) (now (bytes .entry)) .used ⌝ }
     ensures { λ r. ⌜ r .waiting ≤ length (now (out .entry)) ⌝ }
 {
@@ -57,7 +58,8 @@ fn answer_call(
 // Answers the lines that end in a part until it is used up or the slice may lack room for one more. The slice is main's large buffer.
 pub fn answer_some(stream: Stream, kept: &mut [u8], bytes: &[u8], out: &mut [u8]) -> Answered
     requires { ⌜ 112 ≤ length (now out) ⌝ }
-    ensures { λ r. ⌜ allCalls (standing (r .stream) (now (kept .exit)) (now (out .exit)) (r .waiting)) (drop (r .used) (now (bytes .entry))) ≡ allCalls (standing stream (now (kept .entry)) (now (out .entry)) 0) (now (bytes .entry)) ⌝ }
+    ensures { λ r. ⌜ allCalls (standing (r .stream) (now (kept .exit)) (now (out .exit)) (r .waiting)) (drop (r .used) (now (bytes .entry)))
+        ≡ allCalls (standing stream (now (kept .entry)) (now (out .entry)) 0) (now (bytes .entry)) ⌝ }
     ensures { λ r. ⌜ r .used ≤ length (now (bytes .entry)) ⌝ }
     ensures { λ r. ⌜ (0 < length (now (bytes .entry)) → 0 < r .used) ⌝ }
     ensures { λ r. ⌜ r .waiting ≤ length (now (out .entry)) ⌝ }

@@ -9,7 +9,8 @@ ghost use Rattle.settings.specs.Sets.{scaleOf, base};
 ghost use Rattle.settings.specs.Settings.{paramsOf};
 ghost use Rattle.settings.specs.Questions.{boundOk, keyOk, keysOk, askShape, askSettings, shapeOk, ShapeReady};
 ghost use Rattle.settings.specs.Schedule.{rounds, steps, roundAfter, sendsAfter, takenBy, stepsIn};
-ghost use Rattle.settings.specs.Sizes.{keyCount, width, mostOpenings, mostFields, openings, fieldCount, messageBits, bytesFor, messageLength, stride, shared, drawLength, answerPlaces, messageSize, bookSize, drawSize, inputSize, answerSize};
+ghost use Rattle.settings.specs.Sizes.{keyCount, width, mostOpenings, mostFields, openings, fieldCount, messageBits, bytesFor, messageLength, stride, shared};
+ghost use Rattle.settings.specs.Sizes.{drawLength, answerPlaces, messageSize, bookSize, drawSize, inputSize, answerSize};
 use field::Q;
 
 // ---- Settings

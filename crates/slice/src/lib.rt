@@ -262,7 +262,8 @@ fn back_from(b: u32, d: u32, n: usize) -> usize
 pub fn raised_by(work: &[u32], col: usize, terms: Weighted) -> u32
     requires { ⌜ ((col + 1) * places ≤ length (now work)) × (terms .place + terms .n ≤ ownAt 0) × (terms .n ≤ 64) × (1 ≤ terms .limit) × (terms .limit ≤ 45) × (terms .digit < 65536) ⌝ }
     requires { ⌜ (terms .rule ≡ Zero → (terms .n ≡ terms .limit) × (terms .digit + 1 ≤ terms .limit)) ⌝ }
-    ensures { λ r. ⌜ ((κ : ℕ) → r ≡ value q κ (column (now (work .entry)) col) (sum (terms .n) (terms .place) (weigh (terms .rule) (terms .limit) (terms .digit + 1)) ⊟ sum (terms .n) (terms .place) (weigh (terms .rule) (terms .limit) (terms .digit)))) ⌝ }
+    ensures { λ r. ⌜ ((κ : ℕ) → r
+        ≡ value q κ (column (now (work .entry)) col) (sum (terms .n) (terms .place) (weigh (terms .rule) (terms .limit) (terms .digit + 1)) ⊟ sum (terms .n) (terms .place) (weigh (terms .rule) (terms .limit) (terms .digit)))) ⌝ }
 {
     let rule = terms.rule;
     let place = terms.place;

@@ -20,7 +20,7 @@ use Rattle.execution.specs.declared.CallKind.{CallKind}
 use Rattle.execution.specs.declared.CallKind.the-variants.{Deal, Begin, Send, Take, Answer}
 use Rattle.execution.specs.Held.{runBytes}
 use Rattle.transcript.specs.Transcript.{callName, partyText, roundOf, sizeOf, messageLine, messageLines, refusalLine, numbersLine}
-use Rattle.transcript.specs.Transcript.{answerOf, answerText, answerLine, answersText, openingsLine, resultText, runText, outLength}
+use Rattle.transcript.specs.Transcript.{answerLeft, answerOrRefusal, answerLine, answersText, openingsLine, resultText, runText, outLength}
 
 length-hex : (bytes : List ℕ) → length (hexBytes bytes) ≡ 2 * length bytes
 unfolding hexBytes
@@ -77,7 +77,7 @@ unfolding numbersLine
 length-numbers-line party ns = simp length-append (omega (arith, length-decimal party, length-numbers ns))
 
 -- an answer has at most eight numbers
-places-most : (side : Side) → answerOf side .result .length ≤ 8
+places-most : (side : Side) → answerLeft side .result .length ≤ 8
 unfolding answerCall
 places-most side = go (eqb (answerNo side (replicate 8 0)) 0) refl
   where
@@ -87,24 +87,24 @@ places-most side = go (eqb (answerNo side (replicate 8 0)) 0) refl
     go false e = omega arith
 
 length-answer : (party : ℕ) (side : Side) → length (answerLine party side) ≤ 200
-unfolding answerText
-length-answer party side = go (eqb (answerOf side .result .refused) 0)
+unfolding answerOrRefusal
+length-answer party side = go (eqb (answerLeft side .result .refused) 0)
   where
     go : (t : Bool)
-        → length (cond t (numbersLine party (take (answerOf side .result .length) (answerOf side .out)))
-        (refusalLine (record { call = Answer; party = party; number = answerOf side .result .refused }))) ≤ 200
+        → length (cond t (numbersLine party (take (answerLeft side .result .length) (answerLeft side .out)))
+        (refusalLine (record { call = Answer; party = party; number = answerLeft side .result .refused }))) ≤ 200
     go true =
         omega (
           arith,
-          length-numbers-line party (take (answerOf side .result .length) (answerOf side .out)),
-          length-take (answerOf side .result .length) (answerOf side .out),
+          length-numbers-line party (take (answerLeft side .result .length) (answerLeft side .out)),
+          length-take (answerLeft side .result .length) (answerLeft side .out),
           places-most side,
         )
-    go false = omega (arith, length-refusal (record { call = Answer; party = party; number = answerOf side .result .refused }))
+    go false = omega (arith, length-refusal (record { call = Answer; party = party; number = answerLeft side .result .refused }))
 
 length-answers : (server phone : Side) → length (answersText server phone) ≤ 400
 unfolding answersText
-length-answers server phone = go (eqb (answerOf server .result .refused) 0)
+length-answers server phone = go (eqb (answerLeft server .result .refused) 0)
   where
     go : (t : Bool) → length (answerLine 0 server ++ cond t (answerLine 1 phone) []) ≤ 400
     go true = omega (arith, length-append (answerLine 0 server) (answerLine 1 phone), length-answer 0 server, length-answer 1 phone)

@@ -1,36 +1,30 @@
 -- Lines put one behind another: the parts of a line, the messages of a run, the answers.
-use Prim.Native.Nat.{ℕ, zero, suc, _+_, _*_, _-_, _/_, _%_, _≤_, _<_, min}
+use Prim.Native.Nat.{ℕ, zero, suc, _+_, _*_, _-_, _%_, _≤_, _<_, min}
 use mathlib.Core.Path.{_≡_, refl, sym, ap, _∙_}
-use mathlib.Core.List.{List, [], _∷_, _++_, append-nil}
+use mathlib.Core.List.{List, [], _++_, append-nil}
 use native.Mathlib.Numerals.{add-one}
 use native.Mathlib.Omega.{arith}
 use native.Mathlib.Decide.{decLt}
 use borrow.Author.Tests.{eq-eqb, ne-eqb}
 use lib.ListN.{length, getD, take, drop, length-take, length-drop, drop-of-length-le}
-use lib.Seq.{take-all, drop-drop, getD-take, getD-drop}
+use lib.Seq.{drop-drop, getD-take, getD-drop}
 use Rattle.lists.specs.Lists.{fill}
 use Rattle.lists.proofs.Fill.{whole-is}
 use Rattle.lists.proofs.Lists.{listTo-cong, listTo-getD}
+use Rattle.lists.proofs.Lists.{take-min}
 use Rattle.text.specs.Text.{Text, puts}
 use Rattle.text.proofs.Puts.{puts-append}
 use Rattle.settings.specs.declared.Shape.{Shape}
 use Rattle.settings.specs.Schedule.{rounds}
 use Rattle.state.specs.declared.Side.{Side}
 use Rattle.state.specs.State.{AfterAnswer}
-use Rattle.transcript.specs.Transcript.{roundOf, sizeOf, messageLine, messageLines, answerOf, answerText, answersText}
+use Rattle.transcript.specs.Transcript.{roundOf, sizeOf, messageLine, messageLines, answerLeft, answerOrRefusal, answersText}
 
 -- one part behind another
 pub put-then : {a b : Text} (s : Text) (xs ys : List ℕ) → a ≡ puts s xs → b ≡ puts a ys → b ≡ puts s (xs ++ ys)
 put-then s xs ys p q = q ∙ ap (λ (t : Text). puts t ys) p ∙ puts-append s xs ys
 
 -- ---- A list as far as there are so many members
-
-pub take-min : (m n : ℕ) (l : List ℕ) → n ≡ min m (length l) → take n l ≡ take m l
-take-min m n l e = go (decLt m (length l))
-  where
-    go : Dec (m < length l) → take n l ≡ take m l
-    go (yes h) = let f : n ≡ m = omega arith in rw f
-    go (no h) = take-all n l (omega arith) ∙ sym (take-all m l (omega arith))
 
 drop-min : (m n : ℕ) (l : List ℕ) → n ≡ min m (length l) → drop n l ≡ drop m l
 drop-min m n l e = go (decLt m (length l))
@@ -90,11 +84,11 @@ lines-end a s t messages i from h e = let z : 2 * rounds - i ≡ 0 = omega arith
 
 -- ---- Answers
 
-module _ (server phone : Side) (a₀ : AfterAnswer) (e₀ : a₀ ≡ answerOf server) (s x : Text) (p : x ≡ puts s (answerText 0 a₀)) where
+module _ (server phone : Side) (a₀ : AfterAnswer) (e₀ : a₀ ≡ answerLeft server) (s x : Text) (p : x ≡ puts s (answerOrRefusal 0 a₀)) where
   pub answer-refused : (a₀ .result .refused ≡ 0 → ⊥) → x ≡ puts s (answersText server phone)
   unfolding answersText
   answer-refused h = rw (← e₀, ne-eqb (a₀ .result .refused) 0 h, append-nil) p
 
-  pub answer-both : (a₁ : AfterAnswer) → a₁ ≡ answerOf phone → a₀ .result .refused ≡ 0 → (y : Text) → y ≡ puts x (answerText 1 a₁) → y ≡ puts s (answersText server phone)
+  pub answer-both : (a₁ : AfterAnswer) → a₁ ≡ answerLeft phone → a₀ .result .refused ≡ 0 → (y : Text) → y ≡ puts x (answerOrRefusal 1 a₁) → y ≡ puts s (answersText server phone)
   unfolding answersText
   answer-both a₁ e₁ h y q = rw (← e₀, ← e₁, eq-eqb (a₀ .result .refused) 0 h) (put-then s _ _ p q)

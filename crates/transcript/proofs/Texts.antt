@@ -1,8 +1,8 @@
 -- The whole text: what stands in front of a slice that has room for any, and the text of an input.
 use Prim.Native.Nat.{ℕ, _-_, _≤_, _<_, min}
-use mathlib.Core.Path.{_≡_, refl, sym, ap, ap₂, _∙_}
+use mathlib.Core.Path.{_≡_, refl, ap}
 use mathlib.Core.Bool.{true, false}
-use mathlib.Core.List.{List, _++_}
+use mathlib.Core.List.{List}
 use native.Mathlib.Omega.{arith}
 use borrow.Author.Tests.{lt-ltb, le-ltb}
 use lib.ListN.{length, take, drop, length-drop}
@@ -14,9 +14,9 @@ use Rattle.execution.specs.declared.RunTerms.{RunTerms}
 use Rattle.execution.specs.declared.Execution.{Execution}
 use Rattle.execution.specs.Execution.{Carried, executed}
 use Rattle.execution.specs.Held.{runBytes, Executes}
-use Rattle.transcript.specs.Transcript.{malformedLine, headLength, termsIn, runText, transcriptText, transcriptOf, textFor, outLength}
+use Rattle.transcript.specs.Transcript.{malformedLine, headLength, runTermsIn, runText, transcriptOf, textFor, outLength}
 use Rattle.transcript.proofs.Lengths.{length-run}
-use Rattle.transcript.proofs.Putting.{take-min}
+use Rattle.lists.proofs.Lists.{take-min}
 
 -- where there is room for any text, the text is what stands in front
 pub in-front : (out bs now : List ℕ) (r : ℕ) → textAt now r ≡ puts (textAt out 0) bs → length bs ≤ outLength → outLength ≤ length out → (take r now ≡ bs) × (r ≤ length now)
@@ -28,7 +28,7 @@ pub too-few : (numbers : List ℕ) → length numbers < headLength → malformed
 unfolding transcriptOf
 too-few numbers h = rw (lt-ltb (length numbers) headLength h) refl
 
-module _ (numbers : List ℕ) (h : headLength ≤ length numbers) (terms : RunTerms) (e : terms ≡ termsIn numbers) (x : Execution) (before after : List ℕ)
+module _ (numbers : List ℕ) (h : headLength ≤ length numbers) (terms : RunTerms) (e : terms ≡ runTermsIn numbers) (x : Execution) (before after : List ℕ)
     (run : Executes (executed terms (take (length numbers - headLength) (drop headLength numbers))) x before after) where
   abbrev end : Carried
   end = executed terms (take (length numbers - headLength) (drop headLength numbers))

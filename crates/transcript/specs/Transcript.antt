@@ -60,7 +60,7 @@ malformedLine = malformedWord ++ lineEnd
 unfoldable pub messageLine : ℕ → ℕ → List ℕ → List ℕ
 messageLine sender round bytes = decimal sender ++ blank ++ decimal round ++ blank ++ hexBytes bytes ++ lineEnd
 
--- the round of message i, and its bytes
+-- the round of message i, and how many bytes it has
 abbrev pub roundOf : ℕ → ℕ
 roundOf i = i / 2 + 1
 
@@ -87,26 +87,27 @@ unfoldable pub refusalLine : Refusal → List ℕ
 refusalLine r = refusedWord ++ callName (r .call) ++ blank ++ partyText (r .call) (r .party) ++ blank ++ decimal (r .number) ++ lineEnd
 
 -- what a side's answer call leaves in eight places
-abbrev pub answerOf : Side → AfterAnswer
-answerOf side = answerCall side (replicate 8 0)
+abbrev pub answerLeft : Side → AfterAnswer
+answerLeft side = answerCall side (replicate 8 0)
 
 -- `answer PARTY NUMBERS`: a side's answer
 unfoldable pub numbersLine : ℕ → List ℕ → List ℕ
 numbersLine party numbers = answerWord ++ decimal party ++ numbersText numbers ++ lineEnd
 
 -- the answer, or the refusal of the call
-unfoldable pub answerText : ℕ → AfterAnswer → List ℕ
-answerText party a =
+unfoldable pub answerOrRefusal : ℕ → AfterAnswer → List ℕ
+answerOrRefusal party a =
     cond (eqb (a .result .refused) 0)
     (numbersLine party (take (a .result .length) (a .out)))
     (refusalLine (record { call = Answer; party = party; number = a .result .refused }))
 
+-- a side's line
 abbrev pub answerLine : ℕ → Side → List ℕ
-answerLine party side = answerText party (answerOf side)
+answerLine party side = answerOrRefusal party (answerLeft side)
 
 -- the server's answer; the phone's too, unless the server's was refused
 unfoldable pub answersText : Side → Side → List ℕ
-answersText server phone = answerLine 0 server ++ cond (eqb (answerOf server .result .refused) 0) (answerLine 1 phone) []
+answersText server phone = answerLine 0 server ++ cond (eqb (answerLeft server .result .refused) 0) (answerLine 1 phone) []
 
 -- `openings PARTY COUNT`: how many openings a side has accepted
 unfoldable pub openingsLine : ℕ → Side → List ℕ
@@ -132,8 +133,8 @@ abbrev pub headLength : ℕ
 headLength = 5 + 2 * keyCount
 
 -- what they say: set, kind, n, bound, serial, the server's keys, the phone's keys
-abbrev pub termsIn : List ℕ → RunTerms
-termsIn numbers =
+abbrev pub runTermsIn : List ℕ → RunTerms
+runTermsIn numbers =
     record {
       settings = settingsWith (getD numbers 0 0) (getD numbers 1 0) (getD numbers 2 0) (getD numbers 3 0);
       serial = getD numbers 4 0;
@@ -145,7 +146,7 @@ termsIn numbers =
 unfoldable pub transcriptOf : List ℕ → List ℕ
 transcriptOf numbers =
     cond (ltb (length numbers) headLength) malformedLine
-    (transcriptText (termsIn numbers .settings .shape) (executed (termsIn numbers) (drop headLength numbers)))
+    (transcriptText (runTermsIn numbers .settings .shape) (executed (runTermsIn numbers) (drop headLength numbers)))
 
 -- the text for an input that has been read to its end: its first `count` numbers, unless a byte was wrong
 unfoldable pub textFor : NumbersRead → List ℕ → List ℕ

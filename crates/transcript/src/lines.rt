@@ -3,7 +3,7 @@ ghost use mathlib.Core.Path.{_≡_};
 ghost use Prim.Native.Nat.{_*_};
 ghost use Rattle.settings.specs.Schedule.{rounds};
 ghost use Rattle.text.specs.Text.{textAt, puts};
-ghost use Rattle.transcript.specs.Transcript.{callName, malformedLine, messageLine, messageLines, partyText, refusalLine, numbersLine, answerText, answersText, openingsLine};
+ghost use Rattle.transcript.specs.Transcript.{callName, malformedLine, messageLine, messageLines, partyText, refusalLine, numbersLine, answerOrRefusal, answersText, openingsLine};
 use execution::CallKind;
 use execution::Refusal;
 use lists::least;
@@ -34,7 +34,7 @@ pub fn put_malformed(out: &mut [u8], at: usize) -> usize
 // ---- Messages
 
 // A message: sender, round and bytes.
-fn put_message(out: &mut [u8], at: usize, sender: u32, round: u32, bytes: &[u8]) -> usize
+fn put_message_line(out: &mut [u8], at: usize, sender: u32, round: u32, bytes: &[u8]) -> usize
     ensures { λ r. ⌜ textAt (now (out .exit)) r ≡ puts (textAt (now (out .entry)) at) (messageLine sender round (now (bytes .entry))) ⌝ }
 {
     let first = put_number(out, at, sender as u64);
@@ -58,7 +58,7 @@ pub fn put_messages(out: &mut [u8], at: usize, shape: Shape, messages: &[u8]) ->
         }
         let round = i / 2 + 1;
         let to = from + least(message_size(shape, round), messages.len() - from);
-        next = put_message(out, next, i % 2, round, &messages[from..to]);
+        next = put_message_line(out, next, i % 2, round, &messages[from..to]);
         from = to;
         i += 1;
     }
@@ -93,7 +93,7 @@ fn put_party(out: &mut [u8], at: usize, call: CallKind, party: u32) -> usize
 }
 
 // The first refusal.
-pub fn put_refusal(out: &mut [u8], at: usize, refusal: Refusal) -> usize
+pub fn put_refusal_line(out: &mut [u8], at: usize, refusal: Refusal) -> usize
     ensures { λ r. ⌜ textAt (now (out .exit)) r ≡ puts (textAt (now (out .entry)) at) (refusalLine refusal) ⌝ }
 {
     let call = refusal.call;
@@ -119,18 +119,24 @@ fn put_numbers_line(out: &mut [u8], at: usize, party: u32, numbers: &[u32]) -> u
 }
 
 // What a party's answer call gave.
-fn put_answer(out: &mut [u8], at: usize, party: u32, told: AnswerResult, numbers: &[u32]) -> usize
-    ensures { λ r. ⌜ textAt (now (out .exit)) r ≡ puts (textAt (now (out .entry)) at) (answerText party (record { result = told; out = now (numbers .entry) })) ⌝ }
+fn put_answer_line(
+    out: &mut [u8],
+    at: usize,
+    party: u32,
+    result: AnswerResult,
+    numbers: &[u32],
+) -> usize
+    ensures { λ r. ⌜ textAt (now (out .exit)) r ≡ puts (textAt (now (out .entry)) at) (answerOrRefusal party (record { result = result; out = now (numbers .entry) })) ⌝ }
 {
-    if told.refused != 0 {
+    if result.refused != 0 {
         let refusal = Refusal {
             call: CallKind::Answer,
             party,
-            number: told.refused,
+            number: result.refused,
         };
-        return put_refusal(out, at, refusal);
+        return put_refusal_line(out, at, refusal);
     }
-    let length = least(told.length, numbers.len());
+    let length = least(result.length, numbers.len());
     put_numbers_line(out, at, party, &numbers[..length])
 }
 
@@ -140,13 +146,13 @@ pub fn put_answers(out: &mut [u8], at: usize, server: Side, phone: Side) -> usiz
 {
     let mut numbers0 = [0u32; ANSWER_LENGTH];
     let mut numbers1 = [0u32; ANSWER_LENGTH];
-    let told0 = answer(server, &mut numbers0);
-    let told1 = answer(phone, &mut numbers1);
-    let next = put_answer(out, at, 0, told0, &numbers0);
-    if told0.refused != 0 {
+    let result0 = answer(server, &mut numbers0);
+    let result1 = answer(phone, &mut numbers1);
+    let next = put_answer_line(out, at, 0, result0, &numbers0);
+    if result0.refused != 0 {
         return next;
     }
-    put_answer(out, next, 1, told1, &numbers1)
+    put_answer_line(out, next, 1, result1, &numbers1)
 }
 
 // How many openings a side has accepted.

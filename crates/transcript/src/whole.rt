@@ -4,12 +4,12 @@ ghost use Prim.Native.Nat.{_+_, _≤_};
 ghost use lib.ListN.{length, take, drop};
 ghost use Rattle.settings.specs.Sizes.{keyCount};
 ghost use Rattle.text.specs.Text.{textAt, puts};
-ghost use Rattle.transcript.specs.Transcript.{headLength, termsIn, resultText, runText, transcriptOf, textFor, outLength};
+ghost use Rattle.transcript.specs.Transcript.{headLength, runTermsIn, resultText, runText, transcriptOf, textFor, outLength};
 use crate::lines::put_answers;
 use crate::lines::put_malformed;
 use crate::lines::put_messages;
 use crate::lines::put_openings;
-use crate::lines::put_refusal;
+use crate::lines::put_refusal_line;
 use execution::Execution;
 use execution::RUN_BYTES;
 use execution::Refusal;
@@ -46,9 +46,9 @@ fn keys_in(numbers: &[u32], at: usize) -> [u32; KEYS]
 }
 
 // What stands before the inputs.
-fn terms_in(numbers: &[u32]) -> RunTerms
+fn run_terms_in(numbers: &[u32]) -> RunTerms
     requires { ⌜ headLength ≤ length (now numbers) ⌝ }
-    ensures { λ r. ⌜ r ≡ termsIn (now (numbers .entry)) ⌝ }
+    ensures { λ r. ⌜ r ≡ runTermsIn (now (numbers .entry)) ⌝ }
 {
     let settings = Settings {
         shape: Shape {
@@ -71,11 +71,11 @@ fn terms_in(numbers: &[u32]) -> RunTerms
 // ---- The text
 
 // Both answers, or the refusal of a call before them.
-fn put_result(out: &mut [u8], at: usize, refusal: Refusal, server: Side, phone: Side) -> usize
+fn put_end(out: &mut [u8], at: usize, refusal: Refusal, server: Side, phone: Side) -> usize
     ensures { λ r. ⌜ textAt (now (out .exit)) r ≡ puts (textAt (now (out .entry)) at) (resultText refusal server phone) ⌝ }
 {
     if refusal.number != 0 {
-        return put_refusal(out, at, refusal);
+        return put_refusal_line(out, at, refusal);
     }
     put_answers(out, at, server, phone)
 }
@@ -88,8 +88,8 @@ fn put_run(out: &mut [u8], shape: Shape, x: Execution, messages: &[u8]) -> usize
     let server = x.server.side;
     let phone = x.phone.side;
     let sent = put_messages(out, 0, shape, messages);
-    let told = put_result(out, sent, refusal, server, phone);
-    let counted = put_openings(out, told, 0, server);
+    let result = put_end(out, sent, refusal, server, phone);
+    let counted = put_openings(out, result, 0, server);
     put_openings(out, counted, 1, phone)
 }
 
@@ -101,7 +101,7 @@ fn transcript(numbers: &[u32], out: &mut [u8]) -> usize
     if numbers.len() < HEAD_LENGTH {
         return put_malformed(out, 0);
     }
-    let terms = terms_in(numbers);
+    let terms = run_terms_in(numbers);
     let mut messages = [0u8; RUN_BYTES];
     let x = execute(terms, &numbers[HEAD_LENGTH..], &mut messages);
     let length = x.length;

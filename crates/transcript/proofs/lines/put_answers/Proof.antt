@@ -7,16 +7,16 @@ use Rattle.transcript.proofs.lines.put_answers.Tie as tie
 returns : tie.Need-returns
 returns c =
     let a = c .before .before .before .before .before .before .before .before .before .before .before .before .before .before .args in
-    let told = c .before .before .before .before .before .before .before .before .before .before .before .answer .ensures in
-    answer-refused (a .server) (a .phone) _ told _ _ (c .before .before .before .before .put-answer .ensures) (c .if1 .taken)
+    let result = c .before .before .before .before .before .before .before .before .before .before .before .answer .ensures in
+    answer-refused (a .server) (a .phone) _ result _ _ (c .before .before .before .before .put-answer-line .ensures) (c .if1 .taken)
 
 returns-2 : tie.Need-returns-2
 returns-2 c =
     let a = c .before .before .before .before .before .before .before .before .before .before .before .before .before .before .before .before .before .before .before .args in
-    let told₀ = c .before .before .before .before .before .before .before .before .before .before .before .before .before .before .before .before .answer .ensures in
-    let told₁ = c .before .before .before .before .before .before .before .before .before .before .before .before .before .answer2 .ensures in
-    let put₀ = c .before .before .before .before .before .before .before .before .before .put-answer .ensures in
-    answer-both (a .server) (a .phone) _ told₀ _ _ put₀ _ told₁ (c .before .before .before .before .before .if1 .left) _ (c .before .before .put-answer2 .ensures)
+    let result₀ = c .before .before .before .before .before .before .before .before .before .before .before .before .before .before .before .before .answer .ensures in
+    let result₁ = c .before .before .before .before .before .before .before .before .before .before .before .before .before .answer2 .ensures in
+    let put₀ = c .before .before .before .before .before .before .before .before .before .put-answer-line .ensures in
+    answer-both (a .server) (a .phone) _ result₀ _ _ put₀ _ result₁ (c .before .before .before .before .before .if1 .left) _ (c .before .before .put-answer2 .ensures)
 
 pub put-answers-spec : {M : Type 1} → statement M
 put-answers-spec =

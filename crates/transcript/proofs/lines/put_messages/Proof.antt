@@ -5,7 +5,7 @@ use lib.ListN.{drop}
 use Rattle.transcript.specs.Transcript.{messageLines}
 use Rattle.transcript.proofs.Putting.{lines-more, lines-done, lines-end}
 use Prim.Native.Nat.{_≤_, _-_, _*_}
-use mathlib.Core.Path.{_≡_, refl, ap}
+use mathlib.Core.Path.{_≡_, refl}
 use native.Mathlib.Omega.{arith}
 use borrow.Author.Needs.{needs}
 use lib.ListN.{length}
@@ -35,8 +35,8 @@ message-size-requires c κs = tt
 least-requires : tie.Need-least-requires Inv-loop μ-loop
 least-requires c κs = tt
 
-put-message-requires : tie.Need-put-message-requires Inv-loop μ-loop
-put-message-requires c κs = tt
+put-message-line-requires : tie.Need-put-message-requires Inv-loop μ-loop
+put-message-line-requires c κs = tt
 
 loop-again : tie.Need-loop-again Inv-loop μ-loop
 loop-again c =
@@ -44,7 +44,7 @@ loop-again c =
     let loop = c .before .before .before .before .before .before .before .before .before .loop in
     let size = c .before .before .before .before .before .before .message-size .ensures in
     let most = c .before .before .before .before .before .least .ensures .0 in
-    let put = c .before .before .put-message .ensures in (
+    let put = c .before .before .put-message-line .ensures in (
       omega arith,
       omega arith,
       search needs,
@@ -75,7 +75,7 @@ put-messages-spec =
     (λ c. omega arith)
     (λ c. omega arith)
     (λ c. omega arith)
-    put-message-requires
+    put-message-line-requires
     (λ c. omega arith)
     (λ c. omega arith)
     loop-again

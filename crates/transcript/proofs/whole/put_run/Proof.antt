@@ -12,7 +12,7 @@ returns c =
     (put-then _ _ _
     (put-then _ _ _
     (c .before .before .before .before .before .before .before .before .before .before .before .before .before .before .put-messages .ensures)
-    (c .before .before .before .before .before .before .before .before .before .before .put-result .ensures))
+    (c .before .before .before .before .before .before .before .before .before .before .put-end .ensures))
     (c .before .before .before .before .before .before .put-openings .ensures))
     (c .before .before .put-openings2 .ensures)
 

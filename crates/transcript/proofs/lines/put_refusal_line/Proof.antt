@@ -1,9 +1,9 @@
--- `transcript::lines::put_refusal` meets its contract. Assumes nothing.
+-- `transcript::lines::put_refusal_line` meets its contract. Assumes nothing.
 use Rattle.transcript.specs.Transcript.{refusalLine}
 use Rattle.transcript.proofs.Putting.{put-then}
 use borrow.Author.Needs.{needs}
-use Rattle.transcript.proofs.lines.put_refusal.Statement.{statement}
-use Rattle.transcript.proofs.lines.put_refusal.Tie as tie
+use Rattle.transcript.proofs.lines.put_refusal_line.Statement.{statement}
+use Rattle.transcript.proofs.lines.put_refusal_line.Tie as tie
 
 returns : tie.Need-returns
 unfolding refusalLine
@@ -23,8 +23,8 @@ returns c =
     (c .before .before .before .before .before .before .put-number .ensures))
     (c .before .before .put-byte3 .ensures)
 
-pub put-refusal-spec : {M : Type 1} → statement M
-put-refusal-spec =
+pub put-refusal-line-spec : {M : Type 1} → statement M
+put-refusal-line-spec =
     tie.close
     (tie.spec
     (λ c. search needs)

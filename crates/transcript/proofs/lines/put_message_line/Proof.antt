@@ -1,9 +1,9 @@
--- `transcript::lines::put_message` meets its contract. Assumes nothing.
+-- `transcript::lines::put_message_line` meets its contract. Assumes nothing.
 use Rattle.transcript.specs.Transcript.{messageLine}
 use Rattle.transcript.proofs.Putting.{put-then}
 use borrow.Author.Needs.{needs}
-use Rattle.transcript.proofs.lines.put_message.Statement.{statement}
-use Rattle.transcript.proofs.lines.put_message.Tie as tie
+use Rattle.transcript.proofs.lines.put_message_line.Statement.{statement}
+use Rattle.transcript.proofs.lines.put_message_line.Tie as tie
 
 returns : tie.Need-returns
 unfolding messageLine
@@ -21,8 +21,8 @@ returns c =
     (c .before .before .before .before .before .before .put-hex .ensures))
     (c .before .before .put-byte3 .ensures)
 
-pub put-message-spec : {M : Type 1} → statement M
-put-message-spec =
+pub put-message-line-spec : {M : Type 1} → statement M
+put-message-line-spec =
     tie.close
     (tie.spec
     (λ c κs. search needs)
