@@ -6,7 +6,7 @@ use borrow.Author.Needs.{needs}
 use Rattle.text.specs.Text.{Text, puts, lastDigit, decimalIn}
 use Rattle.text.proofs.Puts.{puts-append}
 use Rattle.text.proofs.Decimals.{decimal-none, decimal-below, decimal-more}
-use Prim.Native.Nat.{ℕ}
+use Prim.Native.Nat.{ℕ, _<_}
 use borrow.Fn.Kinds.{In}
 use borrow.Fn.PlainCycle.{Measures, is, falls, and}
 use Rattle.text.proofs.put_digits.Reads as put-digits
