@@ -71,12 +71,12 @@ pub record Carried : Type 0 where
   pub parties : JointState
   pub messages : List ℕ
 
--- h: what the server's begin is handed; o: the phone's
-module _ (s : Settings) (serial : ℕ) (h o : PartyInput) where
+-- own: what the server's begin is handed; other: the phone's
+module _ (s : Settings) (serial : ℕ) (own other : PartyInput) where
   -- what a call gives at its party
   unfoldable pub outcomeAt : JointState → Party → Call → Outcome
-  outcomeAt w observer call = outcome keyCount s serial h (w .peer .latest) (w .observer) call
-  outcomeAt w peer call = outcome keyCount s serial o (w .observer .latest) (w .peer) call
+  outcomeAt w observer call = outcome keyCount s serial own (w .peer .latest) (w .observer) call
+  outcomeAt w peer call = outcome keyCount s serial other (w .observer .latest) (w .peer) call
 
   -- one call more, unless one was refused
   unfoldable pub carry : Carried → Party → Call → Carried
@@ -85,7 +85,7 @@ module _ (s : Settings) (serial : ℕ) (h o : PartyInput) where
       cond (eqb (x .refusal .number) 0)
       (record {
         refusal = refusalIn (partyNumber party) event;
-        parties = step keyCount s serial h o (x .parties) party call;
+        parties = step keyCount s serial own other (x .parties) party call;
         messages = x .messages ++ messageIn event;
       })
       x
@@ -107,14 +107,14 @@ drawIn a numbers = drop (inputSize a) (drop (inputSize a) numbers)
 
 -- what the begins are handed: each side's own keys and inputs, and its book of the deal
 abbrev pub serverInput : RunTerms → List ℕ → PartyInput
-serverInput t numbers =
-    let a = t .settings .shape in
-    partyInput keyCount (t .settings) 0 (t .keys0) (t .keys1) (drawIn a numbers) (serverInputs a numbers)
+serverInput terms numbers =
+    let a = terms .settings .shape in
+    partyInput keyCount (terms .settings) 0 (terms .keys0) (terms .keys1) (drawIn a numbers) (serverInputs a numbers)
 
 abbrev pub phoneInput : RunTerms → List ℕ → PartyInput
-phoneInput t numbers =
-    let a = t .settings .shape in
-    partyInput keyCount (t .settings) 1 (t .keys0) (t .keys1) (drawIn a numbers) (phoneInputs a numbers)
+phoneInput terms numbers =
+    let a = terms .settings .shape in
+    partyInput keyCount (terms .settings) 1 (terms .keys0) (terms .keys1) (drawIn a numbers) (phoneInputs a numbers)
 
 -- the working slices before a run
 abbrev pub zeroWork : List ℕ
@@ -130,12 +130,12 @@ notBegun refusal = record { refusal = refusal; parties = record { observer = fre
 
 -- the first no of the deal, whose lent books have the size that the shape asks for
 abbrev pub dealNoOf : RunTerms → List ℕ → ℕ
-dealNoOf t numbers =
-    let a = t .settings .shape in
-    dealNo keyCount a (t .keys0) (t .keys1) (drawIn a numbers) (replicate (bookSize a) 0) (replicate (bookSize a) 0)
+dealNoOf terms numbers =
+    let a = terms .settings .shape in
+    dealNo keyCount a (terms .keys0) (terms .keys1) (drawIn a numbers) (replicate (bookSize a) 0) (replicate (bookSize a) 0)
 
 -- dealt, begun by both, the server first, and carried from round to round
 unfoldable pub executed : RunTerms → List ℕ → Carried
-executed t numbers =
-    carryAll (t .settings) (t .serial) (serverInput t numbers) (phoneInput t numbers)
-    (notBegun (refusalOf Deal 0 (dealNoOf t numbers))) runCalls
+executed terms numbers =
+    carryAll (terms .settings) (terms .serial) (serverInput terms numbers) (phoneInput terms numbers)
+    (notBegun (refusalOf Deal 0 (dealNoOf terms numbers))) runCalls

@@ -52,12 +52,12 @@ pub record Fits (x : Execution) (bytes : List ℕ) (more : ℕ) : Type 0 where
 abbrev pub runBytes : ℕ
 runBytes = 2 * rounds * mostBytes keyCount
 
--- ---- What each working function leaves, from x to r. s, serial, h and o are those of the run: any
+-- ---- What each working function leaves, from x to r. s, serial, own and other are those of the run: any
 
 -- the run that side `number` begins
 abbrev pub runAt : RunTerms → ℕ → Run
-runAt t number =
-    record { number = number; settings = t .settings; keys = cond (eqb number 0) (t .keys0) (t .keys1); serial = t .serial }
+runAt terms number =
+    record { number = number; settings = terms .settings; keys = cond (eqb number 0) (terms .keys0) (terms .keys1); serial = terms .serial }
 
 -- a side that has sent nothing
 abbrev pub silentEndpoint : Side → Endpoint
@@ -70,16 +70,16 @@ startOf refused =
 
 -- the server's begin, and the phone's: its working slice goes from `before` to `after`
 pub record ServerBegins (x : Execution) (run : Run) (inputs book before : List ℕ) (r : Execution) (after : List ℕ) : Type 0 where
-  pub is : (h o : PartyInput) → runOf (run .settings) (run .serial) h ≡ run → h .inputs ≡ inputs → h .book ≡ book
+  pub is : (own other : PartyInput) → runOf (run .settings) (run .serial) own ≡ run → own .inputs ≡ inputs → own .book ≡ book
       → (phoneWork bytes : List ℕ)
-      → carriedOf r after phoneWork bytes ≡ carry (run .settings) (run .serial) h o (carriedOf x before phoneWork bytes) observer begin
+      → carriedOf r after phoneWork bytes ≡ carry (run .settings) (run .serial) own other (carriedOf x before phoneWork bytes) observer begin
   pub fits : (bytes : List ℕ) (more : ℕ) → Fits x bytes more → Fits r bytes more
   pub same : r .length ≡ x .length
 
 pub record PhoneBegins (x : Execution) (run : Run) (inputs book before : List ℕ) (r : Execution) (after : List ℕ) : Type 0 where
-  pub is : (h o : PartyInput) → runOf (run .settings) (run .serial) o ≡ run → o .inputs ≡ inputs → o .book ≡ book
+  pub is : (own other : PartyInput) → runOf (run .settings) (run .serial) other ≡ run → other .inputs ≡ inputs → other .book ≡ book
       → (serverWork bytes : List ℕ)
-      → carriedOf r serverWork after bytes ≡ carry (run .settings) (run .serial) h o (carriedOf x serverWork before bytes) peer begin
+      → carriedOf r serverWork after bytes ≡ carry (run .settings) (run .serial) own other (carriedOf x serverWork before bytes) peer begin
   pub fits : (bytes : List ℕ) (more : ℕ) → Fits x bytes more → Fits r bytes more
   pub same : r .length ≡ x .length
 
@@ -108,16 +108,16 @@ pub record SendsAt (e : Endpoint) (work before : List ℕ) (at : ℕ) (r : SendS
   pub most : r .length ≤ at + mostBytes keyCount
 
 pub record ServerSends (x : Execution) (work before : List ℕ) (r : Execution) (after : List ℕ) : Type 0 where
-  pub is : (s : Settings) (serial : ℕ) (h o : PartyInput) (phoneWork : List ℕ)
-      → carriedOf r work phoneWork after ≡ carry s serial h o (carriedOf x work phoneWork before) observer (send messageRoom)
+  pub is : (s : Settings) (serial : ℕ) (own other : PartyInput) (phoneWork : List ℕ)
+      → carriedOf r work phoneWork after ≡ carry s serial own other (carriedOf x work phoneWork before) observer (send messageRoom)
   pub fits : (more : ℕ) → Fits x before (1 + more) → Fits r after more
   pub size : length after ≡ length before
   pub behind : drop (r .length) after ≡ drop (r .length) before
   pub grows : x .length ≤ r .length
 
 pub record PhoneSends (x : Execution) (work before : List ℕ) (r : Execution) (after : List ℕ) : Type 0 where
-  pub is : (s : Settings) (serial : ℕ) (h o : PartyInput) (serverWork : List ℕ)
-      → carriedOf r serverWork work after ≡ carry s serial h o (carriedOf x serverWork work before) peer (send messageRoom)
+  pub is : (s : Settings) (serial : ℕ) (own other : PartyInput) (serverWork : List ℕ)
+      → carriedOf r serverWork work after ≡ carry s serial own other (carriedOf x serverWork work before) peer (send messageRoom)
   pub fits : (more : ℕ) → Fits x before (1 + more) → Fits r after more
   pub size : length after ≡ length before
   pub behind : drop (r .length) after ≡ drop (r .length) before
@@ -125,21 +125,21 @@ pub record PhoneSends (x : Execution) (work before : List ℕ) (r : Execution) (
 
 -- one side's take: its working slice goes from `before` to `after`
 pub record PhoneTakes (x : Execution) (before bytes : List ℕ) (r : Execution) (after : List ℕ) : Type 0 where
-  pub is : (s : Settings) (serial : ℕ) (h o : PartyInput) (serverWork : List ℕ)
-      → carriedOf r serverWork after bytes ≡ carry s serial h o (carriedOf x serverWork before bytes) peer takeLatest
+  pub is : (s : Settings) (serial : ℕ) (own other : PartyInput) (serverWork : List ℕ)
+      → carriedOf r serverWork after bytes ≡ carry s serial own other (carriedOf x serverWork before bytes) peer takeLatest
   pub fits : (more : ℕ) → Fits x bytes more → Fits r bytes more
   pub same : r .length ≡ x .length
 
 pub record ServerTakes (x : Execution) (before bytes : List ℕ) (r : Execution) (after : List ℕ) : Type 0 where
-  pub is : (s : Settings) (serial : ℕ) (h o : PartyInput) (phoneWork : List ℕ)
-      → carriedOf r after phoneWork bytes ≡ carry s serial h o (carriedOf x before phoneWork bytes) observer takeLatest
+  pub is : (s : Settings) (serial : ℕ) (own other : PartyInput) (phoneWork : List ℕ)
+      → carriedOf r after phoneWork bytes ≡ carry s serial own other (carriedOf x before phoneWork bytes) observer takeLatest
   pub fits : (more : ℕ) → Fits x bytes more → Fits r bytes more
   pub same : r .length ≡ x .length
 
 -- n rounds: both working slices and the messages go from the first three lists to the last three
 pub record RoundsRun (n : ℕ) (x : Execution) (serverWork phoneWork bytes : List ℕ) (r : Execution) (serverAfter phoneAfter bytesAfter : List ℕ) : Type 0 where
-  pub is : (s : Settings) (serial : ℕ) (h o : PartyInput)
-      → carriedOf r serverAfter phoneAfter bytesAfter ≡ carryAll s serial h o (carriedOf x serverWork phoneWork bytes) (roundCalls n)
+  pub is : (s : Settings) (serial : ℕ) (own other : PartyInput)
+      → carriedOf r serverAfter phoneAfter bytesAfter ≡ carryAll s serial own other (carriedOf x serverWork phoneWork bytes) (roundCalls n)
   pub fits : (more : ℕ) → Fits x bytes (2 * n + more) → Fits r bytesAfter more
   pub size : length bytesAfter ≡ length bytes
   pub behind : drop (r .length) bytesAfter ≡ drop (r .length) bytes
@@ -162,9 +162,9 @@ pub record Executes (x : Carried) (r : Execution) (before after : List ℕ) : Ty
   pub messages-are : after ≡ inFront (x .messages) before
   pub fits : length (x .messages) ≤ length before
 
--- both begins and the rounds, from an execution x that has not begun; h and o: what the begins are handed, which count where nothing was refused
-pub record RunsFrom (x : Execution) (t : RunTerms) (numbers book0 book1 : List ℕ) (r : Execution) (before after : List ℕ) : Type 0 where
-  pub is : (h o : PartyInput)
-      → runOf (t .settings) (t .serial) h ≡ runAt t 0 → h .inputs ≡ serverInputs (t .settings .shape) numbers → (x .refusal .number ≡ 0 → h .book ≡ book0)
-      → runOf (t .settings) (t .serial) o ≡ runAt t 1 → o .inputs ≡ phoneInputs (t .settings .shape) numbers → (x .refusal .number ≡ 0 → o .book ≡ book1)
-      → Executes (carryAll (t .settings) (t .serial) h o (carriedOf x zeroWork zeroWork before) runCalls) r before after
+-- both begins and the rounds, from an execution x that has not begun; own and other: what the begins are handed, which count where nothing was refused
+pub record RunsFrom (x : Execution) (terms : RunTerms) (numbers book0 book1 : List ℕ) (r : Execution) (before after : List ℕ) : Type 0 where
+  pub is : (own other : PartyInput)
+      → runOf (terms .settings) (terms .serial) own ≡ runAt terms 0 → own .inputs ≡ serverInputs (terms .settings .shape) numbers → (x .refusal .number ≡ 0 → own .book ≡ book0)
+      → runOf (terms .settings) (terms .serial) other ≡ runAt terms 1 → other .inputs ≡ phoneInputs (terms .settings .shape) numbers → (x .refusal .number ≡ 0 → other .book ≡ book1)
+      → Executes (carryAll (terms .settings) (terms .serial) own other (carriedOf x zeroWork zeroWork before) runCalls) r before after

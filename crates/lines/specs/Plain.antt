@@ -19,27 +19,27 @@ use Rattle.lines.specs.declared.LineResult.{LineResult}
 
 -- the settings of a line
 abbrev pub settingsOf : Request → Settings
-settingsOf o = settingsWith (o .set) (o .kind) (o .count) (o .bound)
+settingsOf request = settingsWith (request .set) (request .kind) (request .count) (request .bound)
 
 -- its coefficients
 abbrev pub secretOf : Request → List ℕ
-secretOf o = take (o .count) (o .numbers)
+secretOf request = take (request .count) (request .numbers)
 
 -- The first no of the deal, then of the server's begin, then of the phone's, or 0 (`asked-in-order` proves it). The deal asks 1 and 2;
 -- keys, lengths and the all-zero draw pass 4 to 6. The server's begin asks 3, then 6 of the coefficients, then 7, where a fresh side
 -- has serial 0. The phone's begin refuses nothing more.
 unfoldable pub requestNo : ℕ → Request → ℕ
-requestNo serial o =
-    askSettings 0 (settingsOf o)
-    (ask (allBelow q (secretOf o)) 6
+requestNo serial request =
+    askSettings 0 (settingsOf request)
+    (ask (allBelow q (secretOf request)) 6
     (ask (ltb 0 serial) 7
     0))
 
 -- a refusal and no numbers; or the high parts, or the verdict, and zeros behind
 unfoldable pub resultFor : ℕ → Request → LineResult
-resultFor serial o =
-    let refusal = requestNo serial o in
-    let answer = answerOf (settingsOf o) (secretOf o) in
+resultFor serial request =
+    let refusal = requestNo serial request in
+    let answer = answerOf (settingsOf request) (secretOf request) in
     cond (eqb refusal 0)
     (record { refused = 0; length = length answer; numbers = inFront answer (replicate 8 0) })
     (record { refused = refusal; length = 0; numbers = replicate 8 0 })
@@ -52,7 +52,7 @@ malformedAnswer number = answerText number 12 []
 -- 2^32 − 1, so that no line beyond has a run
 unfoldable pub lineAnswer : ℕ → List ℕ → List ℕ
 lineAnswer number line =
-    let o = lineOf line in
-    let r = resultFor number o in
+    let request = lineOf line in
+    let r = resultFor number request in
     cond (leb tooLarge number) (malformedAnswer number)
-    (cond (o .good) (answerText number (r .refused) (take (r .length) (r .numbers))) (malformedAnswer number))
+    (cond (request .good) (answerText number (r .refused) (take (r .length) (r .numbers))) (malformedAnswer number))

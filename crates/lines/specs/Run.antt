@@ -17,7 +17,7 @@ abbrev pub ones : List ℕ
 ones = replicate keyCount 1
 
 abbrev pub termsFor : ℕ → Request → RunTerms
-termsFor serial o = record { settings = settingsOf o; serial = serial; keys0 = ones; keys1 = ones }
+termsFor serial request = record { settings = settingsOf request; serial = serial; keys0 = ones; keys1 = ones }
 
 -- the server's inputs: keys are 1 and the phone's numbers 0, so each coefficient in every column
 unfoldable pub inColumns : List ℕ → List ℕ
@@ -25,11 +25,11 @@ inColumns xs = listTo (length xs * width) (λ (x : ℕ). getD xs (x / width) 0)
 
 -- "the phone's input numbers are 0", "an all-zero draw": so many zeros behind the server's inputs
 abbrev pub zerosFor : Request → ℕ
-zerosFor o = o .count * width + drawLength (paramsIn (settingsOf o)) width
+zerosFor request = request .count * width + drawLength (paramsIn (settingsOf request)) width
 
 -- the numbers of the run
 abbrev pub numbersFor : Request → List ℕ
-numbersFor o = inColumns (secretOf o) ++ replicate (zerosFor o) 0
+numbersFor request = inColumns (secretOf request) ++ replicate (zerosFor request) 0
 
 -- what a side's answer says
 unfoldable pub answeredBy : Side → LineResult
