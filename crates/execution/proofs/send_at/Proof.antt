@@ -14,10 +14,20 @@ returns c =
 
 add-end : tie.Need-add-end
 add-end c =
-    let a = c .before .before .before .before .before .before .before .before .before .before .before .args in
-    let p = c .before .before .before .before .before .before .before .before .before .before .before .pre in
-    let send = c .before .before .before .before .before .before .send in
-    omega (arith, sent-most (a .e) (a .work .now) (a .messages .now) (a .at) (p .0) (p .1) (send .result) _ (send .ensures) (c .before .if1 .left))
+    omega (
+      arith,
+      sent-most
+          (c .before .before .before .before .before .before .before .before .before .before .before .args .e)
+          (c .before .before .before .before .before .before .before .before .before .before .before .args .work .now)
+          (c .before .before .before .before .before .before .before .before .before .before .before .args .messages .now)
+          (c .before .before .before .before .before .before .before .before .before .before .before .args .at)
+          (c .before .before .before .before .before .before .before .before .before .before .before .pre .0)
+          (c .before .before .before .before .before .before .before .before .before .before .before .pre .1)
+          (c .before .before .before .before .before .before .send .result)
+          _
+          (c .before .before .before .before .before .before .send .ensures)
+          (c .before .if1 .left),
+    )
 
 returns-2 : tie.Need-returns-2
 returns-2 c =
