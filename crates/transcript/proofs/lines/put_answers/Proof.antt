@@ -16,7 +16,7 @@ returns-2 c =
     let result₀ = c .before .before .before .before .before .before .before .before .before .before .before .before .before .before .before .before .answer .ensures in
     let result₁ = c .before .before .before .before .before .before .before .before .before .before .before .before .before .answer2 .ensures in
     let put₀ = c .before .before .before .before .before .before .before .before .before .put-answer-line .ensures in
-    answer-both (a .server) (a .phone) _ result₀ _ _ put₀ _ result₁ (c .before .before .before .before .before .if1 .left) _ (c .before .before .put-answer2 .ensures)
+    answer-both (a .server) (a .phone) _ result₀ _ _ put₀ _ result₁ (c .before .before .before .before .before .if1 .left) _ (c .before .before .put-answer-line2 .ensures)
 
 pub put-answers-spec : {M : Type 1} → statement M
 put-answers-spec =

@@ -35,7 +35,7 @@ message-size-requires c κs = tt
 least-requires : tie.Need-least-requires Inv-loop μ-loop
 least-requires c κs = tt
 
-put-message-line-requires : tie.Need-put-message-requires Inv-loop μ-loop
+put-message-line-requires : tie.Need-put-message-line-requires Inv-loop μ-loop
 put-message-line-requires c κs = tt
 
 loop-again : tie.Need-loop-again Inv-loop μ-loop
