@@ -26,23 +26,20 @@ answer-call-requires c κs = omega (arith, leb-true)
 
 add-used : tie.Need-add-used Inv-loop μ-loop
 add-used c =
-    let answer-call = c .before .before .before .before .before .answer-call in
     let loop = c .before .before .before .before .before .before .before .before .before .before .before .loop in
     omega (
       arith,
       used-in (loop .here) (loop .kept) (c .before .before .before .before .before .before .before .before .before .before .before .before .before .before .before .args .bytes .now)
-          (loop .used) (answer-call .result .used) (omega arith) (answer-call .ensures .1 .0),
+          (loop .used) (c .before .before .before .before .before .answer-call .result .used) (omega arith) (c .before .before .before .before .before .answer-call .ensures .1 .0),
     )
 
 loop-less : tie.Need-loop-less Inv-loop μ-loop
 loop-less c =
-    let answer-call = c .before .before .before .before .before .before .answer-call in
     let loop = c .before .before .before .before .before .before .before .before .before .before .before .before .loop in
     omega (
       arith,
-      more-used (loop .here) (loop .kept)
-          (c .before .before .before .before .before .before .before .before .before .before .before .before .before .before .before .before .args .bytes .now) (loop .used) (answer-call .result .used)
-          (omega arith) (answer-call .ensures .1 .0),
+      more-used (loop .here) (loop .kept) (c .before .before .before .before .before .before .before .before .before .before .before .before .before .before .before .before .args .bytes .now)
+          (loop .used) (c .before .before .before .before .before .before .answer-call .result .used) (omega arith) (c .before .before .before .before .before .before .answer-call .ensures .1 .0),
     )
 
 loop-again : tie.Need-loop-again Inv-loop μ-loop
