@@ -2,7 +2,7 @@
 """instruction_counts.py PROGRAM [SETS]: does the work of a run depend on shares or keys? Fixes settings, coefficients and the
 dealer's drawn numbers, and so every opened number; draws SETS (default 20) random sets of keys, input shares and phone's numbers;
 and counts the instructions of the program `transcript` on each, with valgrind (Debian package valgrind): of begin at each side, of
-each message (its send at one side and its take at the other), and of the whole program. All numbers are written with ten digits, so
+each send and each take, and of the whole program. All numbers are written with ten digits, so
 that reading them costs the same. Prints the fewest and the most; equal counts say that no step took another way."""
 import glob
 import os
@@ -40,7 +40,7 @@ def one_input(rng, set_, kind, n, bound, secret, drawn):
 
 
 # Callgrind writes out what it has counted before and after each of these.
-CALLS = ('side::begin', 'transcript::play::pass_message')
+CALLS = ('side::begin', 'execution::send_at', 'side::take')
 
 
 def instructions(program, data):
@@ -60,7 +60,7 @@ def instructions(program, data):
 
 
 LABELS = (['begin, server', 'begin, phone']
-          + [f'round {r}, {way}' for r in range(1, 8) for way in ('server sends, phone takes', 'phone sends, server takes')]
+          + [f'round {r}, {way}' for r in range(1, 8) for way in ('server sends', 'phone takes', 'phone sends', 'server takes')]
           + ['the whole program'])
 
 
