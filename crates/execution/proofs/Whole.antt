@@ -128,6 +128,8 @@ module _ (x : Execution) (t : RunTerms) (numbers book0 book1 bytes : List ℕ) (
             refusal-is = ap (λ (y : Carried). y .refusal) carried;
             server-is = ap (λ (y : Carried). y .parties .observer .side) carried;
             phone-is = ap (λ (y : Carried). y .parties .peer .side) carried;
+            server-latest = ap (λ (y : Carried). y .parties .observer .latest) carried;
+            phone-latest = ap (λ (y : Carried). y .parties .peer .latest) carried;
             length-is = size;
             messages-are = sym (take-append-drop (r .length) after) ∙ ap₂ (λ (y z : List ℕ). y ++ z) messages (ran .behind ∙ ap (λ (n : ℕ). drop n bytes) size);
             fits = omega (arith, long, size, ran .size);

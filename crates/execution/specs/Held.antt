@@ -153,11 +153,13 @@ pub record CutsAt (a : Shape) (count : ℕ) (r : Cuts) : Type 0 where
   pub draw-is : r .draw ≡ r .phone + min (inputSize a) (count - r .phone)
   pub within : r .draw ≤ count
 
--- what is given back of a run x: refusal, sides, and the messages in front of the lent slice
+-- what is given back of a run x: refusal, sides, where each side's latest message stands, and the messages in front of the lent slice
 pub record Executes (x : Carried) (r : Execution) (before after : List ℕ) : Type 0 where
   pub refusal-is : r .refusal ≡ x .refusal
   pub server-is : r .server .side ≡ x .parties .observer .side
   pub phone-is : r .phone .side ≡ x .parties .peer .side
+  pub server-latest : take (r .server .to - r .server .from) (drop (r .server .from) after) ≡ x .parties .observer .latest
+  pub phone-latest : take (r .phone .to - r .phone .from) (drop (r .phone .from) after) ≡ x .parties .peer .latest
   pub length-is : r .length ≡ length (x .messages)
   pub messages-are : after ≡ inFront (x .messages) before
   pub fits : length (x .messages) ≤ length before

@@ -72,7 +72,7 @@ pub struct Execution {
 
 // ---- Refusals
 
-pub fn no_refusal() -> Refusal
+fn no_refusal() -> Refusal
     ensures { λ r. ⌜ r ≡ noRefusal ⌝ }
 {
     Refusal {
@@ -83,7 +83,7 @@ pub fn no_refusal() -> Refusal
 }
 
 // A call's answer as a refusal.
-pub fn refusal_of(call: CallKind, party: u32, number: u32) -> Refusal
+fn refusal_of(call: CallKind, party: u32, number: u32) -> Refusal
     ensures { λ r. ⌜ r ≡ refusalOf call party number ⌝ }
 {
     if number == 0 {
