@@ -1,0 +1,1 @@
+// Every call refuses by the request's questions alone, and a refusal changes nothing. Theorems only.
