@@ -8,8 +8,10 @@ use native.Mathlib.Omega.{arith}
 use lib.Dec.{eqb, leb, ltb}
 use lib.IntN.{pos}
 use lib.ListN.{length, drop, replicate}
-use borrow.Author.Tests.{ltb-true, leb-true, eqb-true, lt-ltb}
-use Rattle.lists.specs.Lists.{every, allBelow, allTo}
+use borrow.Author.Tests.{ltb-true, leb-true, eqb-true, lt-ltb, le-leb}
+use Rattle.lists.specs.Answers.{ask}
+use Rattle.lists.specs.Lists.{every, allBelow, allTo, inFront}
+use Rattle.field.specs.Sums.{sumTo}
 use Rattle.lists.proofs.Questions.{both-yes}
 use Rattle.lists.proofs.Every.{below-at, allTo-at}
 use Rattle.lists.proofs.Lists.{length-listFrom, front-list}
@@ -19,18 +21,18 @@ use Rattle.rounding.specs.Plain.{highPart, decompose}
 use Rattle.rounding.specs.Rounds.{gap}
 use Rattle.settings.proofs.Sets.{lawful}
 use Rattle.rounding.proofs.Decompose.{high-is}
-use Rattle.settings.specs.Sizes.{widthOf, openings, openingsUpTo}
+use Rattle.settings.specs.Sizes.{widthOf, openings, openingsUpTo, answerPlaces}
 use Rattle.settings.specs.Schedule.{rounds, steps}
 use Rattle.column.specs.Run.{openedFrom, plainOpened}
 use Rattle.column.specs.Theorems.{Sound, PlainRun}
-use Rattle.state.specs.State.{heldAnswer, finished, countCall}
+use Rattle.state.specs.State.{heldAnswer, answerNo, afterAnswer, answerCall, finished, countCall}
 use Rattle.side.specs.Side.{begunSide}
 use Rattle.settings.specs.declared.Settings.{Settings}
 use Rattle.settings.specs.Questions.{settingsOk}
 use Rattle.settings.specs.Settings.{paramsIn, termsOf}
 use Rattle.settings.proofs.Sizes.{shared-most}
 use Rattle.runs.specs.Records.{answerOf, PartyInput}
-use Rattle.runs.specs.Demands.{Secret, Possible, Ended, Demand2, FipsHigh, observerInput, peerInput}
+use Rattle.runs.specs.Demands.{Secret, Possible, allOpenings, Ended, Demand2, FipsHigh, observerInput, peerInput}
 use Rattle.runs.specs.Progress.{sideAt, partyAt, jointAt}
 use Rattle.runs.specs.Theorems.{Progress}
 use Rattle.runs.proofs.PartyStates.{Which, FieldsPass}
@@ -91,17 +93,39 @@ sound k s secret draw e x d =
 
 -- ---- The end of a run
 
+counted-all : (s : Settings) → openingsUpTo (paramsIn s) rounds ≡ allOpenings s
+unfolding openingsUpTo sumTo openings
+counted-all s = by (eqb (s .shape .kind) 0) refl
+  where
+    by : (b : Bool) → eqb (s .shape .kind) 0 ≡ b → openingsUpTo (paramsIn s) rounds ≡ allOpenings s
+    by true e = rw e (omega arith)
+    by false e = rw e (omega arith)
+
 module _ (k : ℕ) (s : Settings) (serial : ℕ) (numbers : ℕ → List ℕ) where
   held-at : (h : PartyInput) → Which h → length (numbers (rounds - 1)) ≡ openings (paramsIn s) rounds → heldAnswer (sideAt k s serial numbers h steps) ≡ numbers (rounds - 1)
   unfolding sideAt begunSide openings
   held-at _ server e = front-list _ (numbers (rounds - 1)) (drop (length (numbers (rounds - 1))) (replicate 8 0)) e
   held-at _ phone e = front-list _ (numbers (rounds - 1)) (drop (length (numbers (rounds - 1))) (replicate 8 0)) e
 
+  -- the answer call, from what the side holds
+  given-at : (h : PartyInput) → finished (sideAt k s serial numbers h steps) ≡ true
+      → (answer : List ℕ) → heldAnswer (sideAt k s serial numbers h steps) ≡ answer
+      → (out : List ℕ) → answerPlaces (paramsIn s) ≤ length out
+      → answerCall (sideAt k s serial numbers h steps) out ≡ afterAnswer 0 (answerPlaces (paramsIn s)) (inFront answer out)
+  unfolding answerCall answerNo ask sideAt begunSide
+  given-at h done answer e out r = rw (done, le-leb (answerPlaces (paramsIn s)) (length out) r, ← e)
+
   ended-at : (h : PartyInput) → Which h → FieldsPass s serial h → (secret : List ℕ) → numbers (rounds - 1) ≡ answerOf s secret → length (numbers (rounds - 1)) ≡ openings (paramsIn s) rounds
       → Ended s secret (partyAt k s serial numbers h steps)
   unfolding partyAt
   ended-at h u t secret e l =
-      record { done = done-at h u t; answer = held-at h u l ∙ e; openings = opened-at h u t }
+      let held = held-at h u l ∙ e in
+      record {
+        done = done-at h u t;
+        answer = held;
+        gives = λ out r. given-at h (done-at h u t) (answerOf s secret) held out r;
+        openings = opened-at h u t ∙ counted-all s;
+      }
     where
       done-at : (h : PartyInput) → Which h → FieldsPass s serial h → finished (sideAt k s serial numbers h steps) ≡ true
       done-at h server t = finished-at k s serial numbers h (omega arith) t steps (omega arith)

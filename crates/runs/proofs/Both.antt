@@ -24,7 +24,7 @@ pub record HonestSide (k : ℕ) (s : Settings) (serial : ℕ) (numbers : ℕ →
   pub meets : Meets k s serial numbers h (said k s serial numbers o)
 
 module _ (k : ℕ) (s : Settings) (serial : ℕ) (numbers : ℕ → List ℕ) where
-  latest-is : (h : PartyInput) (x : PartyState) → x .latest ≡ [] → (c : ℕ)
+  pub latest-is : (h : PartyInput) (x : PartyState) → x .latest ≡ [] → (c : ℕ)
       → partyFrom k s serial numbers h x c .latest ≡ latestOf (said k s serial numbers h) (sentOf (h .number) c)
   unfolding partyAt
   latest-is h x e zero = e

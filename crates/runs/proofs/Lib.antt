@@ -19,5 +19,6 @@ pub mod Slices
 pub mod Sharing
 pub mod Opens
 pub mod Runs
+pub mod Sent
 -- All together
 pub mod Theorem

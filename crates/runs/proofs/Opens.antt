@@ -28,14 +28,15 @@ use Rattle.runs.specs.Progress.{workAt, sideAt, partyAt, messageAt}
 use Rattle.runs.specs.Honest.{Meets}
 use Rattle.runs.proofs.PartyStates.{which-below, at-take}
 use Rattle.runs.proofs.Slices.{Fair}
-use Rattle.runs.proofs.Sharing.{sharing, piece, prepared-is, header-read, fields-read, field-read}
+use Rattle.runs.specs.Messages.{ownNumber, openingFields}
+use Rattle.runs.proofs.Sharing.{prepared-is, header-read, fields-read, field-read}
 
 -- two sides that face each other: their numbers for each opening add up, in every column
 pub record Facing (k : ℕ) (s : Settings) (serial : ℕ) (numbers : ℕ → List ℕ) (factors : List ℕ) (plain : ℕ → ℕ → ℕ) (h o : PartyInput) : Type 0 where
   pub faces : o .number ≡ 1 - h .number
   pub observer : Fair k s serial numbers h
   pub peer : Fair k s serial numbers o
-  pub adds : (R c j : ℕ) → c < 1 + 2 * k → Adds q (getD factors c 0) (sharing k s serial numbers h R c j) (sharing k s serial numbers o R c j) (plain R j)
+  pub adds : (R c j : ℕ) → c < 1 + 2 * k → Adds q (getD factors c 0) (ownNumber k s serial numbers h R c j) (ownNumber k s serial numbers o R c j) (plain R j)
   -- what the shares' column and the columns of its own keys add up to
   pub unit : getD factors 0 0 ≡ 1
   pub keyed : (i : ℕ) → i < k → getD factors (partColumn k (h .number) i) 0 ≡ getD (h .keys) i 0
@@ -56,7 +57,7 @@ module _ (t : SlicesJoin) (m : RoundTrip) (k : ℕ) (s : Settings) (serial : ℕ
 
   -- field x of opening j, as the receiver reads it
   incoming-is : (R : ℕ) → R < rounds → (j x : ℕ) → j < openings (paramsIn s) (suc R) → x < 1 + k
-      → incoming k (side R) (came R) j x ≡ getD (piece k s serial numbers o R j) x 0
+      → incoming k (side R) (came R) j x ≡ getD (openingFields k s serial numbers o R j) x 0
   unfolding incoming sideAt begunSide partyAt
   incoming-is R r j x l b = rw (at-take k s serial numbers h R (v .observer .which) r .round) (field-read k s serial numbers t m e f o (v .peer) R r j x l b)
 
@@ -75,14 +76,14 @@ module _ (t : SlicesJoin) (m : RoundTrip) (k : ℕ) (s : Settings) (serial : ℕ
       by (suc (suc n)) u = absurd (omega arith)
 
   part-is : (R : ℕ) → R < rounds → (j i : ℕ) → j < openings (paramsIn s) (suc R) → i < k
-      → incoming k (side R) (came R) j (1 + i) ≡ sharing k s serial numbers o R (partColumn k (h .number) i) j
+      → incoming k (side R) (came R) j (1 + i) ≡ ownNumber k s serial numbers o R (partColumn k (h .number) i) j
   part-is R r j i l b =
       let z : 1 + i ≡ suc i = omega arith in
       let y : 1 - o .number ≡ h .number = omega (arith, v .faces, which-below h (v .observer .which)) in
       incoming-is R r j (1 + i) l (omega arith)
-      ∙ ap (λ (x : ℕ). getD (piece k s serial numbers o R j) x 0) z
-      ∙ getD-listTo k (λ (i : ℕ). sharing k s serial numbers o R (partColumn k (1 - o .number) i) j) i 0 b
-      ∙ ap (λ (x : ℕ). sharing k s serial numbers o R (partColumn k x i) j) y
+      ∙ ap (λ (x : ℕ). getD (openingFields k s serial numbers o R j) x 0) z
+      ∙ getD-listTo k (λ (i : ℕ). ownNumber k s serial numbers o R (partColumn k (1 - o .number) i) j) i 0 b
+      ∙ ap (λ (x : ℕ). ownNumber k s serial numbers o R (partColumn k x i) j) y
 
   -- "the two parts under my key add to my key × the joined number"
   pass-part : (R : ℕ) → R < rounds → (j i : ℕ) → j < openings (paramsIn s) (suc R) → i < k

@@ -28,7 +28,7 @@ use Rattle.runs.specs.Progress.{workAt, messageAt}
 use Rattle.runs.specs.Honest.{SideRuns, Runs}
 use Rattle.runs.proofs.Start.{length-missing, below-missing, missing-adds}
 use Rattle.runs.proofs.Slices.{Joint, Slices, opening-below, slices}
-use Rattle.runs.proofs.Sharing.{sharing}
+use Rattle.runs.specs.Messages.{ownNumber}
 use Rattle.runs.proofs.Opens.{Facing, meets}
 
 -- the keys among what the columns add up to
@@ -70,8 +70,8 @@ module _ (t : SlicesJoin) (b : Laws) (k : ℕ) (s : Settings) (serial : ℕ)
 
   -- ColumnsJoin: what the two sides have for an opening
   shares-add : (R c j : ℕ) → c < 1 + 2 * k
-      → Adds q (getD (multipliers keys0 keys1) c 0) (sharing k s serial numbers A R c j) (sharing k s serial numbers B R c j) (plain R j)
-  unfolding sharing
+      → Adds q (getD (multipliers keys0 keys1) c 0) (ownNumber k s serial numbers A R c j) (ownNumber k s serial numbers B R c j) (plain R j)
+  unfolding ownNumber
   shares-add R c j l =
       rw (g .fixed .server-count) at
       (t .opening (termsOf s) keys0 keys1 _ _ (column-at R) (omega arith) (g .fixed .server-count ∙ sym (g .fixed .phone-count))

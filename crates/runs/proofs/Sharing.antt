@@ -19,9 +19,7 @@ use Rattle.message.specs.Message.{headerNumber, messageOf, headerIn, fieldIn, f
 use Rattle.message.specs.Fields.{HeaderFits}
 use Rattle.message.specs.Theorems.{Sized, RoundTrip}
 use Rattle.message.proofs.RoundTrip.{sized-q}
-use Rattle.slice.specs.Layout.{column, maskedIn, weights}
-use Rattle.steps.specs.Steps.{publicOf}
-use Rattle.steps.specs.Work.{openingOn}
+use Rattle.slice.specs.Layout.{weights}
 use Rattle.column.specs.Theorems.{SlicesJoin}
 use Rattle.state.specs.declared.Side.{Side}
 use Rattle.opening.specs.Opening.{partColumn, prepared, outgoing, message, ownHeader}
@@ -32,59 +30,56 @@ use Rattle.settings.specs.Settings.{paramsIn, termsOf}
 use Rattle.settings.proofs.Ready.{settings-ok-ready}
 use Rattle.runs.specs.Records.{PartyInput}
 use Rattle.runs.specs.Progress.{workAt, sideAt, partyAt, messageAt}
+use Rattle.runs.specs.Messages.{ownNumber, openingFields, roundFields, roundMessage}
 use Rattle.runs.proofs.PartyStates.{inputAs, Which, which-below, at-send, at-take}
 use Rattle.runs.proofs.PartyStates.Which.{server, phone}
 use Rattle.runs.proofs.Slices.{Fair, opening-below}
 
 module _ (k : ℕ) (s : Settings) (serial : ℕ) (numbers : ℕ → List ℕ) where
-  -- side h's number in column c for opening j of round R + 1
-  unfoldable pub sharing : PartyInput → ℕ → ℕ → ℕ → ℕ
-  sharing h R c j =
-      openingOn (publicOf (termsOf s) (maskedIn (workAt k s serial numbers h R))) (suc R)
-      (getD (weights k (h .number) (h .keys)) c 0) (column (workAt k s serial numbers h R) c) j
+  abbrev number-of : PartyInput → ℕ → ℕ → ℕ → ℕ
+  number-of = ownNumber k s serial numbers
+
+  abbrev opening-of : PartyInput → ℕ → ℕ → List ℕ
+  opening-of = openingFields k s serial numbers
+
+  abbrev fields-of : PartyInput → ℕ → List ℕ
+  fields-of = roundFields k s serial numbers
 
   -- when it takes
   pub prepared-is : (h : PartyInput) (R : ℕ) → Which h → R < rounds → (c j : ℕ)
-      → prepared k (sideAt k s serial numbers h (takeStep (h .number) R)) (workAt k s serial numbers h R) c j ≡ sharing h R c j
-  unfolding prepared sharing sideAt begunSide partyAt
+      → prepared k (sideAt k s serial numbers h (takeStep (h .number) R)) (workAt k s serial numbers h R) c j ≡ number-of h R c j
+  unfolding prepared ownNumber sideAt begunSide partyAt
   prepared-is h R u r c j = rw (at-take k s serial numbers h R u r .round)
 
   -- when it sends: the server works them out, the phone has kept them
   module _ (t : SlicesJoin) where
     pub outgoing-is : (h : PartyInput) → Which h → Fair k s serial numbers h → (R : ℕ) → R < rounds → (c j : ℕ) → c < 1 + 2 * k → j < openings (paramsIn s) (suc R)
-        → outgoing k (sideAt k s serial numbers h (sendStep (h .number) R)) (workAt k s serial numbers h (R + h .number)) c j ≡ sharing h R c j
-    unfolding outgoing prepared sharing sideAt begunSide partyAt workAt
+        → outgoing k (sideAt k s serial numbers h (sendStep (h .number) R)) (workAt k s serial numbers h (R + h .number)) c j ≡ number-of h R c j
+    unfolding outgoing prepared ownNumber sideAt begunSide partyAt workAt
     outgoing-is _ (server {keys} {inputs} {book}) v R r c j l m = rw (add-zero R, at-send k s serial numbers (inputAs 0 keys inputs book) R server r .round)
     outgoing-is _ (phone {keys} {inputs} {book}) v R r c j l m =
         rw (add-one R)
         (t .own (termsOf s) (suc R) _ (weights k 1 keys) (workAt k s serial numbers (inputAs 1 keys inputs book) R) (v .most) (v .some)
         (v .exact R ∙ ap (λ (x : ℕ). x * places) (sym (v .sized))) c j (omega (arith, v .sized)) m)
 
-  pub sharing-below : SlicesJoin → (h : PartyInput) → Fair k s serial numbers h → (R c j : ℕ) → c < 1 + 2 * k → j < openings (paramsIn s) (suc R) → sharing h R c j < q
-  unfolding sharing
+  pub sharing-below : SlicesJoin → (h : PartyInput) → Fair k s serial numbers h → (R c j : ℕ) → c < 1 + 2 * k → j < openings (paramsIn s) (suc R) → number-of h R c j < q
+  unfolding ownNumber
   sharing-below t h v R c j l m =
       opening-below t s (suc R) (weights k (h .number) (h .keys)) (workAt k s serial numbers h R) (v .most) (v .some)
       (v .exact R ∙ ap (λ (x : ℕ). x * places) (sym (v .sized))) (v .low R) c j (omega (arith, v .sized)) m
 
   -- ---- Its message
 
-  -- the fields of opening j: the share, and a part under each of the receiver's keys
-  abbrev pub piece : PartyInput → ℕ → ℕ → List ℕ
-  piece o R j = sharing o R 0 j ∷ listTo k (λ (i : ℕ). sharing o R (partColumn k (1 - o .number) i) j)
-
-  unfoldable pub fieldsAt : PartyInput → ℕ → List ℕ
-  fieldsAt o R = joinTo (openings (paramsIn s) (suc R)) (piece o R)
-
   pub part-inside : (o : PartyInput) → Which o → (i : ℕ) → i < k → partColumn k (1 - o .number) i < 1 + 2 * k
   part-inside _ server i l = omega arith
   part-inside _ phone i l = omega arith
 
-  piece-length : (o : PartyInput) (R j : ℕ) → length (piece o R j) ≡ 1 + k
-  piece-length o R j = omega (arith, length-listFrom 0 k (λ (i : ℕ). sharing o R (partColumn k (1 - o .number) i) j))
+  piece-length : (o : PartyInput) (R j : ℕ) → length (opening-of o R j) ≡ 1 + k
+  piece-length o R j = omega (arith, length-listFrom 0 k (λ (i : ℕ). number-of o R (partColumn k (1 - o .number) i) j))
 
-  pub fields-length : (o : PartyInput) (R : ℕ) → length (fieldsAt o R) ≡ fieldCount k (paramsIn s) (suc R)
-  unfolding fieldsAt
-  fields-length o R = ahead-fixed (1 + k) (openings (paramsIn s) (suc R)) (piece o R) (piece-length o R) ∙ mul-comm (openings (paramsIn s) (suc R)) (1 + k)
+  pub fields-length : (o : PartyInput) (R : ℕ) → length (fields-of o R) ≡ fieldCount k (paramsIn s) (suc R)
+  unfolding roundFields
+  fields-length o R = ahead-fixed (1 + k) (openings (paramsIn s) (suc R)) (opening-of o R) (piece-length o R) ∙ mul-comm (openings (paramsIn s) (suc R)) (1 + k)
 
   -- what any side sends, from its numbers for the openings
   result : (x : Side) (work : List ℕ) (share : ℕ → ℕ → ℕ)
@@ -103,19 +98,19 @@ module _ (k : ℕ) (s : Settings) (serial : ℕ) (numbers : ℕ → List ℕ) wh
       (λ i m. e (partColumn k (1 - x .number) i) j (inside i m) l)))))
 
   pub message-is : (t : SlicesJoin) (o : PartyInput) → Fair k s serial numbers o → (R : ℕ) → R < rounds
-      → messageAt k s serial numbers o (suc R) ≡ messageOf (headerNumber (headerWith (o .number) s (suc R) serial)) (fieldsAt o R)
-  unfolding partyAt sideAt begunSide fieldsAt
+      → messageAt k s serial numbers o (suc R) ≡ roundMessage k s serial numbers o R
+  unfolding partyAt sideAt begunSide roundFields
   message-is t o v R r =
       let a = at-send k s serial numbers o R (v .which) r in
       let x : Side = sideAt k s serial numbers o (sendStep (o .number) R) in
       sym (a .message-is)
       ∙ ap (λ (work : List ℕ). message k x work) (a .slice-is)
-      ∙ result x (workAt k s serial numbers o (R + o .number)) (sharing o R) (part-inside o (v .which)) (λ c j l m. outgoing-is t o (v .which) v R r c j l (rw (a .round) at m))
+      ∙ result x (workAt k s serial numbers o (R + o .number)) (number-of o R) (part-inside o (v .which)) (λ c j l m. outgoing-is t o (v .which) v R r c j l (rw (a .round) at m))
       ∙ in-round (x .round) (a .round)
     where
       in-round : (round : ℕ) → round ≡ suc R
-          → messageOf (headerNumber (headerWith (o .number) s round serial)) (joinTo (openings (paramsIn s) round) (piece o R))
-          ≡ messageOf (headerNumber (headerWith (o .number) s (suc R) serial)) (fieldsAt o R)
+          → messageOf (headerNumber (headerWith (o .number) s round serial)) (joinTo (openings (paramsIn s) round) (opening-of o R))
+          ≡ messageOf (headerNumber (headerWith (o .number) s (suc R) serial)) (fields-of o R)
       in-round round e = rw e
 
   -- ---- Read by the receiver
@@ -127,32 +122,32 @@ module _ (k : ℕ) (s : Settings) (serial : ℕ) (numbers : ℕ → List ℕ) wh
     abbrev header : ℕ
     header = headerNumber (headerWith (o .number) s (suc R) serial)
 
-    fields-below : allBelow q (fieldsAt o R) ≡ true
-    unfolding fieldsAt allBelow every
+    fields-below : allBelow q (fields-of o R) ≡ true
+    unfolding roundFields allBelow every
     fields-below =
-        every-join (λ (x : ℕ). ltb x q) 0 (openings (paramsIn s) (suc R)) (piece o R)
-        (λ j l. rw (lt-ltb (sharing o R 0 (0 + j)) q (sharing-below t o v R 0 (0 + j) (omega arith) (omega arith)))
+        every-join (λ (x : ℕ). ltb x q) 0 (openings (paramsIn s) (suc R)) (opening-of o R)
+        (λ j l. rw (lt-ltb (number-of o R 0 (0 + j)) q (sharing-below t o v R 0 (0 + j) (omega arith) (omega arith)))
         (every-listTo (λ (x : ℕ). ltb x q) k _ (λ i b. lt-ltb _ q (sharing-below t o v R _ (0 + j) (part-inside o (v .which) i b) (omega arith)))))
 
     header-below : header < 2 ^ 64
     header-below = m .header-size (headerWith (o .number) s (suc R) serial) (header-ok (o .number) (which-below o (v .which)) e R r) (omega arith)
 
-    sized : Sized header (fieldsAt o R)
-    sized = sized-q header (fieldsAt o R) header-below fields-below
+    sized : Sized header (fields-of o R)
+    sized = sized-q header (fields-of o R) header-below fields-below
 
     pub header-read : headerIn (fieldCount k (paramsIn s) (suc R)) (messageAt k s serial numbers o (suc R)) ≡ header
-    header-read = rw (message-is t o v R r, ← fields-length o R) (m .header header (fieldsAt o R) sized)
+    header-read = rw (message-is t o v R r, ← fields-length o R) (m .header header (fields-of o R) sized)
 
     pub fields-read : fieldsOk (fieldCount k (paramsIn s) (suc R)) (messageAt k s serial numbers o (suc R)) ≡ true
-    fields-read = rw (message-is t o v R r, ← fields-length o R) (m .fields-pass header (fieldsAt o R) header-below fields-below)
+    fields-read = rw (message-is t o v R r, ← fields-length o R) (m .fields-pass header (fields-of o R) header-below fields-below)
 
     -- field x of opening j
     pub field-read : (j x : ℕ) → j < openings (paramsIn s) (suc R) → x < 1 + k
-        → fieldIn (fieldCount k (paramsIn s) (suc R)) (messageAt k s serial numbers o (suc R)) (j * (1 + k) + x) ≡ getD (piece o R j) x 0
-    unfolding fieldsAt
+        → fieldIn (fieldCount k (paramsIn s) (suc R)) (messageAt k s serial numbers o (suc R)) (j * (1 + k) + x) ≡ getD (opening-of o R j) x 0
+    unfolding roundFields
     field-read j x l b =
         let n = openings (paramsIn s) (suc R) in
-        let a : length (joinTo j (piece o R)) + x ≡ j * (1 + k) + x = omega (arith, ahead-fixed (1 + k) j (piece o R) (piece-length o R)) in
+        let a : length (joinTo j (opening-of o R)) + x ≡ j * (1 + k) + x = omega (arith, ahead-fixed (1 + k) j (opening-of o R) (piece-length o R)) in
         rw (message-is t o v R r, ← fields-length o R)
-        (m .field header (fieldsAt o R) sized (j * (1 + k) + x) (omega (arith, fields-length o R, mul-le-mul-right (1 + k) l)))
-        ∙ (rw a at (join-at n (piece o R) 0 j x l (omega (arith, piece-length o R j))))
+        (m .field header (fields-of o R) sized (j * (1 + k) + x) (omega (arith, fields-length o R, mul-le-mul-right (1 + k) l)))
+        ∙ (rw a at (join-at n (opening-of o R) 0 j x l (omega (arith, piece-length o R j))))

@@ -28,7 +28,7 @@ takesOf takeLatest d = bit d
 takesOf (answer out) d = 0
 takesOf count d = 0
 
-abbrev sendsOf : Call → Bool → ℕ
+abbrev pub sendsOf : Call → Bool → ℕ
 sendsOf begin d = 0
 sendsOf (send out) d = bit d
 sendsOf takeLatest d = 0
@@ -51,7 +51,7 @@ module _ (k : ℕ) (s : Settings) (serial : ℕ) (h : PartyInput) (m : List ℕ)
   event-takes (answer out) = omega arith
   event-takes count = omega arith
 
-  event-sends : (call : Call) → sendsIn (outcome k s serial h m x call .observation ∷ es) ≡ sendsOf call (accepted (outcome k s serial h m x call .observation)) + sendsIn es
+  pub event-sends : (call : Call) → sendsIn (outcome k s serial h m x call .observation ∷ es) ≡ sendsOf call (accepted (outcome k s serial h m x call .observation)) + sendsIn es
   unfolding outcome sendsIn
   event-sends begin = omega arith
   event-sends (send out) = refl
@@ -85,7 +85,7 @@ no-takes takeLatest = refl
 no-takes (answer out) = refl
 no-takes count = refl
 
-no-sends : (call : Call) → sendsOf call false ≡ 0
+pub no-sends : (call : Call) → sendsOf call false ≡ 0
 unfolding bit
 no-sends begin = refl
 no-sends (send out) = refl

@@ -1,4 +1,4 @@
--- Progress and demand 2, for any number of keys.
+-- Progress, messages and demand 2, for any number of keys.
 use Prim.Native.Nat.{ℕ}
 use Rattle.message.proofs.RoundTrip.{round-trip}
 use Rattle.book.proofs.Laws.{laws}
@@ -6,11 +6,12 @@ use Rattle.column.proofs.Joins.{work-joins}
 use Rattle.column.proofs.PlainRun.{plain-run}
 use Rattle.runs.specs.Honest.{Runs}
 use Rattle.runs.specs.Demands.{Demand2, Demand2Steady}
-use Rattle.runs.specs.Theorems.{Progress}
+use Rattle.runs.specs.Theorems.{Progress, MessagesAreSteps}
 use Rattle.runs.proofs.Whole.{progress-law}
 use Rattle.runs.proofs.Steady.{steady}
 use Rattle.runs.proofs.Answers.{demand2}
 use Rattle.runs.proofs.Runs.{runs}
+use Rattle.runs.proofs.Sent.{messages-are-steps}
 
 module _ (k : ℕ) where
   -- the honest run, by ColumnsJoin, messages and books
@@ -25,3 +26,6 @@ module _ (k : ℕ) where
 
   pub every-run-steady : Demand2Steady k
   every-run-steady = steady k honest
+
+  pub every-message-is-a-step : MessagesAreSteps k
+  every-message-is-a-step = messages-are-steps k honest work-joins laws

@@ -7,15 +7,15 @@ use lib.Dec.{eqb, leb}
 use lib.IntN.{pos}
 use lib.ListN.{length, replicate}
 use Rattle.lists.specs.Answers.{bit}
-use Rattle.lists.specs.Lists.{allBelow, joinTo}
+use Rattle.lists.specs.Lists.{allBelow, joinTo, inFront}
 use Rattle.field.specs.Field.{q}
 use Rattle.settings.specs.Sets.{scaleOf}
-use Rattle.settings.specs.Sizes.{widthOf, openingsUpTo, messageLength, drawLength, workLength}
+use Rattle.settings.specs.Sizes.{widthOf, openingsUpTo, messageLength, drawLength, workLength, answerPlaces}
 use Rattle.settings.specs.Questions.{keysOk, settingsOk}
 use Rattle.rounding.specs.Plain.{decompose}
 use Rattle.settings.specs.Schedule.{rounds}
 use Rattle.book.specs.Books.{multipliers}
-use Rattle.state.specs.State.{underWay, finished, heldAnswer, countCall}
+use Rattle.state.specs.State.{underWay, finished, heldAnswer, afterAnswer, answerCall, countCall}
 use Rattle.settings.specs.declared.Settings.{Settings}
 use Rattle.settings.specs.Settings.{paramsIn}
 use Rattle.runs.specs.Records.{answerOf, missingShares, PartyInput, partyInput, PartyState, JointState, Party, Call, ScheduledCall, Observation, jointAfter, observations}
@@ -141,13 +141,21 @@ unfoldable pub carriedThrough : ℕ → Settings → List ScheduledCall → Bool
 carriedThrough k s calls =
     holds (phoneSecond k s) calls || holds (phoneFirst k s) calls || holds (phoneLate k s) calls
 
--- what a side holds at the end: finished, the answer by the plain meaning, all openings counted
+-- "Openings in all: 19N or 17N + 2"
+abbrev pub allOpenings : Settings → ℕ
+allOpenings s = cond (eqb (s .shape .kind) 0) (19 * s .shape .n) (17 * s .shape .n + 2)
+
+-- a side at the end: finished, with the answer by the plain meaning, which the answer call gives for every output that is long enough
+-- ("N places for HIGH, 1 for BOUND"; "Longer outputs change only in front"), and all openings counted
 pub record Ended (s : Settings) (secret : List ℕ) (state : PartyState) : Type 0 where
   pub done : finished (state .side) ≡ true
   pub answer : heldAnswer (state .side) ≡ answerOf s secret
-  pub openings : countCall (state .side) ≡ openingsUpTo (paramsIn s) rounds
+  pub gives : (out : List ℕ)
+      → answerPlaces (paramsIn s) ≤ length out
+      → answerCall (state .side) out ≡ afterAnswer 0 (answerPlaces (paramsIn s)) (inFront (answerOf s secret) out)
+  pub openings : countCall (state .side) ≡ allOpenings s
 
--- "every run carried through in order finishes, and both sides hold the high parts, or the verdict"; `observer` is the server
+-- "every run carried through in order finishes", and both sides answer with the high parts, or the verdict; `observer` is the server
 abbrev pub Demand2 : ℕ → Type 0
 Demand2 k =
     (s : Settings) (serial : ℕ) (keys0 keys1 : List ℕ)

@@ -21,7 +21,8 @@ use Rattle.runs.specs.Records.{PartyInput, PartyState, JointState, ScheduledCal
 use Rattle.runs.specs.Progress.{messageAt, partyAt, partyFrom, none, countsAfter, jointAt}
 use Rattle.runs.proofs.PartyStates.{which-below}
 use Rattle.runs.proofs.Both.{start-pace, pace-after}
-use Rattle.runs.proofs.Sharing.{sharing, sharing-below, fieldsAt, part-inside, message-is}
+use Rattle.runs.specs.Messages.{ownNumber, roundFields}
+use Rattle.runs.proofs.Sharing.{sharing-below, part-inside, message-is}
 use Rattle.runs.proofs.Opens.{Facing}
 use Rattle.secrecy.proofs.Own.{SameNumbers, work-same, own-same}
 use Rattle.secrecy.proofs.Lockstep.{Alike, events-same}
@@ -38,25 +39,25 @@ module _ (joins : SlicesJoin) (k : ℕ) (s : Settings) (serial : ℕ) (factors :
       let at : (f : ℕ → ℕ) → getD (listTo (openings (paramsIn s) (suc R)) f) j 0 ≡ f j = λ f. getD-listTo (openings (paramsIn s) (suc R)) f j 0 b in
       sym (at (plain R)) ∙ ap (λ (ns : List ℕ). getD ns j 0) (sym (v .opens R) ∙ same R l ∙ v′ .opens R) ∙ at (plain′ R)
 
-  own-same-share : (R c j : ℕ) → R < rounds → sharing k s serial N h R c j ≡ sharing k s serial N′ h R c j
-  unfolding sharing
+  own-same-share : (R c j : ℕ) → R < rounds → ownNumber k s serial N h R c j ≡ ownNumber k s serial N′ h R c j
+  unfolding ownNumber
   own-same-share R c j l = rw (work-same k s serial N N′ same h R (omega arith))
 
-  share-same : (R c j : ℕ) → R < rounds → c < widthOf k → j < openings (paramsIn s) (suc R) → sharing k s serial N o R c j ≡ sharing k s serial N′ o′ R c j
+  share-same : (R c j : ℕ) → R < rounds → c < widthOf k → j < openings (paramsIn s) (suc R) → ownNumber k s serial N o R c j ≡ ownNumber k s serial N′ o′ R c j
   share-same R c j l b m =
-      missing-same q (getD factors c 0) (sharing k s serial N h R c j) (sharing k s serial N o R c j) (sharing k s serial N′ o′ R c j) (plain R j)
+      missing-same q (getD factors c 0) (ownNumber k s serial N h R c j) (ownNumber k s serial N o R c j) (ownNumber k s serial N′ o′ R c j) (plain R j)
       (v .adds R c j b) (rw (own-same-share R c j l, plain-same R j l m) (v′ .adds R c j b))
       (sharing-below k s serial N joins o (v .peer) R c j b m) (sharing-below k s serial N′ joins o′ (v′ .peer) R c j b m)
 
   -- its fields
-  fields-same : (R : ℕ) → R < rounds → fieldsAt k s serial N o R ≡ fieldsAt k s serial N′ o′ R
-  unfolding fieldsAt
+  fields-same : (R : ℕ) → R < rounds → roundFields k s serial N o R ≡ roundFields k s serial N′ o′ R
+  unfolding roundFields
   fields-same R l =
       join-cong 0 (openings (paramsIn s) (suc R)) _ _ (λ j m.
       ap₂ _∷_ (share-same R 0 (0 + j) l (omega arith) (omega arith))
       (listTo-cong k _ _ (λ i b.
       share-same R (partColumn k (1 - o .number) i) (0 + j) l (part-inside k s serial N o (v .peer .which) i b) (omega arith)
-      ∙ ap (λ (number : ℕ). sharing k s serial N′ o′ R (partColumn k (1 - number) i) (0 + j)) faces)))
+      ∙ ap (λ (number : ℕ). ownNumber k s serial N′ o′ R (partColumn k (1 - number) i) (0 + j)) faces)))
 
   message-same : (R : ℕ) → R < rounds → messageAt k s serial N o (suc R) ≡ messageAt k s serial N′ o′ (suc R)
   message-same R l =
