@@ -4,7 +4,7 @@ use mathlib.Core.Path.{_≡_, sym, ap, ap₂, _∙_}
 use mathlib.Core.List.{List, _∷_}
 use mathlib.Core.Bool.{true}
 use native.Mathlib.Omega.{arith}
-use native.Mathlib.Numerals.{add-one}
+use native.Mathlib.Numerals.{add-one, one-add}
 use native.Mathlib.Nat.{zero-add, add-zero, mul-le-mul-right, mul-comm}
 use lib.Dec.{ltb}
 use lib.ListN.{length, getD}
@@ -75,7 +75,7 @@ module _ (k : ℕ) (s : Settings) (serial : ℕ) (numbers : ℕ → List ℕ) wh
   part-inside _ phone i l = omega arith
 
   piece-length : (o : PartyInput) (R j : ℕ) → length (opening-of o R j) ≡ 1 + k
-  piece-length o R j = omega (arith, length-listFrom 0 k (λ (i : ℕ). number-of o R (partColumn k (1 - o .number) i) j))
+  piece-length o R j = ap suc (length-listFrom 0 k _) ∙ sym (one-add k)
 
   pub fields-length : (o : PartyInput) (R : ℕ) → length (fields-of o R) ≡ fieldCount k (paramsIn s) (suc R)
   unfolding roundFields
