@@ -42,6 +42,11 @@
 #![deny(unsafe_op_in_unsafe_fn)]
 #![warn(missing_docs)]
 
+/// The README's listings in Rust, as doc tests.
+#[cfg(doctest)]
+#[doc = include_str!("../../README.md")]
+struct Readme;
+
 #[allow(unsafe_code)]
 mod ffi;
 mod form;
