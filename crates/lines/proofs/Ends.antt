@@ -29,6 +29,7 @@ use Rattle.syntax.specs.declared.Request.{Request}
 use Rattle.execution.specs.Execution.{Carried, noRefusal, refusalOf, carryAll, runCalls, serverInputs, phoneInputs, drawIn, freshParty, dealNoOf, executed}
 use Rattle.execution.specs.Theorems.{GoesThrough}
 use Rattle.execution.proofs.Honest.{honest-run-goes-through}
+use Rattle.execution.proofs.Given.{draw-is-dealt}
 use Rattle.lines.specs.declared.LineResult.{LineResult}
 use Rattle.lines.specs.Plain.{settingsOf, secretOf, requestNo, resultFor}
 use Rattle.lines.specs.Run.{ones, termsFor, inColumns, zerosFor, numbersFor, answeredBy}
@@ -169,10 +170,10 @@ module _ (serial : ℕ) (o : Request) (ok : requestNo serial o ≡ 0) (fits : se
       (record { observer = idle-is; peer = idle-is })
 
   run-is : executed (termsFor serial o) (numbersFor o) ≡ honest
-  unfolding executed refusalOf
+  unfolding refusalOf
   run-is =
       let zeros : missingShares width (multipliers ones ones) secret inputs ≡ replicate each 0 = missing-none secret ∙ ap (λ (n : ℕ). replicate (n * width) 0) secret-long in
-      rw (deal-no, server-inputs, phone-inputs, draw-is, zeros)
+      draw-is-dealt (termsFor serial o) (numbersFor o) deal-no ∙ rw (deal-no, server-inputs, phone-inputs, draw-is, zeros)
 
   -- what the server's answer says at the end is the plain meaning
   pub run-gives : (x : Side) → x ≡ executed (termsFor serial o) (numbersFor o) .parties .observer .side → answeredBy x ≡ resultFor serial o
