@@ -451,14 +451,9 @@ fn execute_given(terms: RunTerms, numbers: &[u32], messages: &mut [u8]) -> Execu
     let cuts = cuts_of(shape, numbers.len());
     let first = cuts.draw;
     let second = first + book_size(shape);
-    begin_and_run(
-        start(0),
-        terms,
-        numbers,
-        &numbers[first..second],
-        &numbers[second..],
-        messages,
-    )
+    let book0 = &numbers[first..second];
+    let book1 = &numbers[second..];
+    begin_and_run(start(0), terms, numbers, book0, book1, messages)
 }
 
 // ---- Either

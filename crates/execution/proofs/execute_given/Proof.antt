@@ -15,36 +15,36 @@ add-second c =
     let fill = both-fill (a .terms .settings .shape) (a .numbers .now) _ _ (cut .phone-is) (cut .draw-is) (c .before .before .before .before .before .pre .0) (cut .within) in
     omega (arith, c .book-size .ensures, fill, c .before .before .before .before .before .good)
 
-part-begin-and-run-end : tie.Need-part-begin-and-run-end
-part-begin-and-run-end c =
+part-book0-end : tie.Need-part-book0-end
+part-book0-end c =
+    let a = c .before .before .before .before .before .args in
+    let cut = c .before .cuts-of .ensures in
+    let fill = both-fill (a .terms .settings .shape) (a .numbers .now) _ _ (cut .phone-is) (cut .draw-is) (c .before .before .before .before .before .pre .0) (cut .within) in
+    omega (arith, c .book-size .ensures, fill)
+
+mul-book1 : tie.Need-mul-book1
+mul-book1 c =
+    let a = c .before .before .before .before .before .before .args in
+    let cut = c .before .before .cuts-of .ensures in
+    let fill = both-fill (a .terms .settings .shape) (a .numbers .now) _ _ (cut .phone-is) (cut .draw-is) (c .before .before .before .before .before .before .pre .0) (cut .within) in
+    omega (arith, c .before .book-size .ensures, fill, c .before .before .before .before .before .before .good)
+
+sub-book1 : tie.Need-sub-book1
+sub-book1 c =
     let a = c .before .before .before .before .before .before .args in
     let cut = c .before .before .cuts-of .ensures in
     let fill = both-fill (a .terms .settings .shape) (a .numbers .now) _ _ (cut .phone-is) (cut .draw-is) (c .before .before .before .before .before .before .pre .0) (cut .within) in
     omega (arith, c .before .book-size .ensures, fill)
 
-mul-begin-and-run-2 : tie.Need-mul-begin-and-run-2
-mul-begin-and-run-2 c =
-    let a = c .before .before .before .before .before .before .before .args in
-    let cut = c .before .before .before .cuts-of .ensures in
-    let fill = both-fill (a .terms .settings .shape) (a .numbers .now) _ _ (cut .phone-is) (cut .draw-is) (c .before .before .before .before .before .before .before .pre .0) (cut .within) in
-    omega (arith, c .before .before .book-size .ensures, fill, c .before .before .before .before .before .before .before .good)
-
-sub-begin-and-run-2 : tie.Need-sub-begin-and-run-2
-sub-begin-and-run-2 c =
-    let a = c .before .before .before .before .before .before .before .args in
-    let cut = c .before .before .before .cuts-of .ensures in
-    let fill = both-fill (a .terms .settings .shape) (a .numbers .now) _ _ (cut .phone-is) (cut .draw-is) (c .before .before .before .before .before .before .before .pre .0) (cut .within) in
-    omega (arith, c .before .before .book-size .ensures, fill)
-
-part-begin-and-run-start-2 : tie.Need-part-begin-and-run-start-2
-part-begin-and-run-start-2 c =
-    let a = c .before .before .before .before .before .before .before .args in
-    let cut = c .before .before .before .cuts-of .ensures in
-    let fill = both-fill (a .terms .settings .shape) (a .numbers .now) _ _ (cut .phone-is) (cut .draw-is) (c .before .before .before .before .before .before .before .pre .0) (cut .within) in
-    omega (arith, c .before .before .book-size .ensures, fill)
+part-book1-start : tie.Need-part-book1-start
+part-book1-start c =
+    let a = c .before .before .before .before .before .before .args in
+    let cut = c .before .before .cuts-of .ensures in
+    let fill = both-fill (a .terms .settings .shape) (a .numbers .now) _ _ (cut .phone-is) (cut .draw-is) (c .before .before .before .before .before .before .pre .0) (cut .within) in
+    omega (arith, c .before .book-size .ensures, fill)
 
 begin-and-run-requires : tie.Need-begin-and-run-requires
-begin-and-run-requires c κs = rw (c .before .before .before .start .ensures) (start-fits 0 _ (c .before .before .before .before .before .before .before .before .before .pre .1))
+begin-and-run-requires c κs = rw (c .before .start .ensures) (start-fits 0 _ (c .before .before .before .before .before .before .before .before .before .pre .1))
 
 returns : tie.Need-returns
 returns c =
@@ -52,7 +52,7 @@ returns c =
     let cut = c .before .before .before .before .before .before .before .before .cuts-of .ensures in
     let second = ap (λ (n : ℕ). c .before .before .before .before .before .before .before .before .cuts-of .result .draw + n) (c .before .before .before .before .before .before .before .book-size .ensures) in
     let ran = rw (
-      c .before .before .before .before .before .before .start .ensures,
+      c .before .before .before .before .start .ensures,
       server-half (a .terms .settings .shape) (a .numbers .now) _ _ (cut .phone-is) (cut .draw-is) _ second,
       phone-half (a .terms .settings .shape) (a .numbers .now) _ _ (cut .phone-is) (cut .draw-is) _ second,
     ) at
@@ -66,15 +66,15 @@ execute-given-spec =
     (λ c κs. search needs)
     (λ c κs. search needs)
     add-second
+    (λ c. search needs)
+    (λ c. search needs)
+    (λ c. search needs)
+    part-book0-end
+    mul-book1
+    sub-book1
+    part-book1-start
+    (λ c. search needs)
     (λ c κs. search needs)
-    (λ c. search needs)
-    (λ c. search needs)
-    (λ c. search needs)
-    part-begin-and-run-end
-    mul-begin-and-run-2
-    sub-begin-and-run-2
-    part-begin-and-run-start-2
-    (λ c. search needs)
     begin-and-run-requires
     (λ c. search needs)
     returns)
