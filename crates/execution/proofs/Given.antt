@@ -1,4 +1,4 @@
--- Books in place of a draw: the test, the two books, the run; and a draw that is dealt is never taken for books.
+-- Books in place of a draw: the test, the two books, the run; and a draw of the asked length is never taken for books.
 use Prim.Native.Nat.{ℕ, _+_, _*_, _-_, _≤_, min}
 use mathlib.Core.Path.{_≡_, refl, sym, ap, _∙_}
 use mathlib.Core.Logic.{_≢_}
@@ -7,7 +7,7 @@ use mathlib.Core.List.{List}
 use native.Mathlib.Nat.{mul-le-mul}
 use native.Mathlib.Omega.{arith}
 use lib.Dec.{eqb}
-use lib.ListN.{length, take, drop, replicate, length-replicate, length-drop}
+use lib.ListN.{length, take, drop, length-drop}
 use lib.Seq.{take-all, drop-drop}
 use borrow.Author.Tests.{eq-eqb, ne-eqb, eqb-true}
 use borrow.Rule.Slice.PartMut.{midOf}
@@ -15,12 +15,11 @@ use Rattle.lists.proofs.Questions.{both-yes, no-left}
 use Rattle.settings.specs.declared.Shape.{Shape}
 use Rattle.settings.specs.Settings.{Params, paramsOf}
 use Rattle.settings.specs.Questions.{askShape, shapeOk}
-use Rattle.settings.specs.Sizes.{keyCount, width, stride, shared, groups, drawLength, bookSize, inputSize}
-use Rattle.settings.proofs.Ready.{shape-ok}
-use Rattle.dealer.proofs.Door.{door}
+use Rattle.settings.specs.Sizes.{width, stride, shared, groups, drawLength, bookSize, drawSize, inputSize}
+use Rattle.settings.proofs.Ready.{shape-ok, ok-ready}
 use Rattle.execution.specs.declared.RunTerms.{RunTerms}
 use Rattle.execution.specs.declared.Execution.{Execution}
-use Rattle.execution.specs.Execution.{drawIn, booksGiven, serverGiven, phoneGiven, dealNoOf, dealtRun, givenRun, executed}
+use Rattle.execution.specs.Execution.{drawIn, booksGiven, serverGiven, phoneGiven, dealtRun, givenRun, executed}
 use Rattle.execution.specs.Held.{startOf, Executes, RunsFrom}
 use Rattle.execution.specs.Theorems.{DrawIsDealt}
 use Rattle.execution.proofs.Whole.{draw-drop}
@@ -104,17 +103,14 @@ draw-shorter : (p : Params) → 1 ≤ p .n → drawLength p width ≢ 2 * (share
 unfolding drawLength
 draw-shorter p h e = absurd (omega (arith, e, shared-least p, groups-most p h))
 
-pub draw-is-dealt : DrawIsDealt
-unfolding booksGiven
-draw-is-dealt t numbers e =
-    let a : Shape = t .settings .shape in
-    let books : List ℕ = replicate (bookSize a) 0 in
-    let p = door keyCount a (t .keys0) (t .keys1) (drawIn a numbers) books books e in
-    let size : bookSize a ≡ shared (paramsOf a) * width = sym (length-replicate {A = ℕ} (bookSize a) 0) ∙ p .server-size in
-    let other : length (drawIn a numbers) ≢ 2 * bookSize a =
-    λ z. draw-shorter (paramsOf a) (p .ready .some) (sym (p .draw-size) ∙ z ∙ ap (λ (n : ℕ). 2 * n) size) in
-    runs-dealt t numbers (by (shapeOk a) (eqb (length (drawIn a numbers)) (2 * bookSize a)) (ne-eqb _ _ other))
+not-books : (a : Shape) (numbers : List ℕ) → length (drawIn a numbers) ≡ drawSize a → booksGiven a numbers ≡ false
+unfolding booksGiven drawSize bookSize
+not-books a numbers e = by (shapeOk a) refl e
   where
-    by : (x y : Bool) → y ≡ false → (x && y) ≡ false
-    by true y f = f
+    by : (b : Bool) → shapeOk a ≡ b → length (drawIn a numbers) ≡ cond b (drawLength (paramsOf a) width) 0
+        → (b && eqb (length (drawIn a numbers)) (2 * cond b (shared (paramsOf a) * width) 0)) ≡ false
+    by true y f = ne-eqb _ _ (λ z. draw-shorter (paramsOf a) (ok-ready a y .some) (sym f ∙ z))
     by false y f = refl
+
+pub draw-is-dealt : DrawIsDealt
+draw-is-dealt t numbers e = runs-dealt t numbers (not-books (t .settings .shape) numbers e)
