@@ -1,6 +1,6 @@
 #!/usr/bin/env python3
-"""compare_transcripts.py PROGRAM COUNT SEED: random inputs, honest, spoiled and malformed; what the program writes must equal, byte
-for byte, what transcript.py beside this file writes. Also: compare_transcripts.py --write DIR COUNT SEED writes the inputs as files
+"""compare_transcripts.py PROGRAM COUNT SEED: random inputs, honest, spoiled and malformed, some with books in place of a draw; what the
+program writes must equal, byte for byte, what transcript.py beside this file writes. Also: compare_transcripts.py --write DIR COUNT SEED writes the inputs as files
 DIR/0, DIR/1, .., and the expected text of all of them in turn as DIR.expected."""
 import os
 import random
@@ -8,9 +8,11 @@ import subprocess
 import sys
 
 import transcript
-from transcript import Q, ALPHA
+from transcript import Q, ALPHA, PARTS
 
 KINDS = ('honest', 'honest', 'honest', 'share', 'check', 'draw', 'settings', 'short', 'long', 'text')
+# with books in place of the draw; 'draw' then spoils a number of the books, 'dealer' is a bad dealer whose books pass every check
+BOOK_KINDS = ('honest', 'dealer', 'dealer', 'dealer', 'swapped', 'share', 'check', 'draw', 'draw', 'settings', 'short', 'long')
 
 
 def centre_near(rng, bound):
@@ -51,6 +53,19 @@ def honest(rng):
     size = transcript.draw_length(set_, kind, n)
     draw = [0] * size if rng.randrange(8) == 0 else [number(rng) for _ in range(size)]
     return [[set_, kind, n, bound, serial] + keys, server, phone, draw]
+
+
+def dealt_books(parts):
+    """The books of an input's draw, to stand in its place."""
+    head, _, _, draw = parts
+    set_, kind, n, _, _, key0, key1 = head
+    return [[x for place in book for x in place] for book in transcript.deal(set_, kind, n, key0, key1, draw)]
+
+
+def shift(head, book, place, amount):
+    """Makes a shared number greater by an amount, with its check parts: a book of either side changes, and no check fails."""
+    for c, factor in enumerate((1, head[5], head[6])):
+        book[3 * place + c] = (book[3 * place + c] + factor * amount) % Q
 
 
 def spoil(rng, how, parts):
@@ -98,19 +113,38 @@ def text(rng, numbers, how):
     return data
 
 
+def books_case(rng, how):
+    """An input with books in place of its draw."""
+    parts = honest(rng)
+    books = dealt_books(parts)
+    if how == 'dealer':
+        for _ in range(rng.choice((1, 1, 3, 40))):
+            book = rng.choice(books)
+            shift(parts[0], book, rng.randrange(len(book) // 3), rng.choice((1, Q - 1, rng.randrange(1, Q))))
+    elif how == 'swapped':
+        books.reverse()
+    return spoil(rng, how, parts[:3] + [books[0] + books[1]])
+
+
 def case(rng):
+    if rng.randrange(3) == 0:
+        how = rng.choice(BOOK_KINDS)
+        return 'books, ' + how, text(rng, books_case(rng, how), how)
     how = rng.choice(KINDS)
     return how, text(rng, spoil(rng, how, honest(rng)), how)
 
 
 def last_words(out):
     """What a transcript came to, for the counts."""
+    end = 'finished'
     for line in out.decode().split('\n'):
         if line.startswith('refused'):
             return line
         if line == 'malformed':
             return line
-    return 'finished'
+        if line.startswith('answer') and any(int(x) >= max(PARTS) for x in line.split()[2:]):
+            end = 'finished, with an answer out of range'
+    return end
 
 
 def main(args):
@@ -133,7 +167,7 @@ def main(args):
         if got != want:
             differ += 1
             print('DIFFERS: input %d (%s)' % (i, how))
-        end = last_words(want)
+        end = last_words(want) + (' (books)' if how.startswith('books') else '')
         ends[end] = ends.get(end, 0) + 1
     for end in sorted(ends):
         print('%6d  %s' % (ends[end], end))

@@ -47,6 +47,28 @@ def cases():
     yield 'no_draw', ([0, 0, 1, 0, 1, 1, 1], [1, 1, 1], [2], [])
 
 
+def books_cases():
+    """Inputs with books in place of a draw."""
+    rng = random.Random(205)
+    for name, shape in (('books_honest', (1, 0, 1, 0)), ('books_answer_50', (0, 0, 1, 0)), ('books_caught', (0, 1, 1, 100)),
+                        ('books_not_below_q', (1, 1, 1, 130994)), ('books_one_more', (1, 1, 1, 1))):
+        head, server, phone, draw = honest(rng, *shape)
+        books = compare_transcripts.dealt_books((head, server, phone, draw))
+        if name == 'books_answer_50':
+            # every entry of the zero check's vector, by as much as the answer lacks to 50: no check fails
+            answer = transcript.transcript(head + server + phone + draw)[-4]
+            for entry in range(1, 8):
+                compare_transcripts.shift(head, books[0], 165 - entry, int(answer.split()[2]) - 50)
+        elif name == 'books_caught':
+            # the share of the mask r, without its check parts
+            books[1][0] = (books[1][0] + 1) % Q
+        elif name == 'books_not_below_q':
+            books[1][-1] = Q
+        elif name == 'books_one_more':
+            books[1].append(0)
+        yield name, (head, server, phone) + tuple(books)
+
+
 TEXTS = (
     ('malformed_letter', b'0 0 1 0 1 1 x\n'),
     ('malformed_value', b'0 0 1 0 1 1 4294967296\n'),
@@ -59,7 +81,7 @@ TEXTS = (
 
 
 def main(crate):
-    inputs = [(name, '\n'.join(' '.join(map(str, part)) for part in parts).encode() + b'\n') for name, parts in cases()]
+    inputs = [(name, '\n'.join(' '.join(map(str, part)) for part in parts).encode() + b'\n') for name, parts in (*cases(), *books_cases())]
     inputs += TEXTS
     os.makedirs(os.path.join(crate, 'data'), exist_ok=True)
     for name, data in inputs:

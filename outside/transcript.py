@@ -80,6 +80,31 @@ def draw_length(set_, kind, n):
     return count[0]
 
 
+def book_length(set_, kind, n):
+    """The numbers of one side's book."""
+    count = [0]
+
+    def take_place(_):
+        count[0] += 3
+
+    deal_book(set_, kind, n, lambda: 0, take_place)
+    return count[0]
+
+
+def triples(numbers):
+    return [numbers[i:i + 3] for i in range(0, len(numbers), 3)]
+
+
+def given_books(set_, kind, n, numbers):
+    """Books in place of a draw: both, each a list of triples, where there are exactly as many numbers as two books have; else None."""
+    if not (set_ < 2 and kind < 2 and 1 <= n <= 8):
+        return None
+    size = book_length(set_, kind, n)
+    if len(numbers) != 2 * size:
+        return None
+    return triples(numbers[:size]), triples(numbers[size:])
+
+
 def deal(set_, kind, n, key0, key1, draw):
     """Both books, each a list of triples."""
     ask(set_ < 2 and kind < 2, 1)
@@ -133,13 +158,13 @@ class Side:
         ask(bound == 0 if kind == 0 else 1 <= bound <= 4190208, 3)
         ask(1 <= key < Q, 4)
         ask(len(inputs) == 3 * n, 5)
-        ask(all(x < Q for x in inputs), 6)
+        ask(all(x < Q for x in inputs) and all(x < Q for place in book for x in place), 6)
         ask(serial > self.serial, 7)
         self.number, self.set, self.kind, self.n, self.bound = number, set_, kind, n, bound
         self.key, self.serial = key, serial
         self.run, self.round, self.sending = True, 1, number == 0
         self.accepted = 0
-        self.inputs = [inputs[3 * j:3 * j + 3] for j in range(n)]
+        self.inputs = triples(inputs)
         self.read_book(book)
 
     def read_book(self, book):
@@ -352,7 +377,9 @@ def transcript(numbers):
     lines = []
     call, who = 'deal', '-'
     try:
-        books = deal(set_, kind, n, key0, key1, rest[2 * size:])
+        books = given_books(set_, kind, n, rest[2 * size:])
+        if books is None:
+            books = deal(set_, kind, n, key0, key1, rest[2 * size:])
         call = 'begin'
         for who in (0, 1):
             sides[who].begin(who, set_, kind, n, bound, (key0, key1)[who], serial, inputs[who], books[who])

@@ -23,7 +23,7 @@ use Rattle.runs.specs.Records.Party.{observer, peer}
 use Rattle.runs.specs.Records.Call.{begin}
 use Rattle.execution.specs.declared.RunTerms.{RunTerms}
 use Rattle.execution.specs.declared.Execution.{Execution}
-use Rattle.execution.specs.Execution.{refusalOf, Carried, carry, carryAll, roundCalls, runCalls, serverInputs, phoneInputs, drawIn, serverInput, phoneInput, zeroWork, dealNoOf, executed}
+use Rattle.execution.specs.Execution.{refusalOf, Carried, carry, carryAll, roundCalls, runCalls, serverInputs, phoneInputs, drawIn, serverInput, phoneInput, withBook, zeroWork, dealNoOf, dealtRun}
 use Rattle.execution.specs.Held.{carriedOf, Fits, runBytes, runAt, startOf, ServerBegins, PhoneBegins, RoundsRun, Executes, RunsFrom}
 use Rattle.execution.proofs.Calls.{stopped}
 
@@ -45,15 +45,17 @@ module _ (a : Shape) (numbers : List ℕ) (first second : ℕ) (e : first ≡ mi
       let g : second - first ≡ min (inputSize a) (length (drop (inputSize a) numbers)) = omega (arith, rest-long) in
       ap (take (second - first)) rest-is ∙ take-min (inputSize a) (second - first) (drop (inputSize a) numbers) g
 
-  pub draw-part : midOf second (length numbers - second) numbers ≡ drawIn a numbers
-  draw-part =
+  pub draw-drop : drop second numbers ≡ drawIn a numbers
+  draw-drop =
       let g : second - first ≡ min (inputSize a) (length (drop (inputSize a) numbers)) = omega (arith, rest-long) in
       let h : first + (second - first) ≡ second = omega arith in
-      take-all (length numbers - second) (drop second numbers) (omega (arith, length-drop second numbers))
-      ∙ ap (λ (n : ℕ). drop n numbers) (sym h)
+      ap (λ (n : ℕ). drop n numbers) (sym h)
       ∙ sym (drop-drop (second - first) first numbers)
       ∙ ap (drop (second - first)) rest-is
       ∙ drop-min (inputSize a) (second - first) (drop (inputSize a) numbers) g
+
+  pub draw-part : midOf second (length numbers - second) numbers ≡ drawIn a numbers
+  draw-part = take-all (length numbers - second) (drop second numbers) (omega (arith, length-drop second numbers)) ∙ draw-drop
 
 -- ---- The begins and the rounds
 
@@ -61,9 +63,6 @@ module _ (a : Shape) (numbers : List ℕ) (first second : ℕ) (e : first ≡ mi
 isZero : (n : ℕ) → Dec (n ≡ 0)
 isZero zero = yes refl
 isZero (suc n) = no (λ e. absurd (omega (arith, e)))
-
-abbrev withBook : PartyInput → List ℕ → PartyInput
-withBook i book = record { number = i .number; keys = i .keys; inputs = i .inputs; book = book }
 
 module _ (x : Execution) (t : RunTerms) (numbers book0 book1 bytes : List ℕ) (one both : Execution) (w0 w1 : List ℕ)
     (begins : ServerBegins x (runAt t 0) (serverInputs (t .settings .shape) numbers) book0 zeroWork one w0)
@@ -180,8 +179,7 @@ module _ (t : RunTerms) (numbers b0 b1 : List ℕ) (e0 : length b0 ≡ bookSize 
   unfolding dealCall
   phone-book z = sym (ap (λ (x : Dealt). x .phone) (rw (started z) at deal))
 
-  pub whole-run : (r : Execution) (before after : List ℕ) → RunsFrom (startOf refused) t numbers book0 book1 r before after → Executes (executed t numbers) r before after
-  unfolding executed
+  pub whole-run : (r : Execution) (before after : List ℕ) → RunsFrom (startOf refused) t numbers book0 book1 r before after → Executes (dealtRun t numbers) r before after
   whole-run r before after p =
       rw (← no-is) (p .is (serverInput t numbers) (phoneInput t numbers) refl refl server-book refl refl phone-book)
 

@@ -1,11 +1,12 @@
--- A run carried through in order, up to the first refusal: the deal, both begins, and the seven rounds.
-use Prim.Native.Nat.{ℕ, zero, suc}
-use mathlib.Core.Bool.{cond}
+-- A run carried through in order, up to the first refusal: the deal, or books in its place, both begins, and the seven rounds.
+use Prim.Native.Nat.{ℕ, zero, suc, _*_}
+use mathlib.Core.Bool.{Bool, cond, _&&_}
 use mathlib.Core.List.{List, [], _∷_, _++_}
 use lib.Dec.{eqb}
-use lib.ListN.{take, drop, replicate}
+use lib.ListN.{length, take, drop, replicate}
 use Rattle.settings.specs.declared.Shape.{Shape}
 use Rattle.settings.specs.declared.Settings.{Settings}
+use Rattle.settings.specs.Questions.{shapeOk}
 use Rattle.settings.specs.Sizes.{keyCount, mostBytes, bookSize, inputSize, workLength}
 use Rattle.settings.specs.Schedule.{rounds}
 use Rattle.dealer.specs.Deal.{dealNo}
@@ -94,7 +95,7 @@ module _ (s : Settings) (serial : ℕ) (own other : PartyInput) where
   carryAll x [] = x
   carryAll x (m ∷ ms) = carryAll (carry x (m .party) (m .call)) ms
 
--- ---- The whole run, from its terms and its numbers: the server's inputs, the phone's, and then the draw
+-- ---- The whole run, from its terms and its numbers: the server's inputs, the phone's, and then the draw, or books in its place
 
 abbrev pub serverInputs : Shape → List ℕ → List ℕ
 serverInputs a numbers = take (inputSize a) numbers
@@ -104,6 +105,10 @@ phoneInputs a numbers = take (inputSize a) (drop (inputSize a) numbers)
 
 abbrev pub drawIn : Shape → List ℕ → List ℕ
 drawIn a numbers = drop (inputSize a) (drop (inputSize a) numbers)
+
+-- "books in place of a draw: where exactly as many numbers are left as the two books have"
+unfoldable pub booksGiven : Shape → List ℕ → Bool
+booksGiven a numbers = shapeOk a && eqb (length (drawIn a numbers)) (2 * bookSize a)
 
 -- what the begins are handed: each side's own keys and inputs, and its book of the deal
 abbrev pub serverInput : RunTerms → List ℕ → PartyInput
@@ -115,6 +120,20 @@ abbrev pub phoneInput : RunTerms → List ℕ → PartyInput
 phoneInput terms numbers =
     let a = terms .settings .shape in
     partyInput keyCount (terms .settings) 1 (terms .keys0) (terms .keys1) (drawIn a numbers) (phoneInputs a numbers)
+
+-- "they are the server's book and the phone's": the same with a given book, the server's first
+abbrev pub withBook : PartyInput → List ℕ → PartyInput
+withBook i book = record { number = i .number; keys = i .keys; inputs = i .inputs; book = book }
+
+abbrev pub serverGiven : RunTerms → List ℕ → PartyInput
+serverGiven terms numbers =
+    let a = terms .settings .shape in
+    withBook (serverInput terms numbers) (take (bookSize a) (drawIn a numbers))
+
+abbrev pub phoneGiven : RunTerms → List ℕ → PartyInput
+phoneGiven terms numbers =
+    let a = terms .settings .shape in
+    withBook (phoneInput terms numbers) (drop (bookSize a) (drawIn a numbers))
 
 -- the working slices before a run
 abbrev pub zeroWork : List ℕ
@@ -134,8 +153,16 @@ dealNoOf terms numbers =
     let a = terms .settings .shape in
     dealNo keyCount a (terms .keys0) (terms .keys1) (drawIn a numbers) (replicate (bookSize a) 0) (replicate (bookSize a) 0)
 
--- dealt, begun by both, the server first, and carried from round to round
+-- begun by both, the server first, and carried from round to round, after a deal that gave this answer
+abbrev pub runAfter : RunTerms → ℕ → PartyInput → PartyInput → Carried
+runAfter terms dealt own other = carryAll (terms .settings) (terms .serial) own other (notBegun (refusalOf Deal 0 dealt)) runCalls
+
+abbrev pub dealtRun : RunTerms → List ℕ → Carried
+dealtRun terms numbers = runAfter terms (dealNoOf terms numbers) (serverInput terms numbers) (phoneInput terms numbers)
+
+-- "and nothing is dealt"
+abbrev pub givenRun : RunTerms → List ℕ → Carried
+givenRun terms numbers = runAfter terms 0 (serverGiven terms numbers) (phoneGiven terms numbers)
+
 unfoldable pub executed : RunTerms → List ℕ → Carried
-executed terms numbers =
-    carryAll (terms .settings) (terms .serial) (serverInput terms numbers) (phoneInput terms numbers)
-    (notBegun (refusalOf Deal 0 (dealNoOf terms numbers))) runCalls
+executed terms numbers = cond (booksGiven (terms .settings .shape) numbers) (givenRun terms numbers) (dealtRun terms numbers)

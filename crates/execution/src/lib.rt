@@ -1,11 +1,11 @@
-// A run carried through in one process: dealt, begun by both sides and carried from round to round, up to the first refusal. It gives back
-// every message, both sides and the refusal.
+// A run carried through in one process: dealt, or with books handed in, begun by both sides and carried from round to round, up to the first
+// refusal. It gives back every message, both sides and the refusal.
 ghost use mathlib.Core.Path.{_≡_};
 ghost use Prim.Native.Nat.{_+_, _*_, _≤_};
 ghost use lib.ListN.{length};
 ghost use Rattle.settings.specs.Sizes.{keyCount, mostBytes, bookSize};
 ghost use Rattle.settings.specs.Schedule.{rounds};
-ghost use Rattle.execution.specs.Execution.{noRefusal, refusalOf, executed};
+ghost use Rattle.execution.specs.Execution.{noRefusal, refusalOf, drawIn, booksGiven, dealtRun, givenRun, executed};
 ghost use Rattle.execution.specs.Held.{Stands, Fits, runAt, silentEndpoint, startOf, ServerBegins, PhoneBegins, SendsAt, ServerSends, PhoneSends, PhoneTakes};
 ghost use Rattle.execution.specs.Held.{ServerTakes, RoundsRun, runBytes, CutsAt, Executes, RunsFrom};
 use dealer::deal;
@@ -19,6 +19,7 @@ use settings::WIDTH;
 use settings::WORK_LENGTH;
 use settings::book_size;
 use settings::input_size;
+use settings::shape_no;
 use side::Run;
 use side::begin;
 use side::send;
@@ -349,7 +350,7 @@ fn run_rounds(x: Execution, server: &mut [u32], phone: &mut [u32], messages: &mu
 
 // ---- The whole run
 
-// Where the phone's inputs begin among the numbers, and where the draw does.
+// Where the phone's inputs begin among the numbers, and where the draw does, or the books in its place.
 struct Cuts {
     phone: usize,
     draw: usize,
@@ -391,8 +392,8 @@ fn begin_and_run(
     run_rounds(both, &mut server, &mut phone, messages)
 }
 
-// The run with lent books of the size that the shape asks for.
-fn execute_in(
+// The run with a deal into lent books of the size that the shape asks for.
+fn deal_and_run(
     terms: RunTerms,
     numbers: &[u32],
     book0: &mut [u32],
@@ -400,7 +401,7 @@ fn execute_in(
     messages: &mut [u8],
 ) -> Execution
     requires { ⌜ (length (now book0) ≡ bookSize (terms .settings .shape)) × (length (now book1) ≡ bookSize (terms .settings .shape)) × (runBytes ≤ length (now messages)) ⌝ }
-    ensures { λ r. ⌜ Executes (executed terms (now (numbers .entry))) r (now (messages .entry)) (now (messages .exit)) ⌝ }
+    ensures { λ r. ⌜ Executes (dealtRun terms (now (numbers .entry))) r (now (messages .entry)) (now (messages .exit)) ⌝ }
 {
     let shape = terms.settings.shape;
     let keys0 = terms.keys0;
@@ -411,20 +412,61 @@ fn execute_in(
     begin_and_run(start(refused), terms, numbers, book0, book1, messages)
 }
 
-// The run of these terms. The numbers are the server's inputs, the phone's inputs and the draw; where some are missing, the calls are
-// handed what there is. At the end all messages stand in front of `messages`, one behind the other; the caller lends RUN_BYTES bytes.
-pub fn execute(terms: RunTerms, numbers: &[u32], messages: &mut [u8]) -> Execution
+// The run with a deal.
+fn execute_dealt(terms: RunTerms, numbers: &[u32], messages: &mut [u8]) -> Execution
     requires { ⌜ runBytes ≤ length (now messages) ⌝ }
-    ensures { λ r. ⌜ Executes (executed terms (now (numbers .entry))) r (now (messages .entry)) (now (messages .exit)) ⌝ }
+    ensures { λ r. ⌜ Executes (dealtRun terms (now (numbers .entry))) r (now (messages .entry)) (now (messages .exit)) ⌝ }
 {
     let size = book_size(terms.settings.shape);
     let mut book0 = [0u32; BOOK_LENGTH];
     let mut book1 = [0u32; BOOK_LENGTH];
-    execute_in(
+    deal_and_run(
         terms,
         numbers,
         &mut book0[..size],
         &mut book1[..size],
         messages,
     )
+}
+
+// ---- Books in place of a draw
+
+// Are exactly as many numbers left behind the inputs as two books have? Where the shape is refused there are no books, and the deal says so.
+fn books_given(shape: Shape, numbers: &[u32]) -> bool
+    ensures { λ r. ⌜ r ≡ booksGiven shape (now (numbers .entry)) ⌝ }
+{
+    if shape_no(shape) != 0 {
+        return false;
+    }
+    let cuts = cuts_of(shape, numbers.len());
+    numbers.len() - cuts.draw == 2 * book_size(shape)
+}
+
+// The run with the books that stand among the numbers.
+fn execute_given(terms: RunTerms, numbers: &[u32], messages: &mut [u8]) -> Execution
+    requires { ⌜ (length (drawIn (terms .settings .shape) (now numbers)) ≡ 2 * bookSize (terms .settings .shape)) × (runBytes ≤ length (now messages)) ⌝ }
+    ensures { λ r. ⌜ Executes (givenRun terms (now (numbers .entry))) r (now (messages .entry)) (now (messages .exit)) ⌝ }
+{
+    let shape = terms.settings.shape;
+    let cuts = cuts_of(shape, numbers.len());
+    let first = cuts.draw;
+    let second = first + book_size(shape);
+    let book0 = &numbers[first..second];
+    let book1 = &numbers[second..];
+    begin_and_run(start(0), terms, numbers, book0, book1, messages)
+}
+
+// ---- Either
+
+// The run of these terms. The numbers are the server's inputs, the phone's inputs and the draw; where exactly as many are left as two books
+// have, the server's book and the phone's, and nothing is dealt. Where some are missing, the calls are handed what there is. At the end all
+// messages stand in front of `messages`, one behind the other; the caller lends RUN_BYTES bytes.
+pub fn execute(terms: RunTerms, numbers: &[u32], messages: &mut [u8]) -> Execution
+    requires { ⌜ runBytes ≤ length (now messages) ⌝ }
+    ensures { λ r. ⌜ Executes (executed terms (now (numbers .entry))) r (now (messages .entry)) (now (messages .exit)) ⌝ }
+{
+    if books_given(terms.settings.shape, numbers) {
+        return execute_given(terms, numbers, messages);
+    }
+    execute_dealt(terms, numbers, messages)
 }

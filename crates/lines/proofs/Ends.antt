@@ -15,7 +15,7 @@ use Rattle.lists.proofs.Questions.{passed, both-yes}
 use Rattle.field.specs.Field.{q}
 use Rattle.settings.specs.declared.Settings.{Settings}
 use Rattle.settings.specs.Settings.{paramsIn}
-use Rattle.settings.specs.Sizes.{keyCount, width, shared, drawLength, workLength, bookSize, inputSize}
+use Rattle.settings.specs.Sizes.{keyCount, width, shared, drawLength, workLength, bookSize, drawSize, inputSize}
 use Rattle.settings.specs.Questions.{askShape, isBit, countOk, boundOk, askSettings, shapeOk, Ready}
 use Rattle.settings.proofs.Ready.{settings-ready, settings-rest}
 use Rattle.book.specs.Books.{multipliers}
@@ -29,6 +29,7 @@ use Rattle.syntax.specs.declared.Request.{Request}
 use Rattle.execution.specs.Execution.{Carried, noRefusal, refusalOf, carryAll, runCalls, serverInputs, phoneInputs, drawIn, freshParty, dealNoOf, executed}
 use Rattle.execution.specs.Theorems.{GoesThrough}
 use Rattle.execution.proofs.Honest.{honest-run-goes-through}
+use Rattle.execution.proofs.Given.{draw-is-dealt}
 use Rattle.lines.specs.declared.LineResult.{LineResult}
 use Rattle.lines.specs.Plain.{settingsOf, secretOf, requestNo, resultFor}
 use Rattle.lines.specs.Run.{ones, termsFor, inColumns, zerosFor, numbersFor, answeredBy}
@@ -131,6 +132,10 @@ module _ (serial : ℕ) (o : Request) (ok : requestNo serial o ≡ 0) (fits : se
   draw-is : drawIn (s .shape) (numbersFor o) ≡ replicate drawn 0
   draw-is = ap (drop (inputSize (s .shape))) behind ∙ ap (λ (n : ℕ). drop n (replicate {A = ℕ} (zerosFor o) 0)) input-size ∙ behind-zeros each drawn
 
+  draw-long : length (drawIn (s .shape) (numbersFor o)) ≡ drawSize (s .shape)
+  unfolding drawSize
+  draw-long = rw (draw-is, shape-yes) (length-replicate {A = ℕ} drawn 0)
+
   book-size : bookSize (s .shape) ≡ shared (paramsIn s) * width
   unfolding bookSize
   book-size = rw shape-yes
@@ -169,10 +174,10 @@ module _ (serial : ℕ) (o : Request) (ok : requestNo serial o ≡ 0) (fits : se
       (record { observer = idle-is; peer = idle-is })
 
   run-is : executed (termsFor serial o) (numbersFor o) ≡ honest
-  unfolding executed refusalOf
+  unfolding refusalOf
   run-is =
       let zeros : missingShares width (multipliers ones ones) secret inputs ≡ replicate each 0 = missing-none secret ∙ ap (λ (n : ℕ). replicate (n * width) 0) secret-long in
-      rw (deal-no, server-inputs, phone-inputs, draw-is, zeros)
+      draw-is-dealt (termsFor serial o) (numbersFor o) draw-long ∙ rw (deal-no, server-inputs, phone-inputs, draw-is, zeros)
 
   -- what the server's answer says at the end is the plain meaning
   pub run-gives : (x : Side) → x ≡ executed (termsFor serial o) (numbersFor o) .parties .observer .side → answeredBy x ≡ resultFor serial o

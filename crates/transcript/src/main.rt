@@ -3,7 +3,8 @@
 // input of its own.
 //
 // An input, decimal numbers between blanks or line ends: set, kind, n, bound, serial, the server's keys, the phone's keys; n shared
-// numbers of the server's input, n of the phone's; all others are the draw.
+// numbers of the server's input, n of the phone's; all others are the draw. Where exactly as many are left as the two books have, they
+// are the server's book and the phone's, and nothing is dealt.
 mod lines;
 mod whole;
 

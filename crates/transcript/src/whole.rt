@@ -23,7 +23,7 @@ use settings::Shape;
 use state::Side;
 use text::NumbersRead;
 
-// Where the server's keys stand in an input, and the phone's; and how many numbers stand before the inputs and the draw.
+// Where the server's keys stand in an input, and the phone's; and how many numbers stand before the inputs and the draw, or the books.
 const KEYS0: usize = 5;
 
 const KEYS1: usize = KEYS0 + KEYS;

@@ -1,4 +1,5 @@
-//! Compares the messages of random honest runs with those of another program.
+//! Compares the messages of random honest runs with those of another program,
+//! each run from its draw and from the books of the draw in its place.
 //!
 //! Arguments: path of the other program, number of runs (default 320). The
 //! other program reads and writes the form of the example `transcript`.
@@ -25,18 +26,19 @@ fn main() -> Result<ExitCode, Box<dyn Error>> {
             number / 2 % 2,
             number / 4 % 8 + 1,
         );
-        let numbers = run.numbers();
-        let own = transcript(&numbers)
-            .map_err(|refusal| format!("run {number}: refused with {}", refusal.number()))?;
-        let words: Vec<String> = numbers.iter().map(u32::to_string).collect();
-        let other = ask_program(&program, &words.join(" "))?;
-        if own.as_bytes() != other {
-            differences += 1;
-            eprintln!("run {number} differs: {:?}", &numbers[..7]);
-            eprintln!("own:\n{own}other:\n{}", String::from_utf8_lossy(&other));
+        for numbers in [run.numbers(), run.numbers_with_books()] {
+            let own = transcript(&numbers)
+                .map_err(|refusal| format!("run {number}: refused with {}", refusal.number()))?;
+            let words: Vec<String> = numbers.iter().map(u32::to_string).collect();
+            let other = ask_program(&program, &words.join(" "))?;
+            if own.as_bytes() != other {
+                differences += 1;
+                eprintln!("run {number} differs: {:?}", &numbers[..7]);
+                eprintln!("own:\n{own}other:\n{}", String::from_utf8_lossy(&other));
+            }
         }
     }
-    println!("{runs} runs compared, {differences} differ");
+    println!("{runs} runs compared, from the draw and from books; {differences} differ");
     Ok(if differences == 0 {
         ExitCode::SUCCESS
     } else {

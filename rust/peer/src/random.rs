@@ -1,5 +1,6 @@
 //! A small seeded generator (SplitMix64) and random runs, for tests and timing.
 
+use crate::dealer::deal;
 use crate::field::Q;
 use crate::settings::{Shape, MAX_BOUND, SETS};
 use crate::shared::Shared;
@@ -91,13 +92,40 @@ impl RandomRun {
 
     /// The list of numbers that `transcript` reads.
     pub fn numbers(&self) -> Vec<u32> {
+        let mut numbers = self.before_draw();
+        numbers.extend(&self.draw);
+        numbers
+    }
+
+    /// The same with the books of the draw in its place.
+    pub fn numbers_with_books(&self) -> Vec<u32> {
+        let count = self.secret.len() as u32;
+        let shape = Shape::new(self.set, self.kind, count).expect("a good shape");
+        let mut server = vec![0; shape.book_length()];
+        let mut phone = server.clone();
+        deal(
+            self.set,
+            self.kind,
+            count,
+            self.keys,
+            &self.draw,
+            &mut server,
+            &mut phone,
+        )
+        .expect("a good draw");
+        let mut numbers = self.before_draw();
+        numbers.extend(server);
+        numbers.extend(phone);
+        numbers
+    }
+
+    fn before_draw(&self) -> Vec<u32> {
         let count = self.secret.len() as u32;
         let head = [self.set, self.kind, count, self.bound, self.serial];
         let mut numbers = head.to_vec();
         numbers.extend(self.keys);
         numbers.extend(&self.inputs[0]);
         numbers.extend(&self.inputs[1]);
-        numbers.extend(&self.draw);
         numbers
     }
 }

@@ -10,6 +10,7 @@ use crate::refusal::Refusal;
 use crate::settings::{Kind, Settings, Shape, MAX_COUNT, SETS};
 use crate::shared::Shared;
 use crate::side::{Begin, Side, PHONE, SERVER, WORK_LENGTH};
+use crate::transcript::transcript;
 
 /// Both sides of a run that has been dealt, with their working slices.
 struct Pair {
@@ -590,6 +591,24 @@ fn deal_refuses_in_order() {
     assert_eq!(call(0, 1, 0, 1), 4);
     assert_eq!(call(0, 1, 1, 1), 5);
     assert_eq!(call(0, 1, 1, 0), 6);
+}
+
+#[test]
+fn books_in_place_of_a_draw() {
+    let mut generator = SplitMix64::new(15);
+    for number in 0..8 {
+        let run = RandomRun::new(&mut generator, number % 2, number / 2 % 2, number / 4 + 1);
+        let mut numbers = run.numbers_with_books();
+        assert_eq!(transcript(&numbers), transcript(&run.numbers()));
+        // One number more or less makes it a draw, of a wrong length.
+        numbers.push(0);
+        assert_eq!(transcript(&numbers), Err(Refusal::Length));
+        numbers.truncate(numbers.len() - 2);
+        assert_eq!(transcript(&numbers), Err(Refusal::Length));
+        // The last number of the phone's book is not below q.
+        numbers.push(Q);
+        assert_eq!(transcript(&numbers), Err(Refusal::Range));
+    }
 }
 
 #[test]

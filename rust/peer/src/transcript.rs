@@ -1,4 +1,4 @@
-//! An honest run with every message written down.
+//! A run with every message written down.
 
 use std::fmt::Write;
 
@@ -10,6 +10,8 @@ use crate::side::{Begin, Side, PHONE, SERVER, WORK_LENGTH};
 
 /// Plays the run that a list of numbers describes: set, kind, count, bound,
 /// serial, both keys, the server's 3N inputs, the phone's 3N inputs, the draw.
+/// Where exactly as many numbers are left as the two books have, they are the
+/// server's book and the phone's, and nothing is dealt.
 ///
 /// Gives a line `SENDER ROUND HEX` for every message, then each side's answer
 /// and opening count.
@@ -21,14 +23,20 @@ pub fn transcript(numbers: &[u32]) -> Result<String, Refusal> {
     let (server_inputs, rest) = rest
         .split_at_checked(3 * shape.count)
         .ok_or(Refusal::Length)?;
-    let (phone_inputs, draw) = rest
+    let (phone_inputs, rest) = rest
         .split_at_checked(3 * shape.count)
         .ok_or(Refusal::Length)?;
     let inputs = [server_inputs, phone_inputs];
 
-    let mut books = [vec![0; shape.book_length()], vec![0; shape.book_length()]];
-    let [server_book, phone_book] = &mut books;
-    deal(set, kind, count, keys, draw, server_book, phone_book)?;
+    let length = shape.book_length();
+    let mut dealt = [vec![0; length], vec![0; length]];
+    let books: [&[u32]; 2] = if rest.len() == 2 * length {
+        [&rest[..length], &rest[length..]]
+    } else {
+        let [server_book, phone_book] = &mut dealt;
+        deal(set, kind, count, keys, rest, server_book, phone_book)?;
+        [&dealt[0], &dealt[1]]
+    };
 
     let mut sides = [Side::new(), Side::new()];
     let mut works = [vec![0; WORK_LENGTH], vec![0; WORK_LENGTH]];
@@ -42,7 +50,7 @@ pub fn transcript(numbers: &[u32]) -> Result<String, Refusal> {
             serial,
             key: keys[side],
             inputs: inputs[side],
-            book: &books[side],
+            book: books[side],
         };
         sides[side].begin(&begin, &mut works[side])?;
     }

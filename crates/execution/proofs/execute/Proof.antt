@@ -3,40 +3,28 @@ use borrow.Author.Needs.{needs}
 use Rattle.execution.proofs.execute.Statement.{statement}
 use Rattle.execution.proofs.execute.Tie as tie
 use mathlib.Core.Path.{sym, _∙_}
-use native.Mathlib.Omega.{arith}
-use lib.Seq.{length-take-le}
-use Rattle.execution.proofs.Whole.{book-most}
+use Rattle.execution.proofs.Given.{as-many, runs-given, runs-dealt}
 
-array-borrow-prefix-book0 : tie.Need-array-borrow-prefix-book0
-array-borrow-prefix-book0 c = omega (arith, c .book-size .ensures, book-most (c .before .before .before .args .terms .settings .shape))
+execute-given-requires : tie.Need-execute-given-requires
+execute-given-requires c κs =
+    (as-many (c .before .before .before .before .before .args .terms .settings .shape) (c .before .before .before .before .before .args .numbers .now) (sym (c .before .before .books-given .ensures) ∙ c .before .if1 .taken), c .before .before .before .before .before .pre)
 
-slice-aggregate-execute-in : tie.Need-slice-aggregate-execute-in
-slice-aggregate-execute-in c = sym (length-take-le _ _ (omega (arith, c .before .book-size .ensures, book-most (c .before .before .before .before .args .terms .settings .shape))))
+returns : tie.Need-returns
+returns c =
+    rw (runs-given (c .before .before .before .before .before .before .before .before .args .terms) (c .before .before .before .before .before .before .before .before .args .numbers .now) (sym (c .before .before .before .before .before .books-given .ensures) ∙ c .before .before .before .before .if1 .taken)) (c .before .before .execute-given .ensures)
 
-array-borrow-prefix-book1 : tie.Need-array-borrow-prefix-book1
-array-borrow-prefix-book1 c = omega (arith, c .before .book-size .ensures, book-most (c .before .before .before .before .args .terms .settings .shape))
-
-slice-aggregate-execute-in-2 : tie.Need-slice-aggregate-execute-in-2
-slice-aggregate-execute-in-2 c = sym (length-take-le _ _ (omega (arith, c .before .before .book-size .ensures, book-most (c .before .before .before .before .before .args .terms .settings .shape))))
-
-execute-in-requires : tie.Need-execute-in-requires
-execute-in-requires c κs =
-    let book-size = c .before .before .before .book-size in
-    let a = c .before .before .before .before .before .before .args in (
-      length-take-le _ _ (omega (arith, book-size .ensures, book-most (a .terms .settings .shape))) ∙ book-size .ensures,
-      length-take-le _ _ (omega (arith, book-size .ensures, book-most (a .terms .settings .shape))) ∙ book-size .ensures,
-      c .before .before .before .before .before .before .pre,
-    )
+returns-2 : tie.Need-returns-2
+returns-2 c =
+    rw (runs-dealt (c .before .before .before .before .before .before .before .before .args .terms) (c .before .before .before .before .before .before .before .before .args .numbers .now) (sym (c .before .before .before .before .before .books-given .ensures) ∙ c .before .before .before .before .if1 .left)) (c .before .before .execute-dealt .ensures)
 
 pub execute-spec : {M : Type 1} → statement M
 execute-spec =
     tie.close
     (tie.spec
     (λ c κs. search needs)
-    array-borrow-prefix-book0
-    slice-aggregate-execute-in
-    array-borrow-prefix-book1
-    slice-aggregate-execute-in-2
-    execute-in-requires
+    execute-given-requires
     (λ c. search needs)
-    (λ c. search needs))
+    returns
+    (λ c κs. search needs)
+    (λ c. search needs)
+    returns-2)

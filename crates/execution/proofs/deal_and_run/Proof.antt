@@ -1,7 +1,7 @@
--- `execution::execute_in` meets its contract. Assumes nothing.
+-- `execution::deal_and_run` meets its contract. Assumes nothing.
 use borrow.Author.Needs.{needs}
-use Rattle.execution.proofs.execute_in.Statement.{statement}
-use Rattle.execution.proofs.execute_in.Tie as tie
+use Rattle.execution.proofs.deal_and_run.Statement.{statement}
+use Rattle.execution.proofs.deal_and_run.Tie as tie
 use Rattle.execution.proofs.Whole.{draw-part, start-fits, whole-run}
 
 begin-and-run-requires : tie.Need-begin-and-run-requires
@@ -22,8 +22,8 @@ returns c =
     let ran = rw (c .before .before .before .before .before .before .start .ensures) at (c .before .before .begin-and-run .ensures) in
     whole-run (a .terms) (a .numbers .now) (a .book0 .now) (a .book1 .now) (p .0) (p .1) (deal .result) _ _ dealt _ _ _ ran
 
-pub execute-in-spec : {M : Type 1} → statement M
-execute-in-spec =
+pub deal-and-run-spec : {M : Type 1} → statement M
+deal-and-run-spec =
     tie.close
     (tie.spec
     (λ c κs. search needs)
