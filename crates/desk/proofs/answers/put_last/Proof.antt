@@ -1,0 +1,32 @@
+-- `desk::answers::put_last` meets its contract. Assumes nothing.
+use Rattle.text.proofs.Puts.{front-put, within-put, length-put}
+use Rattle.stream.proofs.Waiting.{last-none, last-some}
+use lib.Seq.{length-take-le}
+use Rattle.desk.specs.Desk.{answerTo}
+use native.Mathlib.Omega.{arith}
+use mathlib.Core.Path.{sym}
+use borrow.Author.Needs.{needs}
+use Rattle.desk.proofs.answers.put_last.Statement.{statement}
+use Rattle.desk.proofs.answers.put_last.Tie as tie
+
+returns : tie.Need-returns
+returns c = (last-none _ (c .before .is-left .result) _ (c .before .is-left .ensures) (c .if1 .taken), omega arith)
+
+slice-aggregate-answer-line : tie.Need-slice-aggregate-answer-line
+slice-aggregate-answer-line c = sym (length-take-le _ _ (omega arith))
+
+returns-2 : tie.Need-returns-2
+returns-2 c = (last-some answerTo (c .before .before .before .before .before .before .before .before .before .before .before .before .before .before .args .stream) (c .before .before .before .before .before .before .before .before .before .before .before .before .before .before .args .kept .now) _ (c .before .before .before .before .before .before .before .before .before .before .is-left .result) (c .before .before .before .before .before .before .before .before .least .result) (c .before .before .before .before .before .before .before .before .before .before .is-left .ensures) (c .before .before .before .before .before .before .before .before .before .if1 .left) (c .before .before .before .before .before .before .before .before .least .ensures .0) (front-put (c .before .before .before .before .before .before .before .before .before .before .before .before .before .before .args .out .now) 0 _ _ (c .before .before .before .before .answer-line .result) (c .before .before .before .before .answer-line .ensures .0) (omega (arith, c .before .before .before .before .answer-line .ensures .1, c .before .before .before .before .before .before .before .before .before .before .before .before .before .before .pre))), omega (arith, within-put (c .before .before .before .before .before .before .before .before .before .before .before .before .before .before .args .out .now) 0 _ _ (c .before .before .before .before .answer-line .result) (c .before .before .before .before .answer-line .ensures .0) (omega arith), length-put (c .before .before .before .before .before .before .before .before .before .before .before .before .before .before .args .out .now) 0 _ _ (c .before .before .before .before .answer-line .result) (c .before .before .before .before .answer-line .ensures .0)))
+
+pub put-last-spec : {M : Type 1} → statement M
+put-last-spec =
+    tie.close
+    (tie.spec
+    (λ c κs. search needs)
+    returns
+    (λ c κs. search needs)
+    slice-aggregate-answer-line
+    (λ c κs. search needs)
+    (λ c. search needs)
+    (λ c. search needs)
+    returns-2)
