@@ -7,7 +7,8 @@ use Rattle.desk.proofs.read_parts.Statement.{statement}
 use Rattle.desk.proofs.read_parts.Tie as tie
 
 abbrev Inv-loop : tie.InvT-loop
-Inv-loop fd kept₀ numbers₀ part₀ out₀ state₀ left₀ kept numbers part out state left = (length kept ≡ length kept₀) × (length numbers ≡ length numbers₀) × (length part ≡ length part₀) × (length out ≡ length out₀)
+Inv-loop fd kept₀ numbers₀ part₀ out₀ state₀ left₀ kept numbers part out state left =
+    (length kept ≡ length kept₀) × (length numbers ≡ length numbers₀) × (length part ≡ length part₀) × (length out ≡ length out₀)
 
 abbrev μ-loop : tie.MeasureT-loop
 μ-loop fd kept₀ numbers₀ part₀ out₀ state₀ left₀ kept numbers part out state left = left

@@ -10,13 +10,29 @@ use Rattle.desk.proofs.answers.put_last.Statement.{statement}
 use Rattle.desk.proofs.answers.put_last.Tie as tie
 
 returns : tie.Need-returns
-returns c = (last-none _ (c .before .is-left .result) _ (c .before .is-left .ensures) (c .if1 .taken), omega arith)
+returns c =
+    let left = c .before .is-left in
+    (last-none _ (left .result) _ (left .ensures) (c .if1 .taken), omega arith)
 
 slice-aggregate-answer-line : tie.Need-slice-aggregate-answer-line
 slice-aggregate-answer-line c = sym (length-take-le _ _ (omega arith))
 
 returns-2 : tie.Need-returns-2
-returns-2 c = (last-some answerTo (c .before .before .before .before .before .before .before .before .before .before .before .before .before .before .args .stream) (c .before .before .before .before .before .before .before .before .before .before .before .before .before .before .args .kept .now) _ (c .before .before .before .before .before .before .before .before .before .before .is-left .result) (c .before .before .before .before .before .before .before .before .least .result) (c .before .before .before .before .before .before .before .before .before .before .is-left .ensures) (c .before .before .before .before .before .before .before .before .before .if1 .left) (c .before .before .before .before .before .before .before .before .least .ensures .0) (front-put (c .before .before .before .before .before .before .before .before .before .before .before .before .before .before .args .out .now) 0 _ _ (c .before .before .before .before .answer-line .result) (c .before .before .before .before .answer-line .ensures .0) (omega (arith, c .before .before .before .before .answer-line .ensures .1, c .before .before .before .before .before .before .before .before .before .before .before .before .before .before .pre))), omega (arith, within-put (c .before .before .before .before .before .before .before .before .before .before .before .before .before .before .args .out .now) 0 _ _ (c .before .before .before .before .answer-line .result) (c .before .before .before .before .answer-line .ensures .0) (omega arith), length-put (c .before .before .before .before .before .before .before .before .before .before .before .before .before .before .args .out .now) 0 _ _ (c .before .before .before .before .answer-line .result) (c .before .before .before .before .answer-line .ensures .0)))
+returns-2 c =
+    let a = c .before .before .before .before .before .before .before .before .before .before .before .before .before .before .args in
+    let room = c .before .before .before .before .before .before .before .before .before .before .before .before .before .before .pre in
+    let left = c .before .before .before .before .before .before .before .before .before .before .is-left in
+    let least = c .before .before .before .before .before .before .before .before .least in
+    let line = c .before .before .before .before .answer-line in (
+      last-some answerTo (a .stream) (a .kept .now) _ (left .result) (least .result) (left .ensures)
+          (c .before .before .before .before .before .before .before .before .before .if1 .left) (least .ensures .0)
+          (front-put (a .out .now) 0 _ _ (line .result) (line .ensures .0) (omega (arith, line .ensures .1, room))),
+      omega (
+        arith,
+        within-put (a .out .now) 0 _ _ (line .result) (line .ensures .0) (omega arith),
+        length-put (a .out .now) 0 _ _ (line .result) (line .ensures .0),
+      ),
+    )
 
 pub put-last-spec : {M : Type 1} → statement M
 put-last-spec =

@@ -7,11 +7,21 @@ use Rattle.desk.proofs.calls.put_choice.Tie as tie
 
 returns : tie.Need-returns
 unfolding chooseText
-returns c = rw (← c .before .before .before .before .before .choose-no .ensures, ne-eqb (c .before .before .before .before .before .choose-no .result) 0 (c .before .before .before .before .if1 .taken)) (c .before .before .put-refusal .ensures)
+returns c =
+    let choose-no = c .before .before .before .before .before .choose-no in
+    rw (← choose-no .ensures, ne-eqb (choose-no .result) 0 (c .before .before .before .before .if1 .taken))
+    (c .before .before .put-refusal .ensures)
 
 returns-2 : tie.Need-returns-2
 unfolding chooseText
-returns-2 c = rw (← c .before .before .before .before .before .before .choose-no .ensures, eq-eqb (c .before .before .before .before .before .before .choose-no .result) 0 (c .before .before .before .before .before .if1 .left), ← c .before .before .before .choose .ensures) (c .before .before .put-part .ensures)
+returns-2 c =
+    let choose-no = c .before .before .before .before .before .before .choose-no in
+    rw (
+      ← choose-no .ensures,
+      eq-eqb (choose-no .result) 0 (c .before .before .before .before .before .if1 .left),
+      ← c .before .before .before .choose .ensures,
+    )
+    (c .before .before .put-part .ensures)
 
 pub put-choice-spec : {M : Type 1} → statement M
 put-choice-spec =

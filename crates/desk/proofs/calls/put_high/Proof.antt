@@ -8,15 +8,34 @@ use Rattle.desk.proofs.calls.put_high.Tie as tie
 
 returns : tie.Need-returns
 unfolding highResult
-returns c = rw (ne-eqb (length (c .before .before .before .before .before .before .before .args .numbers .now)) 2 (c .before .before .before .before .if1 .taken)) (c .before .before .put-malformed .ensures)
+returns c =
+    rw
+    (ne-eqb (length (c .before .before .before .before .before .before .before .args .numbers .now)) 2 (c .before .before .before .before .if1 .taken))
+    (c .before .before .put-malformed .ensures)
 
 returns-2 : tie.Need-returns-2
 unfolding highResult highText
-returns-2 c = rw (eq-eqb (length (c .before .before .before .before .before .before .before .before .before .before .before .before .before .args .numbers .now)) 2 (c .before .before .before .before .before .before .before .before .before .before .if1 .left), ← c .before .before .before .before .before .before .before .high-part .ensures, c .before .before .before .before .before .part .given .1) (c .before .before .put-number .ensures)
+returns-2 c =
+    rw (
+      eq-eqb
+          (length (c .before .before .before .before .before .before .before .before .before .before .before .before .before .args .numbers .now))
+          2 (c .before .before .before .before .before .before .before .before .before .before .if1 .left),
+      ← c .before .before .before .before .before .before .before .high-part .ensures,
+      c .before .before .before .before .before .part .given .1,
+    )
+    (c .before .before .put-number .ensures)
 
 returns-3 : tie.Need-returns-3
 unfolding highResult highText
-returns-3 c = rw (eq-eqb (length (c .before .before .before .before .before .before .before .before .before .before .before .before .before .args .numbers .now)) 2 (c .before .before .before .before .before .before .before .before .before .before .if1 .left), ← c .before .before .before .before .before .before .before .high-part .ensures, c .before .before .before .before .before .no .given .1) (c .before .before .put-refusal .ensures)
+returns-3 c =
+    rw (
+      eq-eqb
+          (length (c .before .before .before .before .before .before .before .before .before .before .before .before .before .args .numbers .now))
+          2 (c .before .before .before .before .before .before .before .before .before .before .if1 .left),
+      ← c .before .before .before .before .before .before .before .high-part .ensures,
+      c .before .before .before .before .before .no .given .1,
+    )
+    (c .before .before .put-refusal .ensures)
 
 pub put-high-spec : {M : Type 1} → statement M
 put-high-spec =

@@ -18,7 +18,11 @@ cast-put-number : tie.Need-cast-put-number
 cast-put-number c = omega (arith, c .before .before .before .shared-slice-known .given 0)
 
 returns-2 : tie.Need-returns-2
-returns-2 c = let part = c .before .before .before .before .before .before .before .before .before .before .before .before .before .args .part .now in let all = take-all (length part - 1) (drop 1 part) (omega (arith, length-drop 1 part)) in rw (← part-some part (omega arith)) (put-then _ _ _ (c .before .before .before .before .before .before .before .put-number .ensures) (rw all at (c .before .before .put-numbers .ensures)))
+returns-2 c =
+    let part = c .before .before .before .before .before .before .before .before .before .before .before .before .before .args .part .now in
+    let all = take-all (length part - 1) (drop 1 part) (omega (arith, length-drop 1 part)) in
+    rw (← part-some part (omega arith))
+    (put-then _ _ _ (c .before .before .before .before .before .before .before .put-number .ensures) (rw all at (c .before .before .put-numbers .ensures)))
 
 pub put-part-spec : {M : Type 1} → statement M
 put-part-spec =

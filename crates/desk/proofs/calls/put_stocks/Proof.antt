@@ -12,14 +12,22 @@ use Rattle.desk.proofs.calls.put_stocks.Tie as tie
 
 returns : tie.Need-returns
 unfolding stocksText
-returns c = rw (lt-ltb (length (c .before .before .before .before .before .before .before .args .stocks .now)) (c .before .before .before .before .before .before .before .args .count) (c .before .before .before .before .if1 .taken)) (c .before .before .put-malformed .ensures)
+returns c =
+    let a = c .before .before .before .before .before .before .before .args in
+    rw (lt-ltb (length (a .stocks .now)) (a .count) (c .before .before .before .before .if1 .taken))
+    (c .before .before .put-malformed .ensures)
 
 slice-aggregate-put-choice : tie.Need-slice-aggregate-put-choice
 slice-aggregate-put-choice c = sym (length-take-le _ _ (omega arith))
 
 returns-2 : tie.Need-returns-2
 unfolding stocksText
-returns-2 c = let s = c .before .before .before .before .before .before .before .before .before .args .stocks .now in let n = c .before .before .before .before .before .before .before .before .before .args .count in let all = take-all (length s - n) (drop n s) (omega (arith, length-drop n s)) in rw (le-ltb (length s) n (c .before .before .before .before .before .before .if1 .left), ← all) (c .before .before .put-choice .ensures)
+returns-2 c =
+    let a = c .before .before .before .before .before .before .before .before .before .args in
+    let s = a .stocks .now in
+    let n = a .count in
+    let all = take-all (length s - n) (drop n s) (omega (arith, length-drop n s)) in
+    rw (le-ltb (length s) n (c .before .before .before .before .before .before .if1 .left), ← all) (c .before .before .put-choice .ensures)
 
 pub put-stocks-spec : {M : Type 1} → statement M
 put-stocks-spec =

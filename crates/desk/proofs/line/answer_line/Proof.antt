@@ -10,7 +10,17 @@ use Rattle.desk.proofs.line.answer_line.Tie as tie
 
 returns : tie.Need-returns
 unfolding deskAnswer
-returns c = (put-then _ _ _ (c .before .before .before .before .before .before .before .before .put-result .ensures .0) (c .before .before .put-byte .ensures), omega (arith, length-append (lineResult (c .before .before .before .before .before .before .before .before .before .before .before .before .before .before .args .line .now)) (10 ∷ []), c .before .before .before .before .before .before .before .before .put-result .ensures .1))
+returns c =
+    let put-result = c .before .before .before .before .before .before .before .before .put-result in (
+      put-then _ _ _ (put-result .ensures .0) (c .before .before .put-byte .ensures),
+      omega (
+        arith,
+        length-append
+            (lineResult (c .before .before .before .before .before .before .before .before .before .before .before .before .before .before .args .line .now))
+            (10 ∷ []),
+        put-result .ensures .1,
+      ),
+    )
 
 pub answer-line-spec : {M : Type 1} → statement M
 answer-line-spec =

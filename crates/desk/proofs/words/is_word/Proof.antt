@@ -15,19 +15,33 @@ abbrev μ-loop : tie.MeasureT-loop
 μ-loop word name i₀ i = length name - i
 
 returns : tie.Need-returns Inv-loop μ-loop
-returns c = differ (c .before .args .word .now) (c .before .args .name .now) (c .if1 .taken)
+returns c =
+    let a = c .before .args in
+    differ (a .word .now) (a .name .now) (c .if1 .taken)
 
 loop-holds : tie.Need-loop-holds Inv-loop μ-loop
 loop-holds c = (omega arith, c .if1 .left, refl)
 
 returns-2 : tie.Need-returns-2 Inv-loop μ-loop
-returns-2 c = same-stop (c .before .before .before .before .before .before .args .word .now) (c .before .before .before .before .before .before .args .name .now) (c .before .before .before .before .loop .i) (c .before .before .before .before .loop .inv .1) (c .before .before .before .before .loop .inv .2) (omega arith) (c .if2 .taken)
+returns-2 c =
+    let a = c .before .before .before .before .before .before .args in
+    let loop = c .before .before .before .before .loop in
+    same-stop (a .word .now) (a .name .now) (loop .i) (loop .inv .1) (loop .inv .2) (omega arith) (c .if2 .taken)
 
 loop-again : tie.Need-loop-again Inv-loop μ-loop
-loop-again c = (omega arith, c .before .before .before .before .loop .inv .1, same-more (c .before .before .before .before .before .before .args .word .now) (c .before .before .before .before .before .before .args .name .now) (c .before .before .before .before .loop .i) (c .before .before .before .before .loop .inv .1) (c .before .before .before .before .loop .inv .2) (omega arith) (c .if2 .left))
+loop-again c =
+    let a = c .before .before .before .before .before .before .args in
+    let loop = c .before .before .before .before .loop in (
+      omega arith,
+      loop .inv .1,
+      same-more (a .word .now) (a .name .now) (loop .i) (loop .inv .1) (loop .inv .2) (omega arith) (c .if2 .left),
+    )
 
 returns-3 : tie.Need-returns-3 Inv-loop μ-loop
-returns-3 c = same-end (c .before .before .before .args .word .now) (c .before .before .before .args .name .now) (c .before .loop .i) (c .before .loop .inv .1) (c .before .loop .inv .2) (omega arith)
+returns-3 c =
+    let a = c .before .before .before .args in
+    let loop = c .before .loop in
+    same-end (a .word .now) (a .name .now) (loop .i) (loop .inv .1) (loop .inv .2) (omega arith)
 
 pub is-word-spec : {M : Type 1} → statement M
 is-word-spec =

@@ -14,13 +14,23 @@ use Rattle.desk.proofs.words.read_numbers.Statement.{statement}
 use Rattle.desk.proofs.words.read_numbers.Tie as tie
 
 abbrev Inv-loop : tie.InvT-loop
-Inv-loop line numbers₀ count₀ at₀ numbers count at = (at ≤ length line + 1) × (count + count ≤ at) × (length numbers ≡ length numbers₀) × (allGood (fieldsOf (rest line at)) ≡ allGood (fieldsOf (words line))) × (take count numbers ++ valuesOf (fieldsOf (rest line at)) ≡ valuesOf (fieldsOf (words line)))
+Inv-loop line numbers₀ count₀ at₀ numbers count at =
+    (at ≤ length line + 1) × (count + count ≤ at) × (length numbers ≡ length numbers₀)
+    × (allGood (fieldsOf (rest line at)) ≡ allGood (fieldsOf (words line)))
+    × (take count numbers ++ valuesOf (fieldsOf (rest line at)) ≡ valuesOf (fieldsOf (words line)))
 
 abbrev μ-loop : tie.MeasureT-loop
 μ-loop line numbers₀ count₀ at₀ numbers count at = length line + 1 - at
 
 loop-holds : tie.Need-loop-holds Inv-loop μ-loop
-loop-holds c = let line = c .before .before .args .line .now in (omega arith, omega arith, refl, ap (λ (ws : List (List ℕ)). allGood (fieldsOf ws)) (rest-all line), ap (λ (ws : List (List ℕ)). valuesOf (fieldsOf ws)) (rest-all line))
+loop-holds c =
+    let line = c .before .before .args .line .now in (
+      omega arith,
+      omega arith,
+      refl,
+      ap (λ (ws : List (List ℕ)). allGood (fieldsOf ws)) (rest-all line),
+      ap (λ (ws : List (List ℕ)). valuesOf (fieldsOf ws)) (rest-all line),
+    )
 
 length-before-requires : tie.Need-length-before-requires Inv-loop μ-loop
 length-before-requires c κs = tt
@@ -29,13 +39,43 @@ number-in-requires : tie.Need-number-in-requires Inv-loop μ-loop
 number-in-requires c κs = tt
 
 returns : tie.Need-returns Inv-loop μ-loop
-returns c = record { good-is = read-bad (c .before .before .before .before .before .before .before .before .before .before .args .line .now) (c .before .before .before .before .before .before .before .loop .at) (c .before .before .before .before .length-before .result) (c .before .before .number-in .result) (omega arith) (c .before .before .before .before .length-before .ensures .0) (c .before .before .number-in .ensures) _ (c .if1 .taken) (c .before .before .before .before .before .before .before .loop .inv .3); room = omega arith; values = λ e. absurd (true≢false (sym e)) }
+returns c =
+    let line = c .before .before .before .before .before .before .before .before .before .before .args .line .now in
+    let loop = c .before .before .before .before .before .before .before .loop in
+    let blank = c .before .before .before .before .length-before in
+    let word = c .before .before .number-in in
+    record {
+      good-is = read-bad line (loop .at) (blank .result) (word .result) (omega arith) (blank .ensures .0) (word .ensures) _ (c .if1 .taken) (loop .inv .3);
+      room = omega arith;
+      values = λ e. absurd (true≢false (sym e));
+    }
 
 loop-again : tie.Need-loop-again Inv-loop μ-loop
-loop-again c = let some = read-some (c .before .before .before .before .before .before .before .before .before .before .args .line .now) (c .before .before .before .before .before .before .before .loop .at) (c .before .before .before .before .length-before .result) (c .before .before .number-in .result) (omega arith) (c .before .before .before .before .length-before .ensures .0) (c .before .before .number-in .ensures) (c .if1 .left) in (omega arith, omega arith, simp length-set (omega arith), read-good (c .before .before .before .before .before .before .before .before .before .before .args .line .now) (c .before .before .before .before .before .before .before .loop .at) (c .before .before .before .before .length-before .result) (c .before .before .number-in .result) (omega arith) (c .before .before .before .before .length-before .ensures .0) (c .before .before .number-in .ensures) _ (c .if1 .left) (c .before .before .before .before .before .before .before .loop .inv .3), read-more (c .before .before .before .before .before .before .before .before .before .before .args .line .now) (c .before .before .before .before .before .before .before .loop .at) (c .before .before .before .before .length-before .result) (c .before .before .number-in .result) (omega arith) (c .before .before .before .before .length-before .ensures .0) (c .before .before .number-in .ensures) (c .before .before .before .before .before .before .before .loop .numbers) _ (c .before .before .before .before .before .before .before .loop .count) (omega arith) (c .before .before .before .before .before .before .before .loop .inv .4))
+loop-again c =
+    let a = c .before .before .before .before .before .before .before .before .before .before .args in
+    let loop = c .before .before .before .before .before .before .before .loop in
+    let blank = c .before .before .before .before .length-before in
+    let word = c .before .before .number-in in
+    let some = read-some (a .line .now) (loop .at) (blank .result) (word .result) (omega arith) (blank .ensures .0) (word .ensures)
+    (c .if1 .left) in (
+      omega arith,
+      omega arith,
+      simp length-set (omega arith),
+      read-good (a .line .now) (loop .at) (blank .result) (word .result) (omega arith) (blank .ensures .0) (word .ensures) _ (c .if1 .left)
+          (loop .inv .3),
+      read-more (a .line .now) (loop .at) (blank .result) (word .result) (omega arith) (blank .ensures .0) (word .ensures) (loop .numbers) _
+          (loop .count) (omega arith) (loop .inv .4),
+    )
 
 returns-2 : tie.Need-returns-2 Inv-loop μ-loop
-returns-2 c = let line = c .before .before .before .before .args .line .now in record { good-is = good-end line (c .before .loop .at) _ (omega arith) (c .before .loop .inv .3); room = omega arith; values = λ e. values-end line (c .before .loop .at) _ _ (omega arith) (c .before .loop .inv .4) }
+returns-2 c =
+    let loop = c .before .loop in
+    let line = c .before .before .before .before .args .line .now in
+    record {
+      good-is = good-end line (loop .at) _ (omega arith) (loop .inv .3);
+      room = omega arith;
+      values = λ e. values-end line (loop .at) _ _ (omega arith) (loop .inv .4);
+    }
 
 pub read-numbers-spec : {M : Type 1} → statement M
 read-numbers-spec =
