@@ -30,8 +30,8 @@ use Rattle.rounding.specs.declared.Verdict.the-variants as Verdict
 use Rattle.rounding.specs.Calls.{highCall, lowCall, verdictCall}
 use Rattle.stock.specs.Stock.{stockedSize, booksOf, bothStocks, isLeast, firstOf, bestOf, askStocks, chooseNo, chosen}
 use Rattle.stock.proofs.Meaning.{choice}
-use Rattle.desk.specs.declared.CallName.{CallName}
-use Rattle.desk.specs.declared.CallName.the-variants as CallName
+use Rattle.desk.specs.declared.words.CallName.{CallName}
+use Rattle.desk.specs.declared.words.CallName.the-variants as CallName
 use Rattle.desk.specs.Desk.{refusalText, malformedText, signedText, highText, lowText, verdictText, partText, chooseText, highResult, lowResult, verdictResult, stocksText, chooseResult, callResult}
 
 -- ---- numbers of 32 bits in a list, in a part of it, and in a book

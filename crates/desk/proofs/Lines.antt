@@ -11,8 +11,8 @@ use lib.Seq.{take-all}
 use Rattle.lists.specs.Lists.{every, lengthBefore}
 use Rattle.syntax.specs.Line.{words, allGood, valuesOf}
 use Rattle.syntax.proofs.Words.{rest, rest-end, words-first}
-use Rattle.desk.specs.declared.CallName.{CallName}
-use Rattle.desk.specs.declared.CallName.the-variants as CallName
+use Rattle.desk.specs.declared.words.CallName.{CallName}
+use Rattle.desk.specs.declared.words.CallName.the-variants as CallName
 use Rattle.desk.specs.declared.words.WordsRead.{WordsRead}
 use Rattle.desk.specs.Numbers.{ReadsNumbers}
 use Rattle.desk.specs.Desk.{callNamed, fieldsOf, malformedText, highResult, lowResult, verdictResult, chooseResult, callResult, longestLine, wordsResult, lineResult}

@@ -19,8 +19,8 @@ use Rattle.rounding.specs.declared.Verdict.the-variants as Verdict
 use Rattle.rounding.specs.Calls.{highCall, lowCall, verdictCall}
 use Rattle.stock.specs.Stock.{chooseNo, chosen}
 use Rattle.syntax.specs.Line.{words, allGood, valuesOf}
-use Rattle.desk.specs.declared.CallName.{CallName}
-use Rattle.desk.specs.declared.CallName.the-variants as CallName
+use Rattle.desk.specs.declared.words.CallName.{CallName}
+use Rattle.desk.specs.declared.words.CallName.the-variants as CallName
 
 -- ---- Words
 
@@ -157,6 +157,6 @@ answerTo number line = deskAnswer line
 abbrev pub mostNumbers : ℕ
 mostNumbers = 524288
 
--- no output line is longer: 1 + 3 × 1,320 numbers of ten digits, a blank or the line end behind each, and a byte
+-- no output line is longer: 1 + 3 × 1,320 numbers of ten digits, a blank each, and the line end
 abbrev pub longestAnswer : ℕ
 longestAnswer = 43572

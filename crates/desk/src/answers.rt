@@ -14,7 +14,7 @@ use stream::Stream;
 use stream::is_left;
 use stream::next_line;
 
-// No output line is longer: that of the largest book, 3,961 numbers of ten digits and a blank or the line end behind each.
+// No output line is longer: 3,961 numbers of ten digits, a blank each, and the line end.
 const LONGEST_ANSWER: usize = 43572;
 
 // How many bytes of a part have been used, where the input stands after them, and how many bytes wait to be written.

@@ -3,7 +3,7 @@ ghost use mathlib.Core.Path.{_≡_};
 ghost use lib.IntN.{natAbs};
 ghost use Rattle.text.specs.Text.{textAt, puts};
 ghost use Rattle.desk.specs.Desk.{refusalText, malformedText, signedText, highResult, lowResult, verdictResult, partText, chooseText, stocksText, chooseResult, callResult};
-use crate::CallName;
+use crate::words::CallName;
 use rounding::High;
 use rounding::Low;
 use rounding::Verdict;

@@ -5,8 +5,9 @@
 // `choose SET KIND N LAST COUNT FIRST.. SECOND..`, where COUNT numbers belong to the first stock and the rest to the second. Its output
 // line is the part, the verdict or the chosen book's numbers, or `!` and the refusal; `!12` for a malformed line.
 //
-// Proved: the answers to a part that were written are those of its lines, and theorem DeskAnswersEachLine of parts of any size. That
-// reads and writes move the bytes that they say is the libraries' contract.
+// Proved: the bytes that wait to be written are the answers to the lines that have ended (`answer_some`, `put_last`), and a part leaves
+// the input where the calls of theorem DeskAnswersEachLine leave it (`answer_part`). Reading and writing are proved safe, and no more: a
+// contract cannot say what the system read or wrote.
 mod answers;
 mod calls;
 mod line;
@@ -34,15 +35,6 @@ const KEPT: usize = 1048577;
 
 // The most numbers of a line: each has a digit at least, and a blank before it.
 const MOST_NUMBERS: usize = 524288;
-
-// A call, by the first word of its line.
-pub enum CallName {
-    HighPart,
-    LowPart,
-    BoundVerdict,
-    Choose,
-    Unknown,
-}
 
 // Where an input stands: whether to read on, and whether every read and write so far has been done.
 struct InputState {

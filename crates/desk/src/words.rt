@@ -5,9 +5,17 @@ ghost use lib.ListN.{length};
 ghost use Rattle.syntax.specs.Line.{words};
 ghost use Rattle.desk.specs.Desk.{sameWord, callNamed};
 ghost use Rattle.desk.specs.Numbers.{ReadsNumbers};
-use crate::CallName;
 use lists::length_before;
 use text::number_in;
+
+// A call, by the first word of its line.
+pub enum CallName {
+    HighPart,
+    LowPart,
+    BoundVerdict,
+    Choose,
+    Unknown,
+}
 
 // The words that have been read as numbers: whether each was one, and how many there are.
 pub struct WordsRead {
