@@ -7,8 +7,7 @@ use lib.ListN.{length, take}
 use Rattle.lines.proofs.Cut.{cut-line}
 use Rattle.stream.proofs.Parts.{writes-the-output}
 use Rattle.lines.specs.Plain.{lineAnswer}
-use Rattle.line_program.specs.Waiting.{keptLength}
-use Rattle.line_program.specs.Theorems.{AnswersEachLine}
+use Rattle.line_program.specs.Theorems.{keptLength, AnswersEachLine}
 
 -- an answer looks at no more than the first 1,025 bytes of a line
 cut-bytes : (kept : List ℕ) → length kept ≡ keptLength → (k : ℕ) (line : List ℕ) → lineAnswer k (take (length kept) line) ≡ lineAnswer k line

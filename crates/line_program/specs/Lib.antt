@@ -1,3 +1,2 @@
 -- What the program writes for a line and for an input.
-pub mod Waiting
 pub mod Theorems

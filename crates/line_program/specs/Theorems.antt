@@ -6,7 +6,10 @@ use lib.ListN.{length}
 use Rattle.stream.specs.Input.{linesOf, outputOf}
 use Rattle.stream.specs.Theorems.{concatenated, writtenFor}
 use Rattle.lines.specs.Plain.{lineAnswer}
-use Rattle.line_program.specs.Waiting.{keptLength}
+
+-- one byte more than a line may have, so that one that is too long is seen to be
+abbrev pub keptLength : ℕ
+keptLength = 1025
 
 -- WritesTheOutput for the program's own answers, over a slice of the length that it uses
 abbrev pub AnswersEachLine : Type 0

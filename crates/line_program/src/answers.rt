@@ -6,8 +6,8 @@ ghost use Prim.Native.Nat.{_+_, _≤_, _<_};
 ghost use lib.ListN.{length, take, drop};
 ghost use Rattle.stream.specs.Stream.{atLine, heldOf, nextLine, isLeft};
 ghost use Rattle.stream.specs.Theorems.{afterCall};
+ghost use Rattle.stream.specs.Waiting.{standing, allCalls};
 ghost use Rattle.lines.specs.Plain.{lineAnswer};
-ghost use Rattle.line_program.specs.Waiting.{standing, allCalls};
 use lines::answer_line;
 use lists::least;
 use stream::Stream;
@@ -58,8 +58,8 @@ fn answer_call(
 // Answers the lines that end in a part until it is used up or the slice may lack room for one more. The slice is main's large buffer.
 pub fn answer_some(stream: Stream, kept: &mut [u8], bytes: &[u8], out: &mut [u8]) -> Answered
     requires { ⌜ 112 ≤ length (now out) ⌝ }
-    ensures { λ r. ⌜ allCalls (standing (r .stream) (now (kept .exit)) (now (out .exit)) (r .waiting)) (drop (r .used) (now (bytes .entry)))
-        ≡ allCalls (standing stream (now (kept .entry)) (now (out .entry)) 0) (now (bytes .entry)) ⌝ }
+    ensures { λ r. ⌜ allCalls lineAnswer (standing (r .stream) (now (kept .exit)) (now (out .exit)) (r .waiting)) (drop (r .used) (now (bytes .entry)))
+        ≡ allCalls lineAnswer (standing stream (now (kept .entry)) (now (out .entry)) 0) (now (bytes .entry)) ⌝ }
     ensures { λ r. ⌜ r .used ≤ length (now (bytes .entry)) ⌝ }
     ensures { λ r. ⌜ (0 < length (now (bytes .entry)) → 0 < r .used) ⌝ }
     ensures { λ r. ⌜ r .waiting ≤ length (now (out .entry)) ⌝ }

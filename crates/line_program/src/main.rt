@@ -7,7 +7,9 @@ ghost use mathlib.Core.Bool.{true};
 ghost use mathlib.Core.List.{[]};
 ghost use Prim.Native.Nat.{_≤_};
 ghost use lib.ListN.{length};
-ghost use Rattle.line_program.specs.Waiting.{standing, flushed, keptLength, allCalls};
+ghost use Rattle.stream.specs.Waiting.{standing, flushed, allCalls};
+ghost use Rattle.lines.specs.Plain.{lineAnswer};
+ghost use Rattle.line_program.specs.Theorems.{keptLength};
 use answers::answer_some;
 use answers::put_last;
 use stream::Stream;
@@ -40,7 +42,7 @@ fn write_out(bytes: &[u8]) -> bool {
 fn answer_part(stream: Stream, kept: &mut [u8], bytes: &[u8], out: &mut [u8]) -> InputState
     requires { ⌜ length (now kept) ≡ keptLength ⌝ }
     requires { ⌜ 112 ≤ length (now out) ⌝ }
-    ensures { λ r. ⌜ (r .good ≡ true → standing (r .stream) (now (kept .exit)) [] 0 ≡ flushed (allCalls (standing stream (now (kept .entry)) [] 0) (now (bytes .entry)))) ⌝ }
+    ensures { λ r. ⌜ (r .good ≡ true → standing (r .stream) (now (kept .exit)) [] 0 ≡ flushed (allCalls lineAnswer (standing stream (now (kept .entry)) [] 0) (now (bytes .entry)))) ⌝ }
 {
     let mut here = stream;
     let mut good = true;

@@ -5,4 +5,6 @@ pub mod Splitting
 pub mod Onto
 pub mod Parts
 pub mod Calls
+pub mod Waiting
+pub mod Flushing
 pub mod Samples

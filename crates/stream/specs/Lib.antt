@@ -1,4 +1,5 @@
--- The lines of an input, how the code goes through an input in parts, and the theorem that joins the two.
+-- The lines of an input, how the code goes through an input in parts, the theorem that joins the two, and answers that wait.
 pub mod Input
 pub mod Stream
 pub mod Theorems
+pub mod Waiting

@@ -7,16 +7,17 @@ use native.Mathlib.Omega.{arith}
 use borrow.Author.Needs.{needs}
 use lib.ListN.{length, drop}
 use lib.Seq.{length-take-le}
-use Rattle.line_program.specs.Waiting.{standing, flushed, allCalls}
-use Rattle.line_program.proofs.Waiting.{length-rest}
-use Rattle.line_program.proofs.Flushing.{part-on, part-done}
+use Rattle.stream.specs.Waiting.{standing, flushed, allCalls}
+use Rattle.stream.proofs.Waiting.{length-rest}
+use Rattle.stream.proofs.Flushing.{part-on, part-done}
+use Rattle.lines.specs.Plain.{lineAnswer}
 use Rattle.line_program.proofs.answer_part.Statement.{statement}
 use Rattle.line_program.proofs.answer_part.Tie as tie
 
 abbrev Inv-loop : tie.InvT-loop
 Inv-loop kept₀ bytes out₀ here₀ good₀ at₀ kept out here good at =
     (at ≤ length bytes) × (length kept ≡ length kept₀) × (length out ≡ length out₀)
-    × (flushed (allCalls (standing here kept [] 0) (drop at bytes)) ≡ flushed (allCalls (standing here₀ kept₀ [] 0) bytes))
+    × (flushed (allCalls lineAnswer (standing here kept [] 0) (drop at bytes)) ≡ flushed (allCalls lineAnswer (standing here₀ kept₀ [] 0) bytes))
 
 abbrev μ-loop : tie.MeasureT-loop
 μ-loop kept₀ bytes out₀ here₀ good₀ at₀ kept out here good at = length bytes - at
@@ -51,7 +52,7 @@ loop-again c =
       omega (arith, length-rest bytes (loop .at), answer-some .ensures .1 .0),
       search needs,
       search needs,
-      part-on (loop .here) (answer-some .result .stream) (loop .kept) _ bytes _ (loop .at) (answer-some .result .used) (answer-some .result .waiting) _ (answer-some .ensures .0) (loop .inv .3),
+      part-on lineAnswer (loop .here) (answer-some .result .stream) (loop .kept) _ bytes _ (loop .at) (answer-some .result .used) (answer-some .result .waiting) _ (answer-some .ensures .0) (loop .inv .3),
     )
 
 returns : tie.Need-returns Inv-loop μ-loop
@@ -59,7 +60,7 @@ returns c = λ e. absurd (true≢false (sym e ∙ c .if1 .left))
 
 returns-2 : tie.Need-returns-2 Inv-loop μ-loop
 returns-2 c =
-    λ _. part-done (c .before .loop .here) (c .before .loop .kept) (c .before .before .before .before .before .args .bytes .now) (c .before .loop .at) _ (omega arith) (c .before .loop .inv .3)
+    λ _. part-done lineAnswer (c .before .loop .here) (c .before .loop .kept) (c .before .before .before .before .before .args .bytes .now) (c .before .loop .at) _ (omega arith) (c .before .loop .inv .3)
 
 pub answer-part-spec : {M : Type 1} → statement M
 answer-part-spec =

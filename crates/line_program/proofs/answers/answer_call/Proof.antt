@@ -6,13 +6,15 @@ use mathlib.Core.Path.{sym, ap}
 use native.Mathlib.Omega.{arith}
 use lib.Seq.{length-take-le}
 use Rattle.stream.specs.declared.Step.{Step}
-use Rattle.line_program.proofs.Waiting.{held-in, called-open, called-ended, put-within}
+use Rattle.stream.proofs.Waiting.{held-in, called-open, called-ended}
+use Rattle.text.proofs.Puts.{front-put, within-put, length-put}
+use Rattle.lines.specs.Plain.{lineAnswer}
 
 returns : tie.Need-returns
 returns c =
     let a = c .before .before .before .before .before .before .before .before .before .before .args in
     let step = c .before .before .before .before .before .next-line in (
-      called-open (a .stream) (a .kept .now) (a .bytes .now) (step .result) (step .ensures .0) (a .out .now) _ (a .waiting) (step .ensures .1) (c .if1 .taken),
+      called-open (a .stream) (a .kept .now) (a .bytes .now) (step .result) (step .ensures .0) lineAnswer (a .out .now) _ (a .waiting) (step .ensures .1) (c .if1 .taken),
       (ap (λ (x : Step). x .used) (step .ensures .0), omega arith),
     )
 
@@ -34,9 +36,10 @@ returns-2 c =
     let a = c .before .before .before .before .before .before .before .before .before .before .before .before .before .before .before .args in
     let step = c .before .before .before .before .before .before .before .before .before .before .next-line in
     let line = c .before .before .answer-line in (
-      called-ended (a .stream) (a .kept .now) (a .bytes .now) (step .result) (step .ensures .0) (a .out .now) _ (a .waiting) (step .ensures .1)
-          (line .result) _ (c .before .before .before .before .before .if1 .left) (line .ensures .0) (line .ensures .1) (p),
-      (ap (λ (x : Step). x .used) (step .ensures .0), put-within (a .out .now) _ (a .waiting) (line .result) _ (line .ensures .0) (omega (arith, p))),
+      called-ended (a .stream) (a .kept .now) (a .bytes .now) (step .result) (step .ensures .0) lineAnswer (a .out .now) _ (a .waiting) (step .ensures .1)
+          (line .result) _ (c .before .before .before .before .before .if1 .left)
+          (front-put (a .out .now) (a .waiting) _ _ (line .result) (line .ensures .0) (omega (arith, line .ensures .1, p))),
+      (ap (λ (x : Step). x .used) (step .ensures .0), omega (arith, within-put (a .out .now) (a .waiting) _ _ (line .result) (line .ensures .0) (omega (arith, p)), length-put (a .out .now) (a .waiting) _ _ (line .result) (line .ensures .0))),
     )
 
 pub answer-call-spec : {M : Type 1} → statement M

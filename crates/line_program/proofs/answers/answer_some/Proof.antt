@@ -5,15 +5,16 @@ use native.Mathlib.Omega.{arith}
 use borrow.Author.Needs.{needs}
 use borrow.Author.Tests.{leb-true, leb-false}
 use lib.ListN.{length, drop}
-use Rattle.line_program.specs.Waiting.{standing, allCalls}
-use Rattle.line_program.proofs.Waiting.{more-used, used-in, calls-on}
+use Rattle.stream.specs.Waiting.{standing, allCalls}
+use Rattle.stream.proofs.Waiting.{more-used, used-in, calls-on}
+use Rattle.lines.specs.Plain.{lineAnswer}
 use Rattle.line_program.proofs.answers.answer_some.Statement.{statement}
 use Rattle.line_program.proofs.answers.answer_some.Tie as tie
 
 abbrev Inv-loop : tie.InvT-loop
 Inv-loop kept₀ bytes out₀ most used₀ here₀ waiting₀ kept out used here waiting =
     (used ≤ length bytes) × (waiting ≤ length out₀) × (length kept ≡ length kept₀) × (length out ≡ length out₀) × (min waiting 1 ≤ used) × (most + 112 ≡ length out₀)
-    × (allCalls (standing here kept out waiting) (drop used bytes) ≡ allCalls (standing here₀ kept₀ out₀ 0) bytes)
+    × (allCalls lineAnswer (standing here kept out waiting) (drop used bytes) ≡ allCalls lineAnswer (standing here₀ kept₀ out₀ 0) bytes)
 
 abbrev μ-loop : tie.MeasureT-loop
 μ-loop kept₀ bytes out₀ most used₀ here₀ waiting₀ kept out used here waiting = length bytes - used
@@ -54,7 +55,7 @@ loop-again c =
       search needs,
       omega arith,
       omega arith,
-      calls-on (loop .here) (loop .kept) bytes (loop .used) (call .result .used) (omega arith) (call .ensures .1 .0) (loop .out) (loop .waiting) _ _ (call .ensures .0) (loop .inv .6),
+      calls-on (loop .here) (loop .kept) bytes (loop .used) (call .result .used) (omega arith) (call .ensures .1 .0) lineAnswer (loop .out) (loop .waiting) _ _ (call .ensures .0) (loop .inv .6),
     )
 
 returns : tie.Need-returns Inv-loop μ-loop

@@ -5,7 +5,9 @@ use Rattle.line_program.proofs.answers.put_last.Tie as tie
 use mathlib.Core.Path.{sym}
 use native.Mathlib.Omega.{arith}
 use lib.Seq.{length-take-le}
-use Rattle.line_program.proofs.Waiting.{last-none, last-some, put-within}
+use Rattle.stream.proofs.Waiting.{last-none, last-some}
+use Rattle.text.proofs.Puts.{front-put, within-put, length-put}
+use Rattle.lines.specs.Plain.{lineAnswer}
 
 returns : tie.Need-returns
 returns c = (last-none _ (c .before .is-left .result) _ (c .before .is-left .ensures) (c .if1 .taken), omega arith)
@@ -19,9 +21,9 @@ returns-2 c =
     let left = c .before .before .before .before .before .before .before .is-left in
     let least = c .before .before .before .before .before .least in
     let line = c .before .before .answer-line in (
-      last-some (a .stream) (a .kept .now) (a .out .now) _ (left .result) (least .result) (line .result) (left .ensures) (c .before .before .before .before .before .before .if1 .left)
-          (least .ensures .0) (line .ensures .0) (line .ensures .1) (c .before .before .before .before .before .before .before .before .before .before .pre),
-      put-within (a .out .now) _ 0 (line .result) _ (line .ensures .0) (omega arith),
+      last-some lineAnswer (a .stream) (a .kept .now) _ (left .result) (least .result) (left .ensures) (c .before .before .before .before .before .before .if1 .left)
+          (least .ensures .0) (front-put (a .out .now) 0 _ _ (line .result) (line .ensures .0) (omega (arith, line .ensures .1))),
+      omega (arith, within-put (a .out .now) 0 _ _ (line .result) (line .ensures .0) (omega arith), length-put (a .out .now) 0 _ _ (line .result) (line .ensures .0)),
     )
 
 pub put-last-spec : {M : Type 1} → statement M

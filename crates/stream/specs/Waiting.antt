@@ -2,11 +2,10 @@
 use Prim.Native.Nat.{ℕ}
 use mathlib.Core.List.{List, []}
 use lib.ListN.{length, take}
 use Rattle.stream.specs.declared.Stream.{Stream}
 use Rattle.stream.specs.Theorems.{State, afterCalls}
-use Rattle.lines.specs.Plain.{lineAnswer}
 
--- where the program stands since the last write: the first bytes of `out` wait
+-- where a program stands since the last write: the first bytes of `out` wait
 abbrev pub standing : Stream → List ℕ → List ℕ → ℕ → State
 standing s kept out waiting = record { stream = s; kept = kept; written = take waiting out }
 
@@ -14,10 +13,6 @@ standing s kept out waiting = record { stream = s; kept = kept; written = take w
 abbrev pub flushed : State → State
 flushed a = record { stream = a .stream; kept = a .kept; written = [] }
 
--- one byte more than a line may have, so that one that is too long is seen to be
-abbrev pub keptLength : ℕ
-keptLength = 1025
-
 -- after all calls of a part
-abbrev pub allCalls : State → List ℕ → State
-allCalls a bytes = afterCalls lineAnswer (length bytes) a bytes
+abbrev pub allCalls : (ℕ → List ℕ → List ℕ) → State → List ℕ → State
+allCalls answer a bytes = afterCalls answer (length bytes) a bytes

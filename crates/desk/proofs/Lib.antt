@@ -1,0 +1,7 @@
+-- The laws of a line and of its answer.
+pub mod Signed
+pub mod Putting
+pub mod Numbers
+pub mod Lines
+pub mod Lengths
+pub mod Program

@@ -1,0 +1,162 @@
+-- The output line for an input line: the call that its first word names, made with the numbers behind it.
+use Prim.Native.Nat.{ℕ, suc, _-_}
+use mathlib.Core.Bool.{Bool, true, false, cond}
+use mathlib.Core.List.{List, [], _∷_, _++_, map}
+use lib.Dec.{eqb, leb, ltb}
+use lib.IntN.{ℤ, pos, negsuc}
+use lib.ListN.{length, getD, take, drop}
+use Rattle.text.specs.Decimal.{numberIn}
+use Rattle.text.specs.Text.{decimal, numbersText}
+use Rattle.text.specs.declared.ReadNumber.{ReadNumber}
+use Rattle.settings.specs.declared.Shape.{Shape}
+use Rattle.settings.specs.Sizes.{keyCount}
+use Rattle.rounding.specs.declared.High.{High}
+use Rattle.rounding.specs.declared.High.the-variants as High
+use Rattle.rounding.specs.declared.Low.{Low}
+use Rattle.rounding.specs.declared.Low.the-variants as Low
+use Rattle.rounding.specs.declared.Verdict.{Verdict}
+use Rattle.rounding.specs.declared.Verdict.the-variants as Verdict
+use Rattle.rounding.specs.Calls.{highCall, lowCall, verdictCall}
+use Rattle.stock.specs.Stock.{chooseNo, chosen}
+use Rattle.syntax.specs.Line.{words, allGood, valuesOf}
+use Rattle.desk.specs.declared.words.CallName.{CallName}
+use Rattle.desk.specs.declared.words.CallName.the-variants as CallName
+
+-- ---- Words
+
+-- `high`, `low`, `verdict`, `choose`
+abbrev pub highWord : List ℕ
+highWord = 104 ∷ 105 ∷ 103 ∷ 104 ∷ []
+
+abbrev pub lowWord : List ℕ
+lowWord = 108 ∷ 111 ∷ 119 ∷ []
+
+abbrev pub verdictWord : List ℕ
+verdictWord = 118 ∷ 101 ∷ 114 ∷ 100 ∷ 105 ∷ 99 ∷ 116 ∷ []
+
+abbrev pub chooseWord : List ℕ
+chooseWord = 99 ∷ 104 ∷ 111 ∷ 111 ∷ 115 ∷ 101 ∷ []
+
+-- are two words equal, byte for byte?
+unfoldable pub sameWord : List ℕ → List ℕ → Bool
+sameWord [] [] = true
+sameWord [] (y ∷ ys) = false
+sameWord (x ∷ xs) [] = false
+sameWord (x ∷ xs) (y ∷ ys) = cond (eqb x y) (sameWord xs ys) false
+
+-- the call that the first word of a line names
+unfoldable pub callNamed : List ℕ → CallName
+callNamed w =
+    cond (sameWord w highWord) CallName.HighPart
+    (cond (sameWord w lowWord) CallName.LowPart
+    (cond (sameWord w verdictWord) CallName.BoundVerdict
+    (cond (sameWord w chooseWord) CallName.Choose
+    CallName.Unknown)))
+
+-- the words behind it, each read as a number
+abbrev pub fieldsOf : List (List ℕ) → List ReadNumber
+fieldsOf ws = map numberIn ws
+
+-- ---- Results
+
+-- `!` and the refusal
+unfoldable pub refusalText : ℕ → List ℕ
+refusalText refused = 33 ∷ decimal refused
+
+-- a malformed line: `!12`
+abbrev pub malformedText : List ℕ
+malformedText = refusalText 12
+
+-- a signed number: `-` in front of a negative one
+unfoldable pub signedText : ℤ → List ℕ
+signedText (pos n) = decimal n
+signedText (negsuc n) = 45 ∷ decimal (suc n)
+
+-- a high part, a low part, a verdict, or the refusal
+unfoldable pub highText : High → List ℕ
+highText (High.Part part) = decimal part
+highText (High.No refused) = refusalText refused
+
+unfoldable pub lowText : Low → List ℕ
+lowText (Low.Part part) = signedText part
+lowText (Low.No refused) = refusalText refused
+
+unfoldable pub verdictText : Verdict → List ℕ
+verdictText (Verdict.Is verdict) = decimal verdict
+verdictText (Verdict.No refused) = refusalText refused
+
+-- the numbers of a part, one blank between
+unfoldable pub partText : List ℕ → List ℕ
+partText [] = []
+partText (n ∷ ns) = decimal n ++ numbersText ns
+
+-- the chosen part, or the refusal
+unfoldable pub chooseText : Shape → List ℕ → List ℕ → ℕ → List ℕ
+chooseText shape first second last =
+    cond (eqb (chooseNo keyCount shape first second last) 0)
+    (partText (chosen keyCount shape first second last))
+    (refusalText (chooseNo keyCount shape first second last))
+
+-- ---- Calls
+
+-- `high SET W`
+unfoldable pub highResult : List ℕ → List ℕ
+highResult ns = cond (eqb (length ns) 2) (highText (highCall (getD ns 0 0) (getD ns 1 0))) malformedText
+
+-- `low SET W`
+unfoldable pub lowResult : List ℕ → List ℕ
+lowResult ns = cond (eqb (length ns) 2) (lowText (lowCall (getD ns 0 0) (getD ns 1 0))) malformedText
+
+-- `verdict SET B W..`
+unfoldable pub verdictResult : List ℕ → List ℕ
+verdictResult ns = cond (ltb (length ns) 2) malformedText (verdictText (verdictCall (getD ns 0 0) (getD ns 1 0) (drop 2 ns)))
+
+-- the first `count` numbers are the first stock, the others the second; there must be so many
+unfoldable pub stocksText : Shape → ℕ → ℕ → List ℕ → List ℕ
+stocksText shape last count stocks =
+    cond (ltb (length stocks) count) malformedText (chooseText shape (take count stocks) (drop count stocks) last)
+
+-- `choose SET KIND N LAST COUNT FIRST.. SECOND..`
+unfoldable pub chooseResult : List ℕ → List ℕ
+chooseResult ns =
+    cond (ltb (length ns) 5) malformedText
+    (stocksText (record { set = getD ns 0 0; kind = getD ns 1 0; n = getD ns 2 0 }) (getD ns 3 0) (getD ns 4 0) (drop 5 ns))
+
+-- the call that is named, made with the numbers
+unfoldable pub callResult : CallName → List ℕ → List ℕ
+callResult CallName.HighPart ns = highResult ns
+callResult CallName.LowPart ns = lowResult ns
+callResult CallName.BoundVerdict ns = verdictResult ns
+callResult CallName.Choose ns = chooseResult ns
+callResult CallName.Unknown ns = malformedText
+
+-- ---- Lines
+
+-- the most bytes of a line, without its line end
+abbrev pub longestLine : ℕ
+longestLine = 1048576
+
+-- a line by its words: the name of a call, and numbers alone behind it
+unfoldable pub wordsResult : List (List ℕ) → List ℕ
+wordsResult [] = malformedText
+wordsResult (w ∷ ws) = cond (allGood (fieldsOf ws)) (callResult (callNamed w) (valuesOf (fieldsOf ws))) malformedText
+
+-- what stands before the line end
+unfoldable pub lineResult : List ℕ → List ℕ
+lineResult line = cond (ltb longestLine (length line)) malformedText (wordsResult (words line))
+
+-- the output line for an input line without its line end; byte 10 ends it
+unfoldable pub deskAnswer : List ℕ → List ℕ
+deskAnswer line = lineResult line ++ 10 ∷ []
+
+-- the same, given the line's number too, which changes nothing
+abbrev pub answerTo : ℕ → List ℕ → List ℕ
+answerTo number line = deskAnswer line
+
+-- the most numbers of a line: each has a digit at least, and a blank before it
+abbrev pub mostNumbers : ℕ
+mostNumbers = 524288
+
+-- no output line is longer: 1 + 3 × 1,320 numbers of ten digits, a blank each, and the line end
+abbrev pub longestAnswer : ℕ
+longestAnswer = 43572

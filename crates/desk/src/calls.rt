@@ -1,0 +1,180 @@
+// The calls of a line, and the text of what they give: put into a lent slice behind what stands there.
+ghost use mathlib.Core.Path.{_≡_};
+ghost use lib.IntN.{natAbs};
+ghost use Rattle.text.specs.Text.{textAt, puts};
+ghost use Rattle.desk.specs.Desk.{refusalText, malformedText, signedText, highResult, lowResult, verdictResult, partText, chooseText, stocksText, chooseResult, callResult};
+use crate::words::CallName;
+use rounding::High;
+use rounding::Low;
+use rounding::Verdict;
+use rounding::bound_verdict;
+use rounding::high_part;
+use rounding::low_part;
+use settings::FIELDS;
+use settings::Shape;
+use stock::choose;
+use stock::choose_no;
+use text::put_byte;
+use text::put_number;
+use text::put_numbers;
+
+// ---- Results
+
+// `!` and the refusal.
+fn put_refusal(out: &mut [u8], at: usize, no: u32) -> usize
+    ensures { λ r. ⌜ textAt (now (out .exit)) r ≡ puts (textAt (now (out .entry)) at) (refusalText no) ⌝ }
+{
+    let next = put_byte(out, at, b'!');
+    put_number(out, next, no as u64)
+}
+
+// The result of a malformed line.
+pub fn put_malformed(out: &mut [u8], at: usize) -> usize
+    ensures { λ r. ⌜ textAt (now (out .exit)) r ≡ puts (textAt (now (out .entry)) at) malformedText ⌝ }
+{
+    put_refusal(out, at, FIELDS)
+}
+
+// The size of a signed number.
+fn magnitude(value: i32) -> u64
+    ensures { λ r. ⌜ r ≡ natAbs value ⌝ }
+{
+    if value < 0 {
+        return (0 - value as i64) as u64;
+    }
+    value as u64
+}
+
+// A signed number: `-` in front of a negative one.
+fn put_signed(out: &mut [u8], at: usize, value: i32) -> usize
+    ensures { λ r. ⌜ textAt (now (out .exit)) r ≡ puts (textAt (now (out .entry)) at) (signedText value) ⌝ }
+{
+    let size = magnitude(value);
+    if value < 0 {
+        let next = put_byte(out, at, b'-');
+        return put_number(out, next, size);
+    }
+    put_number(out, at, size)
+}
+
+// The numbers of a part, one blank between.
+fn put_part(out: &mut [u8], at: usize, part: &[u32]) -> usize
+    ensures { λ r. ⌜ textAt (now (out .exit)) r ≡ puts (textAt (now (out .entry)) at) (partText (now (part .entry))) ⌝ }
+{
+    if part.len() == 0 {
+        return at;
+    }
+    let next = put_number(out, at, part[0] as u64);
+    put_numbers(out, next, &part[1..])
+}
+
+// ---- Calls
+
+// `high SET W`
+fn put_high(out: &mut [u8], at: usize, numbers: &[u32]) -> usize
+    ensures { λ r. ⌜ textAt (now (out .exit)) r ≡ puts (textAt (now (out .entry)) at) (highResult (now (numbers .entry))) ⌝ }
+{
+    if numbers.len() != 2 {
+        return put_malformed(out, at);
+    }
+    match high_part(numbers[0], numbers[1]) {
+        High::Part(part) => put_number(out, at, part as u64),
+        High::No(no) => put_refusal(out, at, no),
+    }
+}
+
+// `low SET W`
+fn put_low(out: &mut [u8], at: usize, numbers: &[u32]) -> usize
+    ensures { λ r. ⌜ textAt (now (out .exit)) r ≡ puts (textAt (now (out .entry)) at) (lowResult (now (numbers .entry))) ⌝ }
+{
+    if numbers.len() != 2 {
+        return put_malformed(out, at);
+    }
+    match low_part(numbers[0], numbers[1]) {
+        Low::Part(part) => put_signed(out, at, part),
+        Low::No(no) => put_refusal(out, at, no),
+    }
+}
+
+// `verdict SET B W..`
+fn put_verdict(out: &mut [u8], at: usize, numbers: &[u32]) -> usize
+    ensures { λ r. ⌜ textAt (now (out .exit)) r ≡ puts (textAt (now (out .entry)) at) (verdictResult (now (numbers .entry))) ⌝ }
+{
+    if numbers.len() < 2 {
+        return put_malformed(out, at);
+    }
+    match bound_verdict(numbers[0], numbers[1], &numbers[2..]) {
+        Verdict::Is(verdict) => put_number(out, at, verdict as u64),
+        Verdict::No(no) => put_refusal(out, at, no),
+    }
+}
+
+// The choice from two stocks.
+fn put_choice<'a>(
+    out: &mut [u8],
+    at: usize,
+    shape: Shape,
+    first: &'a [u32],
+    second: &'a [u32],
+    last: u32,
+) -> usize
+    ensures { λ r. ⌜ textAt (now (out .exit)) r ≡ puts (textAt (now (out .entry)) at) (chooseText shape (now (first .entry)) (now (second .entry)) last) ⌝ }
+{
+    let no = choose_no(shape, first, second, last);
+    if no != 0 {
+        return put_refusal(out, at, no);
+    }
+    put_part(out, at, choose(shape, first, second, last))
+}
+
+// The choice from stocks that stand one behind the other, the first of `count` numbers.
+fn put_stocks(
+    out: &mut [u8],
+    at: usize,
+    shape: Shape,
+    last: u32,
+    count: usize,
+    stocks: &[u32],
+) -> usize
+    ensures { λ r. ⌜ textAt (now (out .exit)) r ≡ puts (textAt (now (out .entry)) at) (stocksText shape last count (now (stocks .entry))) ⌝ }
+{
+    if count > stocks.len() {
+        return put_malformed(out, at);
+    }
+    put_choice(out, at, shape, &stocks[..count], &stocks[count..], last)
+}
+
+// `choose SET KIND N LAST COUNT FIRST.. SECOND..`
+fn put_choose(out: &mut [u8], at: usize, numbers: &[u32]) -> usize
+    ensures { λ r. ⌜ textAt (now (out .exit)) r ≡ puts (textAt (now (out .entry)) at) (chooseResult (now (numbers .entry))) ⌝ }
+{
+    if numbers.len() < 5 {
+        return put_malformed(out, at);
+    }
+    let shape = Shape {
+        set: numbers[0],
+        kind: numbers[1],
+        n: numbers[2],
+    };
+    put_stocks(
+        out,
+        at,
+        shape,
+        numbers[3],
+        numbers[4] as usize,
+        &numbers[5..],
+    )
+}
+
+// The call that is named, made with the numbers.
+pub fn put_call(out: &mut [u8], at: usize, call: CallName, numbers: &[u32]) -> usize
+    ensures { λ r. ⌜ textAt (now (out .exit)) r ≡ puts (textAt (now (out .entry)) at) (callResult call (now (numbers .entry))) ⌝ }
+{
+    match call {
+        CallName::HighPart => put_high(out, at, numbers),
+        CallName::LowPart => put_low(out, at, numbers),
+        CallName::BoundVerdict => put_verdict(out, at, numbers),
+        CallName::Choose => put_choose(out, at, numbers),
+        CallName::Unknown => put_malformed(out, at),
+    }
+}
