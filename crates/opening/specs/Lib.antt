@@ -2,3 +2,4 @@
 pub mod Check
 pub mod Opening
 pub mod Work
+pub mod Theorems

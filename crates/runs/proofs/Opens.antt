@@ -6,19 +6,18 @@ use mathlib.Core.Bool.{true}
 use native.Mathlib.Omega.{arith}
 use native.Mathlib.Nat.{mod-eq-of-lt, one-mul}
 use lib.ListN.{getD}
-use borrow.Author.Tests.{eq-eqb}
 use Rattle.lists.specs.Lists.{allTo, listTo}
 use Rattle.lists.proofs.Every.{allTo-yes}
 use Rattle.lists.proofs.Lists.{getD-listTo, listTo-cong}
-use Rattle.field.specs.Field.{q, add, mul}
+use Rattle.field.specs.Field.{q}
 use Rattle.field.specs.Forms.{Adds}
 use Rattle.settings.specs.Schedule.{rounds, takeStep}
 use Rattle.settings.specs.Sizes.{openings}
 use Rattle.message.specs.Theorems.{RoundTrip}
 use Rattle.column.specs.Theorems.{SlicesJoin}
 use Rattle.state.specs.declared.Side.{Side}
-use Rattle.opening.specs.Check.{accepts}
 use Rattle.opening.specs.Opening.{partColumn, prepared, incoming, opened, passes}
+use Rattle.opening.proofs.Checks.{check-passes}
 use Rattle.side.specs.Side.{begunSide, openedList}
 use Rattle.settings.specs.declared.Settings.{Settings}
 use Rattle.settings.specs.Questions.{settingsOk}
@@ -85,19 +84,24 @@ module _ (t : SlicesJoin) (m : RoundTrip) (k : ℕ) (s : Settings) (serial : ℕ
       ∙ getD-listTo k (λ (i : ℕ). ownNumber k s serial numbers o R (partColumn k (1 - o .number) i) j) i 0 b
       ∙ ap (λ (x : ℕ). ownNumber k s serial numbers o R (partColumn k x i) j) y
 
-  -- "the two parts under my key add to my key × the joined number"
-  pass-part : (R : ℕ) → R < rounds → (j i : ℕ) → j < openings (paramsIn s) (suc R) → i < k
-      → add q (prepared k (side R) (work R) (partColumn k (h .number) i) j) (incoming k (side R) (came R) j (1 + i))
-      ≡ mul q (getD (h .keys) i 0) (opened k (side R) (work R) (came R) j)
-  pass-part R r j i l b =
-      rw (prepared-is k s serial numbers h R (v .observer .which) r (partColumn k (h .number) i) j, part-is R r j i l b, opened-is R r j l, ← v .keyed i b)
-      (v .adds R (partColumn k (h .number) i) j (own-column i b) .total .path)
+  -- the two shares of an opening add up to the plain number, the two parts under each of my keys to my key × it
+  shares-add : (R : ℕ) → R < rounds → (j : ℕ) → j < openings (paramsIn s) (suc R)
+      → Adds q 1 (prepared k (side R) (work R) 0 j) (incoming k (side R) (came R) j 0) (plain R j)
+  shares-add R r j l =
+      rw (prepared-is k s serial numbers h R (v .observer .which) r 0 j, incoming-is R r j 0 l (omega arith), ← v .unit)
+      (v .adds R 0 j (omega arith))
+
+  parts-add : (R : ℕ) → R < rounds → (j i : ℕ) → j < openings (paramsIn s) (suc R) → i < k
+      → Adds q (getD (h .keys) i 0) (prepared k (side R) (work R) (partColumn k (h .number) i) j) (incoming k (side R) (came R) j (1 + i)) (plain R j)
+  parts-add R r j i l b =
+      rw (prepared-is k s serial numbers h R (v .observer .which) r (partColumn k (h .number) i) j, part-is R r j i l b, ← v .keyed i b)
+      (v .adds R (partColumn k (h .number) i) j (own-column i b))
 
   all-pass : (R : ℕ) → R < rounds → allTo (openings (paramsIn s) (suc R)) (passes k (side R) (work R) (came R)) ≡ true
-  unfolding passes accepts opened sideAt begunSide
+  unfolding passes sideAt begunSide
   all-pass R r =
       allTo-yes (openings (paramsIn s) (suc R)) (passes k (side R) (work R) (came R))
-      (λ j l. allTo-yes k _ (λ i b. eq-eqb _ _ (pass-part R r j i l b)))
+      (λ j l. check-passes .honest k (h .keys) _ _ (plain R j) (shares-add R r j l) (λ i b. parts-add R r j i l b))
 
   all-open : (R : ℕ) → R < rounds → openedList k (side R) (work R) (came R) ≡ numbers R
   unfolding openedList sideAt begunSide partyAt

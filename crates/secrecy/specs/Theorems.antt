@@ -14,6 +14,10 @@ use Rattle.runs.specs.Records.{answerOf, bookOf}
 use Rattle.runs.specs.Demands.{Secret, Possible}
 use Rattle.secrecy.specs.Paired.{paired}
 
+-- the opened numbers of the round that follows `round` rounds, each hidden by its mask of the draw
+abbrev pub openedNumbers : ℕ → Settings → List ℕ → List ℕ → ℕ → List ℕ
+openedNumbers k s draw secret round = plainOpened (termsOf s) (widthOf k) draw secret round
+
 -- the pairing is one to one, keeps possible draws, the opened numbers and the own book
 pub record DrawsPair (k : ℕ) : Type 0 where
   pub possible : (s : Settings) (number : ℕ) (keys0 keys1 secret secret′ draw : List ℕ)
@@ -28,9 +32,8 @@ pub record DrawsPair (k : ℕ) : Type 0 where
       → answerOf s secret ≡ answerOf s secret′
       → (round : ℕ)
       → round < rounds
-      → plainOpened (termsOf s) (widthOf k)
-      (paired (termsOf s) (widthOf k) secret secret′ number (multipliers keys0 keys1) draw) secret′ round
-      ≡ plainOpened (termsOf s) (widthOf k) draw secret round
+      → openedNumbers k s (paired (termsOf s) (widthOf k) secret secret′ number (multipliers keys0 keys1) draw) secret′ round
+      ≡ openedNumbers k s draw secret round
   pub same-book : (s : Settings) (number : ℕ) (keys0 keys1 secret secret′ draw : List ℕ)
       → settingsOk s ≡ true → number < 2 → Secret s secret → Secret s secret′ → Possible k s draw
       → bookOf k s number keys0 keys1 (paired (termsOf s) (widthOf k) secret secret′ number (multipliers keys0 keys1) draw)
