@@ -36,9 +36,11 @@ def cases():
         + [['high', 1, w] for w in (261888, 261889, 8118528, 8118529)]
         + [['verdict', 0, MOST_BOUND, w] for w in (4190207, 4190208, 4190209, 4190210)]
     )
-    yield 'parts', [[name, set_, w] for name in ('high', 'low') for set_ in (0, 1) for w in (0, 1, 95232, 261888, 95234, 261890, 190464, 523776, MOST_BOUND, Q - 2)]
+    edges = (0, 1, 95232, 261888, 95234, 261890, 190464, 523776, MOST_BOUND, Q - 2)
+    yield 'parts', [[name, set_, w] for name in ('high', 'low') for set_ in (0, 1) for w in edges]
     yield 'parts_refused', [[name] + words for name in ('high', 'low') for words in ([2, 0], [0, Q], [1, LAST], [LAST, LAST])]
-    yield 'verdicts', [['verdict', set_, b] + ws for set_ in (0, 1) for b, ws in ((1, [0]), (1, [0, 1]), (1, [Q - 1]), (2, [1, Q - 1] * 4), (MOST_BOUND, [MOST_BOUND - 1] * 8))]
+    bounds = ((1, [0]), (1, [0, 1]), (1, [Q - 1]), (2, [1, Q - 1] * 4), (MOST_BOUND, [MOST_BOUND - 1] * 8))
+    yield 'verdicts', [['verdict', set_, b] + ws for set_ in (0, 1) for b, ws in bounds]
     # the order of the questions: 1, 2, 3, 6
     yield 'verdict_refused', [
         ['verdict', 2, 0, Q], ['verdict', 0, 0], ['verdict', 0, 5] + [1] * 9, ['verdict', 0, 0] + [Q] * 9,

@@ -91,7 +91,9 @@ chosen-below k a first second last h l = go (eqb (chooseNo k a first second last
     books = bothStocks (stockedSize k a) first second
 
     go : (t : Bool) → Below (cond t (bestOf last (stockedSize k a) first second) [])
-    go true = first-below (isLeast last books) books (both-below (booksOf (stockedSize k a) first) (booksOf (stockedSize k a) second) (books-below (stockedSize k a) first h) (books-below (stockedSize k a) second l))
+    go true =
+        first-below (isLeast last books) books
+        (both-below (booksOf (stockedSize k a) first) (booksOf (stockedSize k a) second) (books-below (stockedSize k a) first h) (books-below (stockedSize k a) second l))
     go false = none-below
 
 -- ---- results

@@ -65,7 +65,9 @@ module _ (z : ℤ) (f : SFits w32 z) where
     pub size-below : natAbs (toZ w64 (ofZ w64 (pos 0 -ℤ toZ w64 (ofZ w64 (toZ w32 (ofZ w32 z)))))) ≡ natAbs z
     size-below = ap natAbs sub-is ∙ negated-size z below
 
-    pub below-cast : T (nonNeg (toZ w64 (ofZ w64 (pos 0 -ℤ toZ w64 (ofZ w64 (toZ w32 (ofZ w32 z))))))) × Fits w64 (natAbs (toZ w64 (ofZ w64 (pos 0 -ℤ toZ w64 (ofZ w64 (toZ w32 (ofZ w32 z)))))))
+    pub below-cast :
+        T (nonNeg (toZ w64 (ofZ w64 (pos 0 -ℤ toZ w64 (ofZ w64 (toZ w32 (ofZ w32 z)))))))
+        × Fits w64 (natAbs (toZ w64 (ofZ w64 (pos 0 -ℤ toZ w64 (ofZ w64 (toZ w32 (ofZ w32 z)))))))
     below-cast =
         (subst (λ (y : ℤ). T (nonNeg y)) (sym sub-is) (negated-positive z below), subst (Fits w64) (sym size-below) size-fits)
 

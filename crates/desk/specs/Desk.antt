@@ -1,4 +1,5 @@
--- The output line for an input line: the call that its first word names, made with the numbers behind it.
+-- "Lines on standard input, one call each, decimal words with one blank between, one output line for each": the output line for an
+-- input line, the call that its first word names, made with the numbers behind it.
 use Prim.Native.Nat.{ℕ, suc, _-_}
 use mathlib.Core.Bool.{Bool, true, false, cond}
 use mathlib.Core.List.{List, [], _∷_, _++_, map}
@@ -53,7 +54,7 @@ callNamed w =
     (cond (sameWord w chooseWord) CallName.Choose
     CallName.Unknown)))
 
--- the words behind it, each read as a number
+-- "decimal words": the words behind it, each read as a number
 abbrev pub fieldsOf : List (List ℕ) → List ReadNumber
 fieldsOf ws = map numberIn ws
 
@@ -63,7 +64,7 @@ fieldsOf ws = map numberIn ws
 unfoldable pub refusalText : ℕ → List ℕ
 refusalText refused = 33 ∷ decimal refused
 
--- a malformed line: `!12`
+-- "Malformed: `!12`"
 abbrev pub malformedText : List ℕ
 malformedText = refusalText 12
 
@@ -72,7 +73,7 @@ unfoldable pub signedText : ℤ → List ℕ
 signedText (pos n) = decimal n
 signedText (negsuc n) = 45 ∷ decimal (suc n)
 
--- a high part, a low part, a verdict, or the refusal
+-- "print the value or `!` and the refusal": a high part, a low part, a verdict
 unfoldable pub highText : High → List ℕ
 highText (High.Part part) = decimal part
 highText (High.No refused) = refusalText refused
@@ -90,7 +91,7 @@ unfoldable pub partText : List ℕ → List ℕ
 partText [] = []
 partText (n ∷ ns) = decimal n ++ numbersText ns
 
--- the chosen part, or the refusal
+-- "prints the chosen part's numbers, or `!` and the refusal"
 unfoldable pub chooseText : Shape → List ℕ → List ℕ → ℕ → List ℕ
 chooseText shape first second last =
     cond (eqb (chooseNo keyCount shape first second last) 0)
@@ -99,24 +100,24 @@ chooseText shape first second last =
 
 -- ---- Calls
 
--- `high SET W`
+-- "`high SET W`"
 unfoldable pub highResult : List ℕ → List ℕ
 highResult ns = cond (eqb (length ns) 2) (highText (highCall (getD ns 0 0) (getD ns 1 0))) malformedText
 
--- `low SET W`
+-- "`low SET W`"
 unfoldable pub lowResult : List ℕ → List ℕ
 lowResult ns = cond (eqb (length ns) 2) (lowText (lowCall (getD ns 0 0) (getD ns 1 0))) malformedText
 
--- `verdict SET B W..`
+-- "`verdict SET B W..`": no W at all is well formed
 unfoldable pub verdictResult : List ℕ → List ℕ
 verdictResult ns = cond (ltb (length ns) 2) malformedText (verdictText (verdictCall (getD ns 0 0) (getD ns 1 0) (drop 2 ns)))
 
--- the first `count` numbers are the first stock, the others the second; there must be so many
+-- "COUNT numbers belong to the first stock, the rest to the second"; there must be so many
 unfoldable pub stocksText : Shape → ℕ → ℕ → List ℕ → List ℕ
 stocksText shape last count stocks =
     cond (ltb (length stocks) count) malformedText (chooseText shape (take count stocks) (drop count stocks) last)
 
--- `choose SET KIND N LAST COUNT FIRST.. SECOND..`
+-- "`choose SET KIND N LAST COUNT FIRST.. SECOND..`"
 unfoldable pub chooseResult : List ℕ → List ℕ
 chooseResult ns =
     cond (ltb (length ns) 5) malformedText
@@ -132,7 +133,7 @@ callResult CallName.Unknown ns = malformedText
 
 -- ---- Lines
 
--- the most bytes of a line, without its line end
+-- "Lines up to 2^20 bytes", without the line end
 abbrev pub longestLine : ℕ
 longestLine = 1048576
 
