@@ -5,3 +5,4 @@ pub mod Numbers
 pub mod Lines
 pub mod Lengths
 pub mod Program
+pub mod Samples
