@@ -189,6 +189,28 @@ impl<'a> Reader<'a> {
     }
 }
 
+// What was read, and the reader behind it.
+pub struct Read<'a> {
+    pub value: u32,
+    pub reader: Reader<'a>,
+}
+
+impl<'a> Reader<'a> {
+    // The field of so many bits that comes next, and the reader behind it.
+    pub fn read(self, width: usize) -> Read<'a>
+        requires { ⌜ (width ≤ 32) × (self .at + width ≤ 8 * length (now (self .bytes))) × (self .at + width < 2 ^ 64) ⌝ }
+        ensures { λ r. ⌜ (r .value ≡ bitsAt (now (self .entry .bytes)) (self .entry .at) width) × (r .reader .bytes ≡ self .entry .bytes) × (r .reader .at ≡ self .entry .at + width) ⌝ }
+    {
+        Read {
+            value: get_bits(self.bytes, self.at, width),
+            reader: Reader {
+                bytes: self.bytes,
+                at: self.at + width,
+            },
+        }
+    }
+}
+
 // The same by a reader: the functions below read by this one, and hold no reader.
 fn read_field(bytes: &[u8], at: usize, width: usize) -> u32
     requires { ⌜ (width ≤ 32) × (at + width ≤ 8 * length (now bytes)) ⌝ }
