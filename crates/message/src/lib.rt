@@ -7,7 +7,7 @@ ghost use Rattle.lists.specs.Lists.{fill, inFront, allBelow};
 ghost use Rattle.settings.specs.Sizes.{keyCount, mostFields, bytesFor, fieldBits, messageBits};
 ghost use Rattle.message.specs.Bits.{padding, numberOf};
 ghost use Rattle.message.specs.Message.{headerNumber, headerWith, messageOf, fieldIn, fieldsOk, askForm, formNo};
-ghost use Rattle.message.specs.Fields.{bitsAt, putBits, putFields, byteOf, HeaderFits};
+ghost use Rattle.message.specs.Fields.{bitsAt, fieldAt, endsAt, putBits, putFields, byteOf, HeaderFits};
 use field::Q;
 use settings::FIELD_BITS;
 use settings::FIELDS;
@@ -54,6 +54,9 @@ impl Header {
         + Self::SERIAL_BITS;
 
     pub const BYTES: usize = Self::BITS / 8;
+
+    // A reader reads at most 32 bits at once.
+    pub const HALF: usize = Self::BITS / 2;
 
     // How many values fit a width: a factor makes room for the field behind.
     const SETS: u64 = 1 << Self::SET_BITS;
@@ -245,6 +248,37 @@ pub fn put_message(out: &mut [u8], header: Header, fields: &[u32]) -> usize
     write_number(out, 0, Header::BYTES, header.number());
     put_fields(out, fields);
     length_of(fields.len())
+}
+
+// What stands before and behind the fields: the header's two halves, and the padding.
+pub struct Ends {
+    pub high: u32,
+    pub low: u32,
+    pub padding: u32,
+}
+
+// A message read front to back by one reader: its fields into `fields`. `form_of` has asked the message's length.
+fn read_message(message: &[u8], fields: &mut [u32], padding: usize) -> Ends
+    requires { ⌜ (messageBits (length (now fields)) + padding ≡ 8 * length (now message)) × (padding ≤ 32) × (length (now fields) ≤ mostFields keyCount) ⌝ }
+    ensures { λ r. ⌜ (r ≡ endsAt (length (now (fields .entry))) (now (message .entry)) padding)
+        × (now (fields .exit) ≡ fill (now (fields .entry)) 0 (length (now (fields .entry))) (fieldAt (now (message .entry)))) ⌝ }
+{
+    let high = Reader::new(message).read(Header::HALF);
+    let low = high.reader.read(Header::HALF);
+    let mut reader = low.reader;
+    let mut f = 0;
+    while f < fields.len() {
+        let field = reader.read(FIELD_BITS);
+        fields[f] = field.value;
+        reader = field.reader;
+        f += 1;
+    }
+    let last = reader.read(padding);
+    Ends {
+        high: high.value,
+        low: low.value,
+        padding: last.value,
+    }
 }
 
 // ---- Reading a message of so many fields. `form_no` asks its length first; `take` of crate side calls `form_no` first.
