@@ -5,14 +5,14 @@ ghost use Prim.Native.Nat.{_+_, _*_, _%_, _^_, _≤_, _<_};
 ghost use lib.ListN.{length};
 ghost use Rattle.lists.specs.Lists.{fill, inFront, allBelow};
 ghost use Rattle.settings.specs.Sizes.{keyCount, mostFields, bytesFor, fieldBits, messageBits};
-ghost use Rattle.message.specs.Bits.{padding, numberOf};
-ghost use Rattle.message.specs.Message.{headerNumber, headerWith, messageOf, fieldIn, fieldsOk, askForm, formNo};
+ghost use Rattle.message.specs.Message.{headerNumber, headerWith, messageOf, fieldIn, askParts, askForm, formNo};
 ghost use Rattle.message.specs.Fields.{bitsAt, fieldAt, endsAt, putBits, putFields, byteOf, HeaderFits};
-use field::Q;
+use field::all_below_q;
 use settings::FIELD_BITS;
 use settings::FIELDS;
 use settings::HEADER;
 use settings::MESSAGE_LENGTH;
+use settings::MOST_FIELDS;
 use settings::NOT_DUE;
 use settings::ROUNDS;
 use settings::Settings;
@@ -70,6 +70,8 @@ impl Header {
     const BOUNDS: u64 = 1 << Self::BOUND_BITS;
 
     const SERIALS: u64 = 1 << Self::SERIAL_BITS;
+
+    const HALVES: u64 = 1 << Self::HALF;
 
     pub fn new(sender: u32, settings: Settings, round: u32, serial: u32) -> Header
         ensures { λ r. ⌜ r ≡ headerWith sender settings round serial ⌝ }
@@ -257,7 +259,7 @@ pub struct Ends {
     pub padding: u32,
 }
 
-// A message read front to back by one reader: its fields into `fields`. `form_of` has asked the message's length.
+// A message read front to back by one reader: its fields into `fields`. `form_no` has asked the message's length.
 fn read_message(message: &[u8], fields: &mut [u32], padding: usize) -> Ends
     requires { ⌜ (messageBits (length (now fields)) + padding ≡ 8 * length (now message)) × (padding ≤ 32) × (length (now fields) ≤ mostFields keyCount) ⌝ }
     ensures { λ r. ⌜ (r ≡ endsAt (length (now (fields .entry))) (now (message .entry)) padding)
@@ -291,28 +293,30 @@ pub fn field_of(message: &[u8], fields: usize, f: usize) -> u32
     read_field(message, Header::BITS + FIELD_BITS * f, FIELD_BITS)
 }
 
-// The bits that fill the last byte.
-fn padding_of(message: &[u8], fields: usize) -> u32
-    requires { ⌜ (length (now message) ≡ bytesFor (messageBits fields)) × (fields ≤ mostFields keyCount) ⌝ }
-    ensures { λ r. ⌜ r ≡ numberOf (now (message .entry)) % 2 ^ padding (messageBits fields) ⌝ }
+// The number of a header's two halves.
+fn header_of(ends: Ends) -> u64
+    ensures { λ r. ⌜ r ≡ ends .high * 2 ^ 32 + ends .low ⌝ }
 {
-    let bits = Header::BITS + FIELD_BITS * fields;
-    read_field(message, bits, 8 * message.len() - bits)
+    ends.high as u64 * Header::HALVES + ends.low as u64
 }
 
-// Question 12.
-fn fields_ok(message: &[u8], fields: usize) -> bool
-    requires { ⌜ (length (now message) ≡ bytesFor (messageBits fields)) × (fields ≤ mostFields keyCount) ⌝ }
-    ensures { λ r. ⌜ r ≡ fieldsOk fields (now (message .entry)) ⌝ }
+// Questions 11 and 12 of a message with as many fields as `fields` has: the first no, or 0. The message is read front to back, once.
+fn parts_no(due: u64, message: &[u8], fields: &mut [u32]) -> u32
+    requires { ⌜ (length (now message) ≡ bytesFor (messageBits (length (now fields)))) × (length (now fields) ≤ mostFields keyCount) ⌝ }
+    ensures { λ r. ⌜ r ≡ askParts due (length (now (fields .entry))) (now (message .entry)) 0 ⌝ }
 {
-    let mut f = 0;
-    while f < fields {
-        if field_of(message, fields, f) >= Q {
-            return false;
-        }
-        f += 1;
+    let padding = 8 * message.len() - (Header::BITS + FIELD_BITS * fields.len());
+    let ends = read_message(message, fields, padding);
+    if header_of(ends) != due {
+        return HEADER;
     }
-    padding_of(message, fields) == 0
+    if !all_below_q(fields) {
+        return FIELDS;
+    }
+    if ends.padding != 0 {
+        return FIELDS;
+    }
+    0
 }
 
 // Questions 10 to 12 of a message that is to have the header `due`: the first no, or 0. `message_form` and `take` of crate side have asked
@@ -323,17 +327,12 @@ pub fn form_no(due: Header, message: &[u8]) -> u32
 {
     let settings = due.settings;
     let shape = settings.shape;
-    let fields = field_count(shape, due.round);
-    if message.len() != length_of(fields) {
+    let count = field_count(shape, due.round);
+    if message.len() != length_of(count) {
         return MESSAGE_LENGTH;
     }
-    if get_number(message, 0, Header::BYTES) != due.number() {
-        return HEADER;
-    }
-    if !fields_ok(message, fields) {
-        return FIELDS;
-    }
-    0
+    let mut fields = [0u32; MOST_FIELDS];
+    parts_no(due.number(), message, &mut fields[..count])
 }
 
 // The form test: the first no, or 0.
