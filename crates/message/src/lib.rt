@@ -166,12 +166,33 @@ pub struct Reader<'a> {
     pub at: usize,
 }
 
+// What was read, and the reader behind it.
+pub struct Read<'a> {
+    pub value: u32,
+    pub reader: Reader<'a>,
+}
+
 impl<'a> Reader<'a> {
     // At the first bit.
     pub fn new(bytes: &'a [u8]) -> Reader<'a>
         ensures { λ r. ⌜ (r .bytes ≡ bytes .entry) × (r .at ≡ 0) ⌝ }
     {
         Reader { bytes, at: 0 }
+    }
+
+    // The field of so many bits that comes next, and the reader behind it. Called by `read_message`, front to back.
+    pub fn read(self, width: usize) -> Read<'a>
+        requires { ⌜ (width ≤ 32) × (self .at + width ≤ 8 * length (now (self .bytes))) × (self .at + width < 2 ^ 64) ⌝ }
+        ensures { λ r. ⌜ (r .value ≡ bitsAt (now (self .entry .bytes)) (self .entry .at) width)
+            × (r .reader .bytes ≡ self .entry .bytes) × (r .reader .at ≡ self .entry .at + width) ⌝ }
+    {
+        Read {
+            value: get_bits(self.bytes, self.at, width),
+            reader: Reader {
+                bytes: self.bytes,
+                at: self.at + width,
+            },
+        }
     }
 
     // Moved on by some bits. Called by `read_field` below, which stays inside the message.
@@ -185,7 +206,7 @@ impl<'a> Reader<'a> {
         }
     }
 
-    // The field of so many bits that comes next. Called by `read_field` too.
+    // That field alone. Called by `read_field` too.
     pub fn next(self, width: usize) -> u32
         requires { ⌜ (width ≤ 32) × (self .at + width ≤ 8 * length (now (self .bytes))) ⌝ }
         ensures { λ r. ⌜ r ≡ bitsAt (now (self .entry .bytes)) (self .entry .at) width ⌝ }
@@ -194,29 +215,7 @@ impl<'a> Reader<'a> {
     }
 }
 
-// What was read, and the reader behind it.
-pub struct Read<'a> {
-    pub value: u32,
-    pub reader: Reader<'a>,
-}
-
-impl<'a> Reader<'a> {
-    // The field of so many bits that comes next, and the reader behind it.
-    pub fn read(self, width: usize) -> Read<'a>
-        requires { ⌜ (width ≤ 32) × (self .at + width ≤ 8 * length (now (self .bytes))) × (self .at + width < 2 ^ 64) ⌝ }
-        ensures { λ r. ⌜ (r .value ≡ bitsAt (now (self .entry .bytes)) (self .entry .at) width) × (r .reader .bytes ≡ self .entry .bytes) × (r .reader .at ≡ self .entry .at + width) ⌝ }
-    {
-        Read {
-            value: get_bits(self.bytes, self.at, width),
-            reader: Reader {
-                bytes: self.bytes,
-                at: self.at + width,
-            },
-        }
-    }
-}
-
-// The same by a reader: the functions below read by this one, and hold no reader.
+// One field, wherever it stands, by a reader of its own.
 fn read_field(bytes: &[u8], at: usize, width: usize) -> u32
     requires { ⌜ (width ≤ 32) × (at + width ≤ 8 * length (now bytes)) ⌝ }
     ensures { λ r. ⌜ r ≡ bitsAt (now (bytes .entry)) at width ⌝ }
@@ -252,6 +251,8 @@ pub fn put_message(out: &mut [u8], header: Header, fields: &[u32]) -> usize
     length_of(fields.len())
 }
 
+// ---- Reading a message of so many fields. `form_no` asks its length first; `take` of crate side calls `form_no` first.
+
 // What stands before and behind the fields: the header's two halves, and the padding.
 pub struct Ends {
     pub high: u32,
@@ -282,8 +283,6 @@ fn read_message(message: &[u8], fields: &mut [u32], padding: usize) -> Ends
         padding: last.value,
     }
 }
-
-// ---- Reading a message of so many fields. `form_no` asks its length first; `take` of crate side calls `form_no` first.
 
 // Field f. (The count of fields is for the promise: it fixes where the bits end.)
 pub fn field_of(message: &[u8], fields: usize, f: usize) -> u32

@@ -163,7 +163,11 @@ function = record {
   lifetimes = 2;
   outlives = [];
   params = 3;
-  locals = local E′.mir valueLocal ∷ local msgTy valueLocal ∷ local fldTy valueLocal ∷ local word valueLocal ∷ local readTy valueLocal ∷ local readTy valueLocal ∷ local readerTy valueLocal ∷ local word valueLocal ∷ local readTy valueLocal ∷ local readTy valueLocal ∷ local readerTy valueLocal ∷ local readerTy valueLocal ∷ local word valueLocal ∷ local tyBool valueLocal ∷ local readerTy valueLocal ∷ local half valueLocal ∷ local tyPtr valueLocal ∷ local readerTy valueLocal ∷ local half valueLocal ∷ local half valueLocal ∷ local half valueLocal ∷ [];
+  locals = local E′.mir valueLocal ∷ local msgTy valueLocal ∷ local fldTy valueLocal ∷ local word valueLocal ∷ local readTy valueLocal ∷
+      local readTy valueLocal ∷ local readerTy valueLocal ∷ local word valueLocal ∷ local readTy valueLocal ∷ local readTy valueLocal ∷
+      local readerTy valueLocal ∷ local readerTy valueLocal ∷ local word valueLocal ∷ local tyBool valueLocal ∷ local readerTy valueLocal ∷
+      local half valueLocal ∷ local tyPtr valueLocal ∷ local readerTy valueLocal ∷ local half valueLocal ∷ local half valueLocal ∷
+      local half valueLocal ∷ [];
   body = code.function .body;
 }
 
@@ -312,7 +316,8 @@ module _ {M : Type 1} (𝓤 : URA M) (H : Heap 𝓤) (A : Atoms 𝓤) (W : Given
       use1 W (‵ (B .own (rd k) (T′.lowered (rd k) ∷ []))) (own-shut 𝓤 H A W (T.the-type α) (T′.the-laws α) (s, (k, tt))) $
       nothing ! $ owned ! usize (Is usize) (uint-makes 𝓤 H A W w64) w _ (refl, w-fits) $ fjoin ! $ move ! (1 ∷ 0 ∷ []) $ fjoin ! $ move ! (2 ∷ 0 ∷ []) $
       use2 W (raw (ReadC 𝓤 H A mem run .pre (to-read k w)))
-      (qed W ((‵ (flft κ q) ⊛ ‵ ftrue) ∷ ‵ (owns (B ∷ usize ∷ []) (rd k, (w, tt)) (T′.lowered (rd k) ∷ [], (vint w64 w ∷ [], tt))) ∷ []) ∵ says ! h $ frame ! $ done !) $ frame ! $ done !
+      (qed W ((‵ (flft κ q) ⊛ ‵ ftrue) ∷ ‵ (owns (B ∷ usize ∷ []) (rd k, (w, tt)) (T′.lowered (rd k) ∷ [], (vint w64 w ∷ [], tt))) ∷ []) ∵ says ! h $
+      frame ! $ done !) $ frame ! $ done !
 
   abbrev Said : ℕ → ℕ → Read → Type 0
   Said k w r = (r .value ≡ bitsAt (now s) k w) × (r .reader .bytes ≡ s) × (r .reader .at ≡ k + w)
@@ -328,13 +333,17 @@ module _ {M : Type 1} (𝓤 : URA M) (H : Heap 𝓤) (A : Atoms 𝓤) (W : Given
       ∷ (‵ (flft κ q) ⊛ ‵ ftrue) ∷ ‵ Own ∷ [])) (Post (E′.lowered result))
   exits room =
       let same = length-fill ys 0 n (fieldAt (now s)) in
-      qed W (‵ (fobs γ (codedHoleys u32 .code (heres u32 (upTo n)))) ∷ ‵ (fbor κ′ (Held u32 (length (upTo n)) b o γ)) ∷ ‵ (flft κ′ q′) ∷ (‵ (flft κ q) ⊛ ‵ ftrue) ∷ ‵ Own ∷ []) ∵
+      qed W (‵ (fobs γ (codedHoleys u32 .code (heres u32 (upTo n)))) ∷ ‵ (fbor κ′ (Held u32 (length (upTo n)) b o γ)) ∷ ‵ (flft κ′ q′) ∷
+      (‵ (flft κ q) ⊛ ‵ ftrue) ∷ ‵ Own ∷ []) ∵
       suffices ! _ (ends-at 𝓤 H A read-message.ended stayed (read-message.clauses 𝓤 H A mem run) W bound (E′.lowered result) result (tt, (upTo n, (tt, tt))) (tt, (same, (tt, tt)))) $
       says ! (refl, refl) $
       move ! (3 ∷ []) $ split ! $ move ! (4 ∷ 1 ∷ []) $ join ! $ move ! (1 ∷ 0 ∷ []) $ join ! $ frame ! $
       -- [obs; the borrow; what the message owns]
-      fjoin ! $ pureI ! (at-slice u32 (lent (upTo n)) (sliceVal (b, o) n ∷ [])) (tt, (tt, tt)) (ap (λ (m : ℕ). sliceVal (b, o) m ∷ []) (sym same), subst (Room u32) (sym same) room) $ fjoin ! $
-      nothing ! $ owned ! usize (Is usize) (uint-makes 𝓤 H A W w64) p _ (refl, p-fits) $ fjoin ! $ move ! (1 ∷ 0 ∷ []) $ fjoin ! $ move ! (1 ∷ 0 ∷ []) $ fjoin ! $ frame ! $
+      fjoin ! $
+      pureI ! (at-slice u32 (lent (upTo n)) (sliceVal (b, o) n ∷ [])) (tt, (tt, tt)) (ap (λ (m : ℕ). sliceVal (b, o) m ∷ []) (sym same), subst (Room u32) (sym same) room) $
+      fjoin ! $
+      nothing ! $ owned ! usize (Is usize) (uint-makes 𝓤 H A W w64) p _ (refl, p-fits) $ fjoin ! $ move ! (1 ∷ 0 ∷ []) $ fjoin ! $
+      move ! (1 ∷ 0 ∷ []) $ fjoin ! $ frame ! $
       nothing ! $ owned ! u32 (Is u32) (uint-makes 𝓤 H A W w32) (result .padding) _ (refl, bits-fit (64 + 23 * n) p (within .1)) $ fjoin ! $
       owned ! u32 (Is u32) (uint-makes 𝓤 H A W w32) (result .low) _ (refl, bits-fit 32 32 (omega arith)) $ fjoin ! $
       owned ! u32 (Is u32) (uint-makes 𝓤 H A W w32) (result .high) _ (refl, bits-fit 0 32 (omega arith)) $ fjoin ! $
@@ -351,7 +360,9 @@ module _ {M : Type 1} (𝓤 : URA M) (H : Heap 𝓤) (A : Atoms 𝓤) (W : Given
     fm = fmOf 𝓤 H (W .laws) 𝓣
 
     abbrev En : Env 𝓤 H
-    En = (E′.mir, l₀) ∷ (msgTy, l₁) ∷ (fldTy, l₂) ∷ (word, l₃) ∷ (readTy, l₄) ∷ (readTy, l₅) ∷ (readerTy, l₆) ∷ (word, l₇) ∷ (readTy, l₈) ∷ (readTy, l₉) ∷ (readerTy, l₁₀) ∷ (readerTy, l₁₁) ∷ (word, l₁₂) ∷ (tyBool, l₁₃) ∷ (readerTy, l₁₄) ∷ (half, l₁₅) ∷ (tyPtr, l₁₆) ∷ (readerTy, l₁₇) ∷ (half, l₁₈) ∷ (half, l₁₉) ∷ (half, l₂₀) ∷ []
+    En = (E′.mir, l₀) ∷ (msgTy, l₁) ∷ (fldTy, l₂) ∷ (word, l₃) ∷ (readTy, l₄) ∷ (readTy, l₅) ∷ (readerTy, l₆) ∷ (word, l₇) ∷ (readTy, l₈) ∷
+        (readTy, l₉) ∷ (readerTy, l₁₀) ∷ (readerTy, l₁₁) ∷ (word, l₁₂) ∷ (tyBool, l₁₃) ∷ (readerTy, l₁₄) ∷ (half, l₁₅) ∷ (tyPtr, l₁₆) ∷
+        (readerTy, l₁₇) ∷ (half, l₁₈) ∷ (half, l₁₉) ∷ (half, l₂₀) ∷ []
 
     -- f fields are read: the row of fields; the token; what the message's slice owns; the open borrow of the fields; the locals, from the last
     abbrev At : ℕ → List (Item 𝓤)
@@ -403,12 +414,14 @@ module _ {M : Type 1} (𝓤 : URA M) (H : Heap 𝓤) (A : Atoms 𝓤) (W : Given
         move ! (1 ∷ 2 ∷ []) $
         use2 W (raw (ReadC 𝓤 H A mem run .pre (to-read (64 + 23 * f) 23)) ⊛ ‵ Own) (goes-read (64 + 23 * f) 23 (field-needs f small)) $ split ! $
         calls-at ! fm (ReadC 𝓤 H A mem run) known-read (to-read (64 + 23 * f) 23) (and-then ! (load ! (from ! (stop !)) (look ! 18 refl)) (and-then ! (lit ! tt) (no-more !))) (λ u.
-        use1 W (later (some (λ (r : Read). ((‵ (flft κ q) ⊛ ‵ ftrue) ⊛ ‵ (RB .own r (u ∷ []))) ⊛ raw (ensured 𝓤 H A read.ended (read.clauses 𝓤 H A mem run) (κ, tt) (rd (64 + 23 * f), (23, tt)) tt r)))) (id⊢ 𝓤 _) $ await ! tt $ pick ! (λ r.
+        use1 W (later (some (λ (r : Read). ((‵ (flft κ q) ⊛ ‵ ftrue) ⊛ ‵ (RB .own r (u ∷ []))) ⊛ raw (ensured 𝓤 H A read.ended (read.clauses 𝓤 H A mem run) (κ, tt) (rd (64 + 23 * f), (23, tt)) tt r)))) (id⊢ 𝓤 _) $
+        await ! tt $ pick ! (λ r.
         split ! $ move ! (1 ∷ []) $ use1 W (raw (fact 𝓤 (Said (64 + 23 * f) 23 r))) (said (64 + 23 * f) 23 r) $ heard ! (Said (64 + 23 * f) 23 r) (λ e.
         split ! $ rewrite ! 1 (λ (r : Read). ‵ (RB .own r (u ∷ []))) (is-got (64 + 23 * f) 23 r e) refl $
         move ! (1 ∷ []) $ peeks ! RB (Is RB) (shows 𝓤 H A RB) (got (64 + 23 * f) 23) (u ∷ []) (λ is.
         land ! (from ! (stop !)) (init ! 31 refl (LL.lawful (R.the-type αᵉ) (R′.the-laws αᵉ) 𝓤 H A W .typed (got (64 + 23 * f) 23) _ is .0)) $
-        rewrite ! 31 (λ (w : Val). ‵ (fat fullShare readTy l₈ 0 w)) (ap only (LL.tells (R.the-type α) (R′.the-laws α) (got (64 + 23 * f) 23) (u ∷ []) is)) refl $ drop ! $
+        rewrite ! 31 (λ (w : Val). ‵ (fat fullShare readTy l₈ 0 w)) (ap only (LL.tells (R.the-type α) (R′.the-laws α) (got (64 + 23 * f) 23) (u ∷ []) is)) refl $
+        drop ! $
         assigns ! (of-opd ! (load ! (from ! (fld ! refl (stop !))) (look-in ! 30 (sub ! 0 refl (whole !))))) (from ! (stop !)) (init ! 16 refl (tt, record { fits = bits-fit (64 + 23 * f) 23 (omega arith) })) $
         assigns ! (bin ! (load ! (from ! (stop !)) (look ! 32 refl)) (lit ! tt) (record { fits = place-fits f small })) (from ! (stop !)) (store ! 22 refl (tt, record { fits = place-fits f small })) $
         assigns ! (bin ! (load ! (from ! (fld ! refl (stop !))) (look-in ! 42 (sub ! 0 refl (whole !)))) (load ! (from ! (stop !)) (look ! 22 refl)) tt) (from ! (stop !)) (init ! 14 refl (tt, tt)) $
@@ -416,7 +429,8 @@ module _ {M : Type 1} (𝓤 : URA M) (H : Heap 𝓤) (A : Atoms 𝓤) (W : Given
         -- the place of the field is taken out of the row, stored to, and put back
         move ! (2 ∷ []) $ elem-out ! u32 (Is u32) (shows 𝓤 H A u32) (uint-vals w32) (uint-tells w32) fullShare (upTo f) f 0 b o (inside f small) (λ _.
         assigns ! (of-opd ! (load ! (from ! (stop !)) (look ! 18 refl))) (from ! (hop ! (look ! 16 refl) (stop !))) (store ! 0 refl (tt, record { fits = bits-fit (64 + 23 * f) 23 (omega arith) })) $
-        move ! (1 ∷ []) $ drop ! $ owned ! u32 (Is u32) (uint-makes 𝓤 H A W w32) (fieldAt (now s) f) _ (refl, bits-fit (64 + 23 * f) 23 (omega arith)) $ move ! (1 ∷ 0 ∷ []) $
+        move ! (1 ∷ []) $ drop ! $
+        owned ! u32 (Is u32) (uint-makes 𝓤 H A W w32) (fieldAt (now s) f) _ (refl, bits-fit (64 + 23 * f) 23 (omega arith)) $ move ! (1 ∷ 0 ∷ []) $
         elem-put ! u32 fullShare (upTo f) f (fieldAt (now s) f) (vint w32 (fieldAt (now s) f) ∷ []) b o (inside f small) $
         rewrite ! 0 (λ (zs : List ℕ). ‵ (row u32 fullShare zs b o)) (sym (front-more ys f (fieldAt (now s)))) refl $
         assigns ! (of-opd ! (load ! (from ! (fld ! refl (stop !))) (look-in ! 30 (sub ! 1 refl (whole !))))) (from ! (stop !)) (store ! 34 refl (tt, (slice-typed, (record { fits = next-fits f small }, tt)))) $
@@ -437,20 +451,29 @@ module _ {M : Type 1} (𝓤 : URA M) (H : Heap 𝓤) (A : Atoms 𝓤) (W : Given
         move ! (1 ∷ 2 ∷ []) $
         use2 W (raw (ReadC 𝓤 H A mem run .pre (to-read (64 + 23 * n) p)) ⊛ ‵ Own) (goes-read (64 + 23 * n) p end-needs) $ split ! $
         calls-at ! fm (ReadC 𝓤 H A mem run) known-read (to-read (64 + 23 * n) p) (and-then ! (load ! (from ! (stop !)) (look ! 12 refl)) (and-then ! (load ! (from ! (stop !)) (look ! 40 refl)) (no-more !))) (λ u.
-        use1 W (later (some (λ (r : Read). ((‵ (flft κ q) ⊛ ‵ ftrue) ⊛ ‵ (RB .own r (u ∷ []))) ⊛ raw (ensured 𝓤 H A read.ended (read.clauses 𝓤 H A mem run) (κ, tt) (rd (64 + 23 * n), (p, tt)) tt r)))) (id⊢ 𝓤 _) $ await ! tt $ pick ! (λ r.
+        use1 W (later (some (λ (r : Read). ((‵ (flft κ q) ⊛ ‵ ftrue) ⊛ ‵ (RB .own r (u ∷ []))) ⊛ raw (ensured 𝓤 H A read.ended (read.clauses 𝓤 H A mem run) (κ, tt) (rd (64 + 23 * n), (p, tt)) tt r)))) (id⊢ 𝓤 _) $
+        await ! tt $ pick ! (λ r.
         split ! $ move ! (1 ∷ []) $ use1 W (raw (fact 𝓤 (Said (64 + 23 * n) p r))) (said (64 + 23 * n) p r) $ heard ! (Said (64 + 23 * n) p r) (λ e.
         split ! $ rewrite ! 1 (λ (r : Read). ‵ (RB .own r (u ∷ []))) (is-got (64 + 23 * n) p r e) refl $
         move ! (1 ∷ []) $ peeks ! RB (Is RB) (shows 𝓤 H A RB) (got (64 + 23 * n) p) (u ∷ []) (λ is.
         land ! (from ! (stop !)) (init ! 29 refl (LL.lawful (R.the-type αᵉ) (R′.the-laws αᵉ) 𝓤 H A W .typed (got (64 + 23 * n) p) _ is .0)) $
-        rewrite ! 29 (λ (w : Val). ‵ (fat fullShare readTy l₉ 0 w)) (ap only (LL.tells (R.the-type α) (R′.the-laws α) (got (64 + 23 * n) p) (u ∷ []) is)) refl $ drop ! $
+        rewrite ! 29 (λ (w : Val). ‵ (fat fullShare readTy l₉ 0 w)) (ap only (LL.tells (R.the-type α) (R′.the-laws α) (got (64 + 23 * n) p) (u ∷ []) is)) refl $
+        drop ! $
         assigns ! (of-opd ! (load ! (from ! (fld ! refl (stop !))) (look-in ! 38 (sub ! 0 refl (whole !))))) (from ! (stop !)) (init ! 10 refl (tt, record { fits = bits-fit 0 32 (omega arith) })) $
         assigns ! (of-opd ! (load ! (from ! (fld ! refl (stop !))) (look-in ! 36 (sub ! 0 refl (whole !))))) (from ! (stop !)) (init ! 8 refl (tt, record { fits = bits-fit 32 32 (omega arith) })) $
         assigns ! (of-opd ! (load ! (from ! (fld ! refl (stop !))) (look-in ! 28 (sub ! 0 refl (whole !))))) (from ! (stop !)) (init ! 6 refl (tt, record { fits = bits-fit (64 + 23 * n) p (within .1) })) $
         assigns ! (agg ! (and-then ! (load ! (from ! (stop !)) (look ! 10 refl)) (and-then ! (load ! (from ! (stop !)) (look ! 8 refl)) (and-then ! (load ! (from ! (stop !)) (look ! 6 refl)) (no-more !))))) (from ! (stop !)) (init ! 46 refl (tt, (record { fits = bits-fit 0 32 (omega arith) }, (record { fits = bits-fit 32 32 (omega arith) }, (record { fits = bits-fit (64 + 23 * n) p (within .1) }, tt))))) $
         move ! (2 ∷ 3 ∷ 4 ∷ 5 ∷ []) $ closes-slice ! tt u32 ys (upTo n) (length-fill ys 0 n (fieldAt (now s))) b o $
         -- [obs; the borrow; its token; the other token; what the message owns; the locals]
-        returns ! (look ! 45 refl) $ forget ! 5 refl $ forget ! 7 refl $ forget ! 9 refl $ forget ! 11 refl $ forget ! 19 refl $ forget ! 21 refl $ forget ! 27 refl $ forget ! 31 refl $ forget ! 33 refl $ forget ! 35 refl $ forget ! 37 refl $ forget ! 39 refl $ forget ! 41 refl $ forget ! 43 refl $ forget ! 45 refl $
-        move ! (45 ∷ 46 ∷ []) $ free1 ! $ move ! (43 ∷ 44 ∷ []) $ free1 ! $ move ! (41 ∷ 42 ∷ []) $ free1 ! $ move ! (39 ∷ 40 ∷ []) $ free1 ! $ move ! (37 ∷ 38 ∷ []) $ free1 ! $ move ! (35 ∷ 36 ∷ []) $ free1 ! $ move ! (33 ∷ 34 ∷ []) $ free1 ! $ move ! (31 ∷ 32 ∷ []) $ free1 ! $ move ! (29 ∷ 30 ∷ []) $ free1 ! $ move ! (27 ∷ 28 ∷ []) $ free1 ! $ move ! (25 ∷ 26 ∷ []) $ free1 ! $ move ! (23 ∷ 24 ∷ []) $ free1 ! $ move ! (21 ∷ 22 ∷ []) $ free1 ! $ move ! (19 ∷ 20 ∷ []) $ free1 ! $ move ! (17 ∷ 18 ∷ []) $ free1 ! $ move ! (15 ∷ 16 ∷ []) $ free1 ! $ move ! (13 ∷ 14 ∷ []) $ free1 ! $ move ! (11 ∷ 12 ∷ []) $ free1 ! $ move ! (9 ∷ 10 ∷ []) $ free1 ! $ move ! (7 ∷ 8 ∷ []) $ free1 ! $ move ! (5 ∷ 6 ∷ []) $ free1 ! $ free0 ! $ keep ! (0 ∷ 1 ∷ 2 ∷ 3 ∷ 4 ∷ []) $ by ! (exits room)))))
+        returns ! (look ! 45 refl) $ forget ! 5 refl $ forget ! 7 refl $ forget ! 9 refl $ forget ! 11 refl $ forget ! 19 refl $ forget ! 21 refl $
+        forget ! 27 refl $ forget ! 31 refl $ forget ! 33 refl $ forget ! 35 refl $ forget ! 37 refl $ forget ! 39 refl $ forget ! 41 refl $
+        forget ! 43 refl $ forget ! 45 refl $
+        move ! (45 ∷ 46 ∷ []) $ free1 ! $ move ! (43 ∷ 44 ∷ []) $ free1 ! $ move ! (41 ∷ 42 ∷ []) $ free1 ! $ move ! (39 ∷ 40 ∷ []) $ free1 ! $
+        move ! (37 ∷ 38 ∷ []) $ free1 ! $ move ! (35 ∷ 36 ∷ []) $ free1 ! $ move ! (33 ∷ 34 ∷ []) $ free1 ! $ move ! (31 ∷ 32 ∷ []) $ free1 ! $
+        move ! (29 ∷ 30 ∷ []) $ free1 ! $ move ! (27 ∷ 28 ∷ []) $ free1 ! $ move ! (25 ∷ 26 ∷ []) $ free1 ! $ move ! (23 ∷ 24 ∷ []) $ free1 ! $
+        move ! (21 ∷ 22 ∷ []) $ free1 ! $ move ! (19 ∷ 20 ∷ []) $ free1 ! $ move ! (17 ∷ 18 ∷ []) $ free1 ! $ move ! (15 ∷ 16 ∷ []) $ free1 ! $
+        move ! (13 ∷ 14 ∷ []) $ free1 ! $ move ! (11 ∷ 12 ∷ []) $ free1 ! $ move ! (9 ∷ 10 ∷ []) $ free1 ! $ move ! (7 ∷ 8 ∷ []) $ free1 ! $
+        move ! (5 ∷ 6 ∷ []) $ free1 ! $ free0 ! $ keep ! (0 ∷ 1 ∷ 2 ∷ 3 ∷ 4 ∷ []) $ by ! (exits room)))))
 
     below : (t f : ℕ) → f + 1 + t ≡ n → ent 𝓤 (⋆ 𝓤 H A (At (f + 1))) (Below (suc t))
     below t f e =
@@ -554,7 +577,8 @@ module _ {M : Type 1} (𝓤 : URA M) (H : Heap 𝓤) (A : Atoms 𝓤) (W : Given
         qed W Before₂ ∵ exec ! C Λ En (behind 3 (code.function .body)) (atRet En Post) $
         use2 W (raw (ReadC 𝓤 H A mem run .pre (to-read 32 32)) ⊛ ‵ Own) (goes-read 32 32 (half-needs 32 (omega arith))) $ split ! $
         calls-at ! fm (ReadC 𝓤 H A mem run) known-read (to-read 32 32) (and-then ! (load ! (from ! (stop !)) (look ! 24 refl)) (and-then ! (lit ! tt) (no-more !))) (λ u.
-        use1 W (later (some (λ (r : Read). ((‵ (flft κ q) ⊛ ‵ ftrue) ⊛ ‵ (RB .own r (u ∷ []))) ⊛ raw (ensured 𝓤 H A read.ended (read.clauses 𝓤 H A mem run) (κ, tt) (rd 32, (32, tt)) tt r)))) (id⊢ 𝓤 _) $ await ! tt $ pick ! (λ r.
+        use1 W (later (some (λ (r : Read). ((‵ (flft κ q) ⊛ ‵ ftrue) ⊛ ‵ (RB .own r (u ∷ []))) ⊛ raw (ensured 𝓤 H A read.ended (read.clauses 𝓤 H A mem run) (κ, tt) (rd 32, (32, tt)) tt r)))) (id⊢ 𝓤 _) $
+        await ! tt $ pick ! (λ r.
         split ! $ move ! (1 ∷ []) $ use1 W (raw (fact 𝓤 (Said 32 32 r))) (said 32 32 r) $ heard ! (Said 32 32 r) (λ e.
         split ! $ rewrite ! 1 (λ (r : Read). ‵ (RB .own r (u ∷ []))) (is-got 32 32 r e) refl $
         move ! (1 ∷ []) $ peeks ! RB (Is RB) (shows 𝓤 H A RB) (got 32 32) (u ∷ []) (λ is.
@@ -571,7 +595,8 @@ module _ {M : Type 1} (𝓤 : URA M) (H : Heap 𝓤) (A : Atoms 𝓤) (W : Given
         qed W Before₁ ∵ exec ! C Λ En (behind 1 (code.function .body)) (atRet En Post) $
         use2 W (raw (ReadC 𝓤 H A mem run .pre (to-read 0 32)) ⊛ ‵ Own) (goes-read 0 32 (half-needs 0 (omega arith))) $ split ! $
         calls-at ! fm (ReadC 𝓤 H A mem run) known-read (to-read 0 32) (and-then ! (load ! (from ! (stop !)) (look ! 26 refl)) (and-then ! (lit ! tt) (no-more !))) (λ u.
-        use1 W (later (some (λ (r : Read). ((‵ (flft κ q) ⊛ ‵ ftrue) ⊛ ‵ (RB .own r (u ∷ []))) ⊛ raw (ensured 𝓤 H A read.ended (read.clauses 𝓤 H A mem run) (κ, tt) (rd 0, (32, tt)) tt r)))) (id⊢ 𝓤 _) $ await ! tt $ pick ! (λ r.
+        use1 W (later (some (λ (r : Read). ((‵ (flft κ q) ⊛ ‵ ftrue) ⊛ ‵ (RB .own r (u ∷ []))) ⊛ raw (ensured 𝓤 H A read.ended (read.clauses 𝓤 H A mem run) (κ, tt) (rd 0, (32, tt)) tt r)))) (id⊢ 𝓤 _) $
+        await ! tt $ pick ! (λ r.
         split ! $ move ! (1 ∷ []) $ use1 W (raw (fact 𝓤 (Said 0 32 r))) (said 0 32 r) $ heard ! (Said 0 32 r) (λ e.
         split ! $ rewrite ! 1 (λ (r : Read). ‵ (RB .own r (u ∷ []))) (is-got 0 32 r e) refl $
         move ! (1 ∷ []) $ peeks ! RB (Is RB) (shows 𝓤 H A RB) (got 0 32) (u ∷ []) (λ is.
@@ -585,7 +610,8 @@ module _ {M : Type 1} (𝓤 : URA M) (H : Heap 𝓤) (A : Atoms 𝓤) (W : Given
         qed W Before₀ ∵ exec ! C Λ En (behind 0 (code.function .body)) (atRet En Post) $
         use2 W (raw (NewC 𝓤 H A mem run .pre to-new) ⊛ ‵ Own) goes-new $ split ! $
         calls-at ! fm (NewC 𝓤 H A mem run) known-new to-new (and-then ! (load ! (from ! (stop !)) (look ! 44 refl)) (no-more !)) (λ u.
-        use1 W (later (some (λ (r : Reader). ((‵ (flft κ q) ⊛ ‵ ftrue) ⊛ ‵ (B .own r (u ∷ []))) ⊛ raw (ensured 𝓤 H A new.ended (new.clauses 𝓤 H A mem run) (κ, tt) (s, tt) tt r)))) (id⊢ 𝓤 _) $ await ! tt $ pick ! (λ r.
+        use1 W (later (some (λ (r : Reader). ((‵ (flft κ q) ⊛ ‵ ftrue) ⊛ ‵ (B .own r (u ∷ []))) ⊛ raw (ensured 𝓤 H A new.ended (new.clauses 𝓤 H A mem run) (κ, tt) (s, tt) tt r)))) (id⊢ 𝓤 _) $
+        await ! tt $ pick ! (λ r.
         split ! $ move ! (1 ∷ []) $ use1 W (raw (fact 𝓤 ((r .bytes ≡ s) × (r .at ≡ 0)))) (new-said r) $ heard ! ((r .bytes ≡ s) × (r .at ≡ 0)) (λ e.
         split ! $ rewrite ! 1 (λ (h : Reader). ‵ (B .own h (u ∷ []))) (λ i. record { bytes = e .0 i; at = e .1 i }) refl $
         move ! (1 ∷ []) $ peeks ! B (Is B) (shows 𝓤 H A B) (rd 0) (u ∷ []) (λ is.
@@ -604,8 +630,10 @@ module _ {M : Type 1} (𝓤 : URA M) (H : Heap 𝓤) (A : Atoms 𝓤) (W : Given
       move ! (2 ∷ []) $ fsplit ! $ move ! (1 ∷ []) $ fsplit ! $ move ! (1 ∷ []) $ drop ! $ fsplit ! $ drop ! $ fsplit ! $
       -- [obs; the borrow; what the message owns; the token; the other]
       enter ! (𝓣 .C) (𝓣 .Λ) function (v ∷ sliceVal (b, o) n ∷ vint w64 p ∷ []) _ $
-      alloc1 ! (λ l₀. alloc1 ! (λ l₁. alloc1 ! (λ l₂. alloc1 ! (λ l₃. alloc1 ! (λ l₄. alloc1 ! (λ l₅. alloc1 ! (λ l₆. alloc1 ! (λ l₇. alloc1 ! (λ l₈. alloc1 ! (λ l₉. alloc1 ! (λ l₁₀. alloc1 ! (λ l₁₁. alloc1 ! (λ l₁₂. alloc1 ! (λ l₁₃. alloc1 ! (λ l₁₄. alloc1 ! (λ l₁₅. alloc1 ! (λ l₁₆. alloc1 ! (λ l₁₇. alloc1 ! (λ l₁₈. alloc1 ! (λ l₁₉. alloc1 ! (λ l₂₀. alloc0 ! $ params1 ! $
-      pass1 ! (init ! 38 refl typed) $ pass1 ! (init ! 36 refl (tt, (tt, (record { fits = room .0 }, tt)))) $ pass1 ! (init ! 34 refl (tt, record { fits = p-fits })) $ pass0 ! $
+      alloc1 ! (λ l₀. alloc1 ! (λ l₁. alloc1 ! (λ l₂. alloc1 ! (λ l₃. alloc1 ! (λ l₄. alloc1 ! (λ l₅. alloc1 ! (λ l₆. alloc1 ! (λ l₇. alloc1 ! (λ l₈. alloc1 ! (λ l₉. alloc1 ! (λ l₁₀. alloc1 ! (λ l₁₁. alloc1 ! (λ l₁₂. alloc1 ! (λ l₁₃. alloc1 ! (λ l₁₄. alloc1 ! (λ l₁₅. alloc1 ! (λ l₁₆. alloc1 ! (λ l₁₇. alloc1 ! (λ l₁₈. alloc1 ! (λ l₁₉. alloc1 ! (λ l₂₀. alloc0 ! $
+      params1 ! $
+      pass1 ! (init ! 38 refl typed) $ pass1 ! (init ! 36 refl (tt, (tt, (record { fits = room .0 }, tt)))) $
+      pass1 ! (init ! 34 refl (tt, record { fits = p-fits })) $ pass0 ! $
       move ! (42 ∷ 43 ∷ 46 ∷ []) $ opens-slice ! tt u32 ys b o $ move ! (47 ∷ 46 ∷ 0 ∷ []) $
       by ! (begins₀ 𝓣 known-new known-read room (typed .1) l₀ l₁ l₂ l₃ l₄ l₅ l₆ l₇ l₈ l₉ l₁₀ l₁₁ l₁₂ l₁₃ l₁₄ l₁₅ l₁₆ l₁₇ l₁₈ l₁₉ l₂₀))))))))))))))))))))))
 
