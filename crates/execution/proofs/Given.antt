@@ -69,17 +69,17 @@ module _ (a : Shape) (numbers : List ℕ) (phone from : ℕ) (e : phone ≡ min 
 
 -- ---- The run
 
-module _ (t : RunTerms) (numbers : List ℕ) where
+module _ (t : RunTerms) (numbers work0 work1 : List ℕ) where
   pub given-run : (r : Execution) (before after : List ℕ)
-      → RunsFrom (startOf 0) t numbers (serverGiven t numbers .book) (phoneGiven t numbers .book) r before after
-      → Executes (givenRun t numbers) r before after
+      → RunsFrom (startOf 0) t numbers (serverGiven t numbers .book) (phoneGiven t numbers .book) work0 work1 r before after
+      → Executes (givenRun t numbers work0 work1) r before after
   given-run r before after p = p .is (serverGiven t numbers) (phoneGiven t numbers) refl refl (λ z. refl) refl refl (λ z. refl)
 
-  pub runs-given : booksGiven (t .settings .shape) numbers ≡ true → executed t numbers ≡ givenRun t numbers
+  pub runs-given : booksGiven (t .settings .shape) numbers ≡ true → executed t numbers work0 work1 ≡ givenRun t numbers work0 work1
   unfolding executed
   runs-given e = rw e
 
-  pub runs-dealt : booksGiven (t .settings .shape) numbers ≡ false → executed t numbers ≡ dealtRun t numbers
+  pub runs-dealt : booksGiven (t .settings .shape) numbers ≡ false → executed t numbers work0 work1 ≡ dealtRun t numbers work0 work1
   unfolding executed
   runs-dealt e = rw e
 
@@ -113,4 +113,4 @@ not-books a numbers e = by (shapeOk a) refl e
     by false y f = refl
 
 pub draw-is-dealt : DrawIsDealt
-draw-is-dealt t numbers e = runs-dealt t numbers (not-books (t .settings .shape) numbers e)
+draw-is-dealt t numbers work0 work1 e = runs-dealt t numbers work0 work1 (not-books (t .settings .shape) numbers e)

@@ -23,8 +23,8 @@ use Rattle.runs.specs.Records.Party.{observer, peer}
 use Rattle.runs.specs.Records.Call.{begin}
 use Rattle.execution.specs.declared.RunTerms.{RunTerms}
 use Rattle.execution.specs.declared.Execution.{Execution}
-use Rattle.execution.specs.Execution.{refusalOf, Carried, carry, carryAll, roundCalls, runCalls, serverInputs, phoneInputs, drawIn, serverInput, phoneInput, withBook, zeroWork, dealNoOf, dealtRun}
-use Rattle.execution.specs.Held.{carriedOf, Fits, runBytes, runAt, startOf, ServerBegins, PhoneBegins, RoundsRun, Executes, RunsFrom}
+use Rattle.execution.specs.Execution.{refusalOf, Carried, carry, carryAll, roundCalls, runCalls, serverInputs, phoneInputs, drawIn, serverInput, phoneInput, withBook, dealNoOf, dealtRun}
+use Rattle.execution.specs.Held.{carriedOf, Fits, runBytes, bookLength, runAt, startOf, ServerBegins, PhoneBegins, RoundsRun, Executes, RunsFrom}
 use Rattle.execution.proofs.Calls.{stopped}
 
 -- ---- The parts of the numbers, as far as there are so many
@@ -64,12 +64,12 @@ isZero : (n : ℕ) → Dec (n ≡ 0)
 isZero zero = yes refl
 isZero (suc n) = no (λ e. absurd (omega (arith, e)))
 
-module _ (x : Execution) (t : RunTerms) (numbers book0 book1 bytes : List ℕ) (one both : Execution) (w0 w1 : List ℕ)
-    (begins : ServerBegins x (runAt t 0) (serverInputs (t .settings .shape) numbers) book0 zeroWork one w0)
-    (begins′ : PhoneBegins one (runAt t 1) (phoneInputs (t .settings .shape) numbers) book1 zeroWork both w1)
+module _ (x : Execution) (t : RunTerms) (numbers book0 book1 work0 work1 bytes : List ℕ) (one both : Execution) (w0 w1 : List ℕ)
+    (begins : ServerBegins x (runAt t 0) (serverInputs (t .settings .shape) numbers) book0 work0 one w0)
+    (begins′ : PhoneBegins one (runAt t 1) (phoneInputs (t .settings .shape) numbers) book1 work1 both w1)
     (fit : Fits x bytes (2 * rounds)) where
   abbrev x₀ : Carried
-  x₀ = carriedOf x zeroWork zeroWork bytes
+  x₀ = carriedOf x work0 work1 bytes
 
   pub both-fit : Fits both bytes (2 * rounds)
   both-fit = begins′ .fits bytes (2 * rounds) (begins .fits bytes (2 * rounds) fit)
@@ -80,13 +80,13 @@ module _ (x : Execution) (t : RunTerms) (numbers book0 book1 bytes : List ℕ) (
     abbrev go : Carried → Carried
     go y = carry (t .settings) (t .serial) h o y observer begin
 
-    server-begun : carriedOf one w0 zeroWork bytes ≡ go x₀
+    server-begun : carriedOf one w0 work1 bytes ≡ go x₀
     server-begun = by (isZero (x .refusal .number))
       where
-        by : Dec (x .refusal .number ≡ 0) → carriedOf one w0 zeroWork bytes ≡ go x₀
-        by (yes z) = begins .is h o hr hi (hb z) zeroWork bytes
+        by : Dec (x .refusal .number ≡ 0) → carriedOf one w0 work1 bytes ≡ go x₀
+        by (yes z) = begins .is h o hr hi (hb z) work1 bytes
         by (no z) =
-            begins .is (withBook h book0) o hr hi refl zeroWork bytes
+            begins .is (withBook h book0) o hr hi refl work1 bytes
             ∙ sym (stopped (t .settings) (t .serial) (withBook h book0) o x₀ observer begin z)
             ∙ stopped (t .settings) (t .serial) h o x₀ observer begin z
 
@@ -99,12 +99,12 @@ module _ (x : Execution) (t : RunTerms) (numbers book0 book1 bytes : List ℕ) (
     both-begun : carriedOf both w0 w1 bytes ≡ carry (t .settings) (t .serial) h o (go x₀) peer begin
     both-begun = by (isZero (x .refusal .number)) ∙ ap (λ (y : Carried). carry (t .settings) (t .serial) h o y peer begin) server-begun
       where
-        by : Dec (x .refusal .number ≡ 0) → carriedOf both w0 w1 bytes ≡ carry (t .settings) (t .serial) h o (carriedOf one w0 zeroWork bytes) peer begin
+        by : Dec (x .refusal .number ≡ 0) → carriedOf both w0 w1 bytes ≡ carry (t .settings) (t .serial) h o (carriedOf one w0 work1 bytes) peer begin
         by (yes z) = begins′ .is h o or oi (ob z) w0 bytes
         by (no z) =
             begins′ .is h (withBook o book1) or oi refl w0 bytes
-            ∙ sym (stopped (t .settings) (t .serial) h (withBook o book1) (carriedOf one w0 zeroWork bytes) peer begin (still z))
-            ∙ stopped (t .settings) (t .serial) h o (carriedOf one w0 zeroWork bytes) peer begin (still z)
+            ∙ sym (stopped (t .settings) (t .serial) h (withBook o book1) (carriedOf one w0 work1 bytes) peer begin (still z))
+            ∙ stopped (t .settings) (t .serial) h o (carriedOf one w0 work1 bytes) peer begin (still z)
 
     module _ (r : Execution) (w0′ w1′ after : List ℕ) (ran : RoundsRun rounds both w0 w1 bytes r w0′ w1′ after) where
       abbrev end : Carried
@@ -134,7 +134,7 @@ module _ (x : Execution) (t : RunTerms) (numbers book0 book1 bytes : List ℕ) (
             fits = omega (arith, long, size, ran .size);
           }
 
-  pub runs-from : (r : Execution) (w0′ w1′ after : List ℕ) → RoundsRun rounds both w0 w1 bytes r w0′ w1′ after → RunsFrom x t numbers book0 book1 r bytes after
+  pub runs-from : (r : Execution) (w0′ w1′ after : List ℕ) → RoundsRun rounds both w0 w1 bytes r w0′ w1′ after → RunsFrom x t numbers book0 book1 work0 work1 r bytes after
   runs-from r w0′ w1′ after ran = record { is = λ h o a b c d e f. executes h o a b c d e f r w0′ w1′ after ran }
 
 -- ---- The deal
@@ -179,8 +179,9 @@ module _ (t : RunTerms) (numbers b0 b1 : List ℕ) (e0 : length b0 ≡ bookSize 
   unfolding dealCall
   phone-book z = sym (ap (λ (x : Dealt). x .phone) (rw (started z) at deal))
 
-  pub whole-run : (r : Execution) (before after : List ℕ) → RunsFrom (startOf refused) t numbers book0 book1 r before after → Executes (dealtRun t numbers) r before after
-  whole-run r before after p =
+  pub whole-run : (work0 work1 : List ℕ) (r : Execution) (before after : List ℕ) → RunsFrom (startOf refused) t numbers book0 book1 work0 work1 r before after
+      → Executes (dealtRun t numbers work0 work1) r before after
+  whole-run work0 work1 r before after p =
       rw (← no-is) (p .is (serverInput t numbers) (phoneInput t numbers) refl refl server-book refl refl phone-book)
 
 pub start-fits : (refused : ℕ) (bytes : List ℕ) → runBytes ≤ length bytes → Fits (startOf refused) bytes (2 * rounds)
@@ -189,8 +190,8 @@ start-fits refused bytes room =
 
 -- ---- Sizes
 
--- a book fits the array that holds it
-pub book-most : (a : Shape) → bookSize a ≤ 1320 * widthOf keyCount
+-- a book fits the slice that holds it
+pub book-most : (a : Shape) → bookSize a ≤ bookLength
 unfolding bookSize shapeOk
 book-most a = by (shapeOk a) refl
   where

@@ -7,7 +7,7 @@ use lib.ListN.{length, take, drop, replicate}
 use Rattle.settings.specs.declared.Shape.{Shape}
 use Rattle.settings.specs.declared.Settings.{Settings}
 use Rattle.settings.specs.Questions.{shapeOk}
-use Rattle.settings.specs.Sizes.{keyCount, mostBytes, bookSize, inputSize, workLength}
+use Rattle.settings.specs.Sizes.{keyCount, mostBytes, bookSize, inputSize}
 use Rattle.settings.specs.Schedule.{rounds}
 use Rattle.dealer.specs.Deal.{dealNo}
 use Rattle.state.specs.State.{freshSide}
@@ -135,17 +135,14 @@ phoneGiven terms numbers =
     let a = terms .settings .shape in
     withBook (phoneInput terms numbers) (drop (bookSize a) (drawIn a numbers))
 
--- the working slices before a run
-abbrev pub zeroWork : List ℕ
-zeroWork = replicate (workLength keyCount) 0
+-- a fresh side that has sent nothing, with a lent working slice
+abbrev pub freshParty : List ℕ → PartyState
+freshParty work = record { side = freshSide; work = work; latest = [] }
 
--- a fresh side that has sent nothing
-abbrev pub freshParty : PartyState
-freshParty = record { side = freshSide; work = zeroWork; latest = [] }
-
--- after a deal, before the first begin
-abbrev pub notBegun : Refusal → Carried
-notBegun refusal = record { refusal = refusal; parties = record { observer = freshParty; peer = freshParty }; messages = [] }
+-- after a deal, before the first begin, with the server's working slice and the phone's
+abbrev pub notBegun : Refusal → List ℕ → List ℕ → Carried
+notBegun refusal work0 work1 =
+    record { refusal = refusal; parties = record { observer = freshParty work0; peer = freshParty work1 }; messages = [] }
 
 -- the first no of the deal, whose lent books have the size that the shape asks for
 abbrev pub dealNoOf : RunTerms → List ℕ → ℕ
@@ -154,15 +151,18 @@ dealNoOf terms numbers =
     dealNo keyCount a (terms .keys0) (terms .keys1) (drawIn a numbers) (replicate (bookSize a) 0) (replicate (bookSize a) 0)
 
 -- begun by both, the server first, and carried from round to round, after a deal that gave this answer
-abbrev pub runAfter : RunTerms → ℕ → PartyInput → PartyInput → Carried
-runAfter terms dealt own other = carryAll (terms .settings) (terms .serial) own other (notBegun (refusalOf Deal 0 dealt)) runCalls
+abbrev pub runAfter : RunTerms → ℕ → PartyInput → PartyInput → List ℕ → List ℕ → Carried
+runAfter terms dealt own other work0 work1 =
+    carryAll (terms .settings) (terms .serial) own other (notBegun (refusalOf Deal 0 dealt) work0 work1) runCalls
 
-abbrev pub dealtRun : RunTerms → List ℕ → Carried
-dealtRun terms numbers = runAfter terms (dealNoOf terms numbers) (serverInput terms numbers) (phoneInput terms numbers)
+abbrev pub dealtRun : RunTerms → List ℕ → List ℕ → List ℕ → Carried
+dealtRun terms numbers work0 work1 =
+    runAfter terms (dealNoOf terms numbers) (serverInput terms numbers) (phoneInput terms numbers) work0 work1
 
 -- "and nothing is dealt"
-abbrev pub givenRun : RunTerms → List ℕ → Carried
-givenRun terms numbers = runAfter terms 0 (serverGiven terms numbers) (phoneGiven terms numbers)
+abbrev pub givenRun : RunTerms → List ℕ → List ℕ → List ℕ → Carried
+givenRun terms numbers work0 work1 = runAfter terms 0 (serverGiven terms numbers) (phoneGiven terms numbers) work0 work1
 
-unfoldable pub executed : RunTerms → List ℕ → Carried
-executed terms numbers = cond (booksGiven (terms .settings .shape) numbers) (givenRun terms numbers) (dealtRun terms numbers)
+unfoldable pub executed : RunTerms → List ℕ → List ℕ → List ℕ → Carried
+executed terms numbers work0 work1 =
+    cond (booksGiven (terms .settings .shape) numbers) (givenRun terms numbers work0 work1) (dealtRun terms numbers work0 work1)

@@ -8,7 +8,7 @@ use lib.ListN.{length, take, drop}
 use Rattle.lists.specs.Lists.{inFront}
 use Rattle.settings.specs.declared.Shape.{Shape}
 use Rattle.settings.specs.declared.Settings.{Settings}
-use Rattle.settings.specs.Sizes.{keyCount, mostBytes, inputSize}
+use Rattle.settings.specs.Sizes.{keyCount, widthOf, mostBytes, inputSize}
 use Rattle.settings.specs.Schedule.{rounds}
 use Rattle.state.specs.declared.Side.{Side}
 use Rattle.state.specs.State.{freshSide}
@@ -23,7 +23,7 @@ use Rattle.execution.specs.declared.Execution.{Execution}
 use Rattle.execution.specs.declared.SendStep.{SendStep}
 use Rattle.execution.specs.declared.Cuts.{Cuts}
 use Rattle.execution.specs.declared.CallKind.the-variants.{Deal}
-use Rattle.execution.specs.Execution.{messageRoom, refusalOf, Carried, carry, carryAll, roundCalls, runCalls, serverInputs, phoneInputs, zeroWork}
+use Rattle.execution.specs.Execution.{messageRoom, refusalOf, Carried, carry, carryAll, roundCalls, runCalls, serverInputs, phoneInputs}
 
 -- a party: its side, its working slice, and its latest message, which stands among the messages
 abbrev pub partyOf : Endpoint → List ℕ → List ℕ → PartyState
@@ -51,6 +51,10 @@ pub record Fits (x : Execution) (bytes : List ℕ) (more : ℕ) : Type 0 where
 -- the bytes of all messages of a run, at most
 abbrev pub runBytes : ℕ
 runBytes = 2 * rounds * mostBytes keyCount
+
+-- the numbers of a book, at most
+abbrev pub bookLength : ℕ
+bookLength = 1320 * widthOf keyCount
 
 -- ---- What each working function leaves, from x to r. s, serial, own and other are those of the run: any
 
@@ -165,8 +169,8 @@ pub record Executes (x : Carried) (r : Execution) (before after : List ℕ) : Ty
   pub fits : length (x .messages) ≤ length before
 
 -- both begins and the rounds, from an execution x that has not begun; own and other: what the begins are handed, which count where nothing was refused
-pub record RunsFrom (x : Execution) (terms : RunTerms) (numbers book0 book1 : List ℕ) (r : Execution) (before after : List ℕ) : Type 0 where
+pub record RunsFrom (x : Execution) (terms : RunTerms) (numbers book0 book1 work0 work1 : List ℕ) (r : Execution) (before after : List ℕ) : Type 0 where
   pub is : (own other : PartyInput)
       → runOf (terms .settings) (terms .serial) own ≡ runAt terms 0 → own .inputs ≡ serverInputs (terms .settings .shape) numbers → (x .refusal .number ≡ 0 → own .book ≡ book0)
       → runOf (terms .settings) (terms .serial) other ≡ runAt terms 1 → other .inputs ≡ phoneInputs (terms .settings .shape) numbers → (x .refusal .number ≡ 0 → other .book ≡ book1)
-      → Executes (carryAll (terms .settings) (terms .serial) own other (carriedOf x zeroWork zeroWork before) runCalls) r before after
+      → Executes (carryAll (terms .settings) (terms .serial) own other (carriedOf x work0 work1 before) runCalls) r before after

@@ -33,6 +33,6 @@ HonestRunGoesThrough =
 -- a draw of the asked length is never taken for books
 abbrev pub DrawIsDealt : Type 0
 DrawIsDealt =
-    (terms : RunTerms) (numbers : List ℕ)
+    (terms : RunTerms) (numbers work0 work1 : List ℕ)
     → length (drawIn (terms .settings .shape) numbers) ≡ drawSize (terms .settings .shape)
-    → executed terms numbers ≡ dealtRun terms numbers
+    → executed terms numbers work0 work1 ≡ dealtRun terms numbers work0 work1

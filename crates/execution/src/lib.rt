@@ -7,7 +7,7 @@ ghost use Rattle.settings.specs.Sizes.{keyCount, mostBytes, bookSize};
 ghost use Rattle.settings.specs.Schedule.{rounds};
 ghost use Rattle.execution.specs.Execution.{noRefusal, refusalOf, drawIn, booksGiven, dealtRun, givenRun, executed};
 ghost use Rattle.execution.specs.Held.{Stands, Fits, runAt, silentEndpoint, startOf, ServerBegins, PhoneBegins, SendsAt, ServerSends, PhoneSends, PhoneTakes};
-ghost use Rattle.execution.specs.Held.{ServerTakes, RoundsRun, runBytes, CutsAt, Executes, RunsFrom};
+ghost use Rattle.execution.specs.Held.{ServerTakes, RoundsRun, runBytes, bookLength, CutsAt, Executes, RunsFrom};
 use dealer::deal;
 use lists::least;
 use settings::KEYS;
@@ -16,7 +16,6 @@ use settings::ROUNDS;
 use settings::Settings;
 use settings::Shape;
 use settings::WIDTH;
-use settings::WORK_LENGTH;
 use settings::book_size;
 use settings::input_size;
 use settings::shape_no;
@@ -30,7 +29,7 @@ use state::fresh;
 // The bytes of all messages of a run, at most; and the most numbers of a book.
 pub const RUN_BYTES: usize = 2 * ROUNDS as usize * MOST_BYTES;
 
-const BOOK_LENGTH: usize = 1320 * WIDTH;
+pub const BOOK_LENGTH: usize = 1320 * WIDTH;
 
 // What both sides and the dealer agree on before a run.
 pub struct RunTerms {
@@ -375,21 +374,21 @@ fn begin_and_run(
     numbers: &[u32],
     book0: &[u32],
     book1: &[u32],
+    work0: &mut [u32],
+    work1: &mut [u32],
     messages: &mut [u8],
 ) -> Execution
     requires { ⌜ Fits dealt (now messages) (2 * rounds) ⌝ }
-    ensures { λ r. ⌜ RunsFrom dealt terms (now (numbers .entry)) (now (book0 .entry)) (now (book1 .entry)) r (now (messages .entry)) (now (messages .exit)) ⌝ }
+    ensures { λ r. ⌜ RunsFrom dealt terms (now (numbers .entry)) (now (book0 .entry)) (now (book1 .entry)) (now (work0 .entry)) (now (work1 .entry)) r (now (messages .entry)) (now (messages .exit)) ⌝ }
 {
-    let mut server = [0u32; WORK_LENGTH];
-    let mut phone = [0u32; WORK_LENGTH];
     let cuts = cuts_of(terms.settings.shape, numbers.len());
     let first = cuts.phone;
     let second = cuts.draw;
     let run0 = run_at(terms, 0);
     let run1 = run_at(terms, 1);
-    let one = begin_server(dealt, run0, &numbers[..first], book0, &mut server);
-    let both = begin_phone(one, run1, &numbers[first..second], book1, &mut phone);
-    run_rounds(both, &mut server, &mut phone, messages)
+    let one = begin_server(dealt, run0, &numbers[..first], book0, work0);
+    let both = begin_phone(one, run1, &numbers[first..second], book1, work1);
+    run_rounds(both, work0, work1, messages)
 }
 
 // The run with a deal into lent books of the size that the shape asks for.
@@ -398,10 +397,12 @@ fn deal_and_run(
     numbers: &[u32],
     book0: &mut [u32],
     book1: &mut [u32],
+    work0: &mut [u32],
+    work1: &mut [u32],
     messages: &mut [u8],
 ) -> Execution
     requires { ⌜ (length (now book0) ≡ bookSize (terms .settings .shape)) × (length (now book1) ≡ bookSize (terms .settings .shape)) × (runBytes ≤ length (now messages)) ⌝ }
-    ensures { λ r. ⌜ Executes (dealtRun terms (now (numbers .entry))) r (now (messages .entry)) (now (messages .exit)) ⌝ }
+    ensures { λ r. ⌜ Executes (dealtRun terms (now (numbers .entry)) (now (work0 .entry)) (now (work1 .entry))) r (now (messages .entry)) (now (messages .exit)) ⌝ }
 {
     let shape = terms.settings.shape;
     let keys0 = terms.keys0;
@@ -409,22 +410,31 @@ fn deal_and_run(
     let cuts = cuts_of(shape, numbers.len());
     let second = cuts.draw;
     let refused = deal(shape, keys0, keys1, &numbers[second..], book0, book1);
-    begin_and_run(start(refused), terms, numbers, book0, book1, messages)
+    let dealt = start(refused);
+    begin_and_run(dealt, terms, numbers, book0, book1, work0, work1, messages)
 }
 
-// The run with a deal.
-fn execute_dealt(terms: RunTerms, numbers: &[u32], messages: &mut [u8]) -> Execution
-    requires { ⌜ runBytes ≤ length (now messages) ⌝ }
-    ensures { λ r. ⌜ Executes (dealtRun terms (now (numbers .entry))) r (now (messages .entry)) (now (messages .exit)) ⌝ }
+// The run with a deal, in front of lent books.
+fn execute_dealt(
+    terms: RunTerms,
+    numbers: &[u32],
+    book0: &mut [u32],
+    book1: &mut [u32],
+    work0: &mut [u32],
+    work1: &mut [u32],
+    messages: &mut [u8],
+) -> Execution
+    requires { ⌜ (bookLength ≤ length (now book0)) × (bookLength ≤ length (now book1)) × (runBytes ≤ length (now messages)) ⌝ }
+    ensures { λ r. ⌜ Executes (dealtRun terms (now (numbers .entry)) (now (work0 .entry)) (now (work1 .entry))) r (now (messages .entry)) (now (messages .exit)) ⌝ }
 {
     let size = book_size(terms.settings.shape);
-    let mut book0 = [0u32; BOOK_LENGTH];
-    let mut book1 = [0u32; BOOK_LENGTH];
     deal_and_run(
         terms,
         numbers,
         &mut book0[..size],
         &mut book1[..size],
+        work0,
+        work1,
         messages,
     )
 }
@@ -443,9 +453,15 @@ fn books_given(shape: Shape, numbers: &[u32]) -> bool
 }
 
 // The run with the books that stand among the numbers.
-fn execute_given(terms: RunTerms, numbers: &[u32], messages: &mut [u8]) -> Execution
+fn execute_given(
+    terms: RunTerms,
+    numbers: &[u32],
+    work0: &mut [u32],
+    work1: &mut [u32],
+    messages: &mut [u8],
+) -> Execution
     requires { ⌜ (length (drawIn (terms .settings .shape) (now numbers)) ≡ 2 * bookSize (terms .settings .shape)) × (runBytes ≤ length (now messages)) ⌝ }
-    ensures { λ r. ⌜ Executes (givenRun terms (now (numbers .entry))) r (now (messages .entry)) (now (messages .exit)) ⌝ }
+    ensures { λ r. ⌜ Executes (givenRun terms (now (numbers .entry)) (now (work0 .entry)) (now (work1 .entry))) r (now (messages .entry)) (now (messages .exit)) ⌝ }
 {
     let shape = terms.settings.shape;
     let cuts = cuts_of(shape, numbers.len());
@@ -453,7 +469,8 @@ fn execute_given(terms: RunTerms, numbers: &[u32], messages: &mut [u8]) -> Execu
     let second = first + book_size(shape);
     let book0 = &numbers[first..second];
     let book1 = &numbers[second..];
-    begin_and_run(start(0), terms, numbers, book0, book1, messages)
+    let ready = start(0);
+    begin_and_run(ready, terms, numbers, book0, book1, work0, work1, messages)
 }
 
 // ---- Either
@@ -461,12 +478,25 @@ fn execute_given(terms: RunTerms, numbers: &[u32], messages: &mut [u8]) -> Execu
 // The run of these terms. The numbers are the server's inputs, the phone's inputs and the draw; where exactly as many are left as two books
 // have, the server's book and the phone's, and nothing is dealt. Where some are missing, the calls are handed what there is. At the end all
 // messages stand in front of `messages`, one behind the other; the caller lends RUN_BYTES bytes.
-pub fn execute(terms: RunTerms, numbers: &[u32], messages: &mut [u8]) -> Execution
-    requires { ⌜ runBytes ≤ length (now messages) ⌝ }
-    ensures { λ r. ⌜ Executes (executed terms (now (numbers .entry))) r (now (messages .entry)) (now (messages .exit)) ⌝ }
+//
+// The books are dealt into the front of two lent slices of BOOK_LENGTH numbers, and each side works in a lent slice of WORK_LENGTH (its begin
+// refuses any other length). All may hold anything before: what a run reads of them it has written. So a caller can lend the same slices to one
+// run after another; of what books and working slices hold afterwards it is told nothing. (A struct that holds `&mut` slices has no supported
+// proofs, and two parts of one slice cannot be lent at a time: hence a parameter for each.)
+pub fn execute(
+    terms: RunTerms,
+    numbers: &[u32],
+    book0: &mut [u32],
+    book1: &mut [u32],
+    work0: &mut [u32],
+    work1: &mut [u32],
+    messages: &mut [u8],
+) -> Execution
+    requires { ⌜ (bookLength ≤ length (now book0)) × (bookLength ≤ length (now book1)) × (runBytes ≤ length (now messages)) ⌝ }
+    ensures { λ r. ⌜ Executes (executed terms (now (numbers .entry)) (now (work0 .entry)) (now (work1 .entry))) r (now (messages .entry)) (now (messages .exit)) ⌝ }
 {
     if books_given(terms.settings.shape, numbers) {
-        return execute_given(terms, numbers, messages);
+        return execute_given(terms, numbers, work0, work1, messages);
     }
-    execute_dealt(terms, numbers, messages)
+    execute_dealt(terms, numbers, book0, book1, work0, work1, messages)
 }

@@ -9,9 +9,14 @@ ghost use Prim.Native.Nat.{_≤_};
 ghost use lib.ListN.{length};
 ghost use Rattle.stream.specs.Waiting.{standing, flushed, allCalls};
 ghost use Rattle.lines.specs.Plain.{lineAnswer};
+ghost use Rattle.lines.specs.Run.{LentToLine};
 ghost use Rattle.line_program.specs.Theorems.{keptLength};
 use answers::answer_some;
 use answers::put_last;
+use execution::BOOK_LENGTH;
+use execution::RUN_BYTES;
+use lines::RUN_NUMBERS;
+use settings::WORK_LENGTH;
 use stream::Stream;
 use stream::start_stream;
 
@@ -39,16 +44,40 @@ fn write_out(bytes: &[u8]) -> bool {
 }
 
 // Answers the lines that end in a part, and writes the answers, until a write fails.
-fn answer_part(stream: Stream, kept: &mut [u8], bytes: &[u8], out: &mut [u8]) -> InputState
+fn answer_part(
+    stream: Stream,
+    kept: &mut [u8],
+    bytes: &[u8],
+    out: &mut [u8],
+    numbers: &mut [u32],
+    book0: &mut [u32],
+    book1: &mut [u32],
+    work0: &mut [u32],
+    work1: &mut [u32],
+    messages: &mut [u8],
+) -> InputState
     requires { ⌜ length (now kept) ≡ keptLength ⌝ }
     requires { ⌜ 112 ≤ length (now out) ⌝ }
+    requires { ⌜ LentToLine (now numbers) (now book0) (now book1) (now work0) (now work1) (now messages) ⌝ }
     ensures { λ r. ⌜ (r .good ≡ true → standing (r .stream) (now (kept .exit)) [] 0 ≡ flushed (allCalls lineAnswer (standing stream (now (kept .entry)) [] 0) (now (bytes .entry)))) ⌝ }
+    ensures { λ r. ⌜ LentToLine (now (numbers .exit)) (now (book0 .exit)) (now (book1 .exit)) (now (work0 .exit)) (now (work1 .exit)) (now (messages .exit)) ⌝ }
 {
     let mut here = stream;
     let mut good = true;
     let mut at = 0;
     while at < bytes.len() && good {
-        let call = answer_some(here, kept, &bytes[at..], out);
+        let call = answer_some(
+            here,
+            kept,
+            &bytes[at..],
+            out,
+            numbers,
+            book0,
+            book1,
+            work0,
+            work1,
+            messages,
+        );
         let n = call.waiting;
         good = write_out(&out[..n]);
         here = call.stream;
@@ -68,9 +97,17 @@ fn read_part(
     kept: &mut [u8],
     part: &mut [u8],
     out: &mut [u8],
+    numbers: &mut [u32],
+    book0: &mut [u32],
+    book1: &mut [u32],
+    work0: &mut [u32],
+    work1: &mut [u32],
+    messages: &mut [u8],
 ) -> InputState
     requires { ⌜ length (now kept) ≡ keptLength ⌝ }
     requires { ⌜ 112 ≤ length (now out) ⌝ }
+    requires { ⌜ LentToLine (now numbers) (now book0) (now book1) (now work0) (now work1) (now messages) ⌝ }
+    ensures { λ r. ⌜ LentToLine (now (numbers .exit)) (now (book0 .exit)) (now (book1 .exit)) (now (work0 .exit)) (now (work1 .exit)) (now (messages .exit)) ⌝ }
 {
     let got = libc::read(fd, part);
     if got < 0 {
@@ -89,13 +126,37 @@ fn read_part(
         };
     }
     let n = io::count(got, part);
-    answer_part(stream, kept, &part[..n], out)
+    answer_part(
+        stream,
+        kept,
+        &part[..n],
+        out,
+        numbers,
+        book0,
+        book1,
+        work0,
+        work1,
+        messages,
+    )
 }
 
 // All parts. Nothing says that an input ends, so the loop counts down from a number that no run uses up.
-fn read_parts(fd: i32, kept: &mut [u8], part: &mut [u8], out: &mut [u8]) -> InputState
+fn read_parts(
+    fd: i32,
+    kept: &mut [u8],
+    part: &mut [u8],
+    out: &mut [u8],
+    numbers: &mut [u32],
+    book0: &mut [u32],
+    book1: &mut [u32],
+    work0: &mut [u32],
+    work1: &mut [u32],
+    messages: &mut [u8],
+) -> InputState
     requires { ⌜ length (now kept) ≡ keptLength ⌝ }
     requires { ⌜ 112 ≤ length (now out) ⌝ }
+    requires { ⌜ LentToLine (now numbers) (now book0) (now book1) (now work0) (now work1) (now messages) ⌝ }
+    ensures { λ r. ⌜ LentToLine (now (numbers .exit)) (now (book0 .exit)) (now (book1 .exit)) (now (work0 .exit)) (now (work1 .exit)) (now (messages .exit)) ⌝ }
 {
     let mut state = InputState {
         more: true,
@@ -104,22 +165,61 @@ fn read_parts(fd: i32, kept: &mut [u8], part: &mut [u8], out: &mut [u8]) -> Inpu
     };
     let mut left = u64::MAX;
     while left > 0 && state.more {
-        state = read_part(fd, state.stream, kept, part, out);
+        state = read_part(
+            fd,
+            state.stream,
+            kept,
+            part,
+            out,
+            numbers,
+            book0,
+            book1,
+            work0,
+            work1,
+            messages,
+        );
         left -= 1;
     }
     state
 }
 
-// Answers an input; whether every read and write has been done.
+// Answers an input; whether every read and write has been done. What a line's run needs is made here once, and lent to one line after another.
 fn answer_input(fd: i32) -> bool {
     let mut kept = [0u8; KEPT];
     let mut part = io::large_buffer();
     let mut out = io::large_buffer();
-    let state = read_parts(fd, &mut kept, &mut part, &mut out);
+    let mut numbers = [0u32; RUN_NUMBERS];
+    let mut book0 = [0u32; BOOK_LENGTH];
+    let mut book1 = [0u32; BOOK_LENGTH];
+    let mut work0 = [0u32; WORK_LENGTH];
+    let mut work1 = [0u32; WORK_LENGTH];
+    let mut messages = [0u8; RUN_BYTES];
+    let state = read_parts(
+        fd,
+        &mut kept,
+        &mut part,
+        &mut out,
+        &mut numbers,
+        &mut book0,
+        &mut book1,
+        &mut work0,
+        &mut work1,
+        &mut messages,
+    );
     if !state.good {
         return false;
     }
-    let n = put_last(state.stream, &kept, &mut out);
+    let n = put_last(
+        state.stream,
+        &kept,
+        &mut out,
+        &mut numbers,
+        &mut book0,
+        &mut book1,
+        &mut work0,
+        &mut work1,
+        &mut messages,
+    );
     write_out(&out[..n])
 }
 

@@ -5,7 +5,7 @@ use mathlib.Core.Bool.{true, _&&_}
 use mathlib.Core.List.{List, [], _++_}
 use native.Mathlib.Omega.{arith}
 use lib.Dec.{ltb}
-use lib.ListN.{length, getD, take, drop, replicate, length-replicate}
+use lib.ListN.{length, getD, take, drop, replicate, length-append, length-replicate, replicate-append-replicate}
 use lib.Seq.{take-at, drop-at}
 use borrow.Author.Tests.{le-leb, ltb-true, eq-eqb}
 use Rattle.lists.specs.Answers.{ask}
@@ -32,7 +32,7 @@ use Rattle.execution.proofs.Honest.{honest-run-goes-through}
 use Rattle.execution.proofs.Given.{draw-is-dealt}
 use Rattle.lines.specs.declared.LineResult.{LineResult}
 use Rattle.lines.specs.Plain.{settingsOf, secretOf, requestNo, resultFor}
-use Rattle.lines.specs.Run.{ones, termsFor, inColumns, zerosFor, numbersFor, answeredBy}
+use Rattle.lines.specs.Run.{ones, termsFor, inColumns, zerosFor, numbersFor, answeredBy, mostNumbers, RoomForRun, LentToLine}
 use Rattle.lines.proofs.Handed.{settings-pass-all, ones-ok, columns-long, columns-below, missing-none, front-zeros, behind-zeros, zeros-below, length-front}
 
 -- ---- The answer of a side that has ended
@@ -59,7 +59,8 @@ pub request-ready : (serial : ℕ) (o : Request) → requestNo serial o ≡ 0 �
 unfolding requestNo
 request-ready serial o e = settings-ready 0 (settingsOf o) _ e .1
 
-module _ (serial : ℕ) (o : Request) (ok : requestNo serial o ≡ 0) (fits : serial < 4294967296) (room : o .count ≤ length (o .numbers)) where
+module _ (serial : ℕ) (o : Request) (ok : requestNo serial o ≡ 0) (fits : serial < 4294967296) (room : o .count ≤ length (o .numbers))
+    (work0 work1 : List ℕ) (long0 : length work0 ≡ workLength keyCount) (long1 : length work1 ≡ workLength keyCount) where
   abbrev s : Settings
   s = settingsOf o
 
@@ -98,9 +99,9 @@ module _ (serial : ℕ) (o : Request) (ok : requestNo serial o ≡ 0) (fits : se
   unfolding shapeOk
   shape-yes = both-yes (shapeOk (s .shape)) (boundOk (o .kind) (o .bound)) (fixed .settings) .0
 
-  idle-is : Idle keyCount serial freshParty
+  idle-is : (work : List ℕ) → length work ≡ workLength keyCount → Idle keyCount serial (freshParty work)
   unfolding underWay sendDue takeDue whole askSettings askShape ask
-  idle-is = record { none = refl; last = above; exact = length-replicate {A = ℕ} (workLength keyCount) 0; silent = refl }
+  idle-is work long = record { none = refl; last = above; exact = long; silent = refl }
 
   -- ---- What the calls are handed
 
@@ -157,7 +158,7 @@ module _ (serial : ℕ) (o : Request) (ok : requestNo serial o ≡ 0) (fits : se
   -- ---- The end
 
   abbrev start : JointState
-  start = record { observer = freshParty; peer = freshParty }
+  start = record { observer = freshParty work0; peer = freshParty work1 }
 
   abbrev honest : Carried
   honest =
@@ -171,23 +172,61 @@ module _ (serial : ℕ) (o : Request) (ok : requestNo serial o ≡ 0) (fits : se
       (record { size-is = inputs-long; below = columns-below secret (six .0) })
       (record { size-is = length-replicate {A = ℕ} drawn 0; below = zeros-below drawn })
       start
-      (record { observer = idle-is; peer = idle-is })
+      (record { observer = idle-is work0 long0; peer = idle-is work1 long1 })
 
-  run-is : executed (termsFor serial o) (numbersFor o) ≡ honest
+  run-is : executed (termsFor serial o) (numbersFor o) work0 work1 ≡ honest
   unfolding refusalOf
   run-is =
       let zeros : missingShares width (multipliers ones ones) secret inputs ≡ replicate each 0 = missing-none secret ∙ ap (λ (n : ℕ). replicate (n * width) 0) secret-long in
-      draw-is-dealt (termsFor serial o) (numbersFor o) draw-long ∙ rw (deal-no, server-inputs, phone-inputs, draw-is, zeros)
+      draw-is-dealt (termsFor serial o) (numbersFor o) work0 work1 draw-long ∙ rw (deal-no, server-inputs, phone-inputs, draw-is, zeros)
 
   -- what the server's answer says at the end is the plain meaning
-  pub run-gives : (x : Side) → x ≡ executed (termsFor serial o) (numbersFor o) .parties .observer .side → answeredBy x ≡ resultFor serial o
+  pub run-gives : (x : Side) → x ≡ executed (termsFor serial o) (numbersFor o) work0 work1 .parties .observer .side → answeredBy x ≡ resultFor serial o
   unfolding resultFor
   run-gives x e =
       ap answeredBy (e ∙ ap (λ (c : Carried). c .parties .observer .side) run-is)
       ∙ answered-is s secret (honest .parties .observer .side) (through .server .done) (through .server .answer)
       ∙ rw ok
 
--- the slice of a run, from zeros
-pub spread-zeros : (o : Request) (zeros inputs : List ℕ) → zeros ≡ replicate (o .count * width + zerosFor o) 0 → inputs ≡ inColumns (secretOf o)
-    → inputs ++ drop (o .count * width) zeros ≡ numbersFor o
-spread-zeros o zeros inputs e f = rw (e, f, behind-zeros (o .count * width) (zerosFor o))
+-- ---- The numbers of a run, in a slice of zeros: the inputs are put in front, and cleared again
+
+module _ (o : Request) (room : o .count ≤ length (o .numbers)) (zeros inputs : List ℕ) (e : zeros ≡ replicate (o .count * width + zerosFor o) 0)
+    (f : inputs ≡ inColumns (secretOf o)) where
+  abbrev filled : List ℕ
+  filled = inputs ++ drop (o .count * width) zeros
+
+  front-is : length inputs ≡ o .count * width
+  front-is = ap length f ∙ columns-long (secretOf o) ∙ ap (λ (n : ℕ). n * width) (sym (length-front (o .count) (o .numbers) room))
+
+  behind-front : drop (o .count * width) zeros ≡ replicate (zerosFor o) 0
+  behind-front = rw e (behind-zeros (o .count * width) (zerosFor o))
+
+  pub spread-zeros : filled ≡ numbersFor o
+  spread-zeros = rw (f, behind-front)
+
+  pub front-within : o .count * width ≤ length filled
+  front-within = omega (arith, front-is, length-append inputs (drop (o .count * width) zeros))
+
+  pub cleared-again : (cleared : List ℕ) → cleared ≡ replicate (length (take (o .count * width) filled)) 0
+      → cleared ++ drop (o .count * width) filled ≡ zeros
+  cleared-again cleared g =
+      let front : take (o .count * width) filled ≡ inputs = take-at inputs (drop (o .count * width) zeros) (o .count * width) front-is in
+      let rest : drop (o .count * width) filled ≡ replicate (zerosFor o) 0 = drop-at inputs (drop (o .count * width) zeros) (o .count * width) front-is ∙ behind-front in
+      let zeroed : cleared ≡ replicate (o .count * width) 0 = g ∙ ap (λ (l : List ℕ). replicate (length l) 0) front ∙ ap (λ (n : ℕ). replicate n 0) front-is in
+      ap₂ (λ (k l : List ℕ). k ++ l) zeroed rest ∙ replicate-append-replicate {A = ℕ} (o .count * width) (zerosFor o) 0 ∙ sym e
+
+-- lent slices that hold something else have the same room
+pub same-room : (a b c d e a′ b′ c′ d′ e′ : List ℕ) → RoomForRun a b c d e → length a′ ≡ length a → length b′ ≡ length b → length c′ ≡ length c
+    → length d′ ≡ length d → length e′ ≡ length e → RoomForRun a′ b′ c′ d′ e′
+same-room a b c d e a′ b′ c′ d′ e′ r f g h i j =
+    record {
+      server-book = omega (arith, r .server-book, f);
+      phone-book = omega (arith, r .phone-book, g);
+      server-work = h ∙ r .server-work;
+      phone-work = i ∙ r .phone-work;
+      bytes = omega (arith, r .bytes, j);
+    }
+
+-- so many numbers are lent
+pub zeros-many : {n a b c d e : List ℕ} → LentToLine n a b c d e → length n ≡ mostNumbers
+zeros-many l = ap length (l .zeros) ∙ length-replicate {A = ℕ} mostNumbers 0

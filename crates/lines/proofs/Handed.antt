@@ -56,7 +56,7 @@ columns-below xs e =
     small : (x : ℕ) → getD xs (x / width) 0 < q
     small x = below-at q xs (x / width) (omega arith) e
 
-zeros-are : (i n : ℕ) → listFrom {A = ℕ} i n (λ (x : ℕ). 0) ≡ replicate n 0
+pub zeros-are : (i n : ℕ) → listFrom {A = ℕ} i n (λ (x : ℕ). 0) ≡ replicate n 0
 unfolding listFrom
 zeros-are i zero = refl
 zeros-are i (suc n) = ap (λ (l : List ℕ). 0 ∷ l) (zeros-are (suc i) n)

@@ -48,11 +48,14 @@ resultFor serial request =
 abbrev pub malformedAnswer : ℕ → List ℕ
 malformedAnswer number = answerText number 12 []
 
+-- "line number, then high parts or verdict, or `!` and the refusal"
+abbrev pub resultAnswer : ℕ → LineResult → List ℕ
+resultAnswer number r = answerText number (r .refused) (take (r .length) (r .numbers))
+
 -- "Each output line: line number, then high parts or verdict, or `!` and the refusal"; "serial = line number", and serials end at
 -- 2^32 − 1, so that no line beyond has a run
 unfoldable pub lineAnswer : ℕ → List ℕ → List ℕ
 lineAnswer number line =
     let request = lineOf line in
-    let r = resultFor number request in
     cond (leb tooLarge number) (malformedAnswer number)
-    (cond (request .good) (answerText number (r .refused) (take (r .length) (r .numbers))) (malformedAnswer number))
+    (cond (request .good) (resultAnswer number (resultFor number request)) (malformedAnswer number))

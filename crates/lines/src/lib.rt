@@ -5,9 +5,8 @@ ghost use Prim.Native.Nat.{_+_, _*_, _≤_};
 ghost use lib.ListN.{length, replicate};
 ghost use Rattle.settings.specs.Sizes.{width};
 ghost use Rattle.text.specs.Text.{textAt, puts};
-ghost use Rattle.lines.specs.Plain.{settingsOf, requestNo, resultFor, malformedAnswer, lineAnswer};
-ghost use Rattle.lines.specs.Run.{termsFor, inColumns, zerosFor, answeredBy};
-use execution::RUN_BYTES;
+ghost use Rattle.lines.specs.Plain.{settingsOf, requestNo, resultFor, resultAnswer, malformedAnswer, lineAnswer};
+ghost use Rattle.lines.specs.Run.{termsFor, inColumns, zerosFor, answeredBy, RoomForRun, LentToLine};
 use execution::RunTerms;
 use execution::execute;
 use field::all_below_q;
@@ -32,7 +31,7 @@ use text::TOO_LARGE;
 const ANSWER_PLACES: usize = 8;
 
 // The most numbers of a run: the inputs of both sides, and the draw.
-const RUN_NUMBERS: usize = 2 * 8 * WIDTH + 1320 * WIDTH + 144;
+pub const RUN_NUMBERS: usize = 2 * 8 * WIDTH + 1320 * WIDTH + 144;
 
 // What a line gives: the number of the first no, or 0; and how many numbers, and the numbers, with zeros behind.
 struct LineResult {
@@ -103,6 +102,17 @@ fn spread(out: &mut [u32], numbers: &[u32])
     }
 }
 
+// Zeros throughout.
+fn clear(out: &mut [u32])
+    ensures { λ _. ⌜ now (out .exit) ≡ replicate (length (now (out .entry))) 0 ⌝ }
+{
+    let mut i = 0;
+    while i < out.len() {
+        out[i] = 0;
+        i += 1;
+    }
+}
+
 // What the side's answer says.
 fn answered_by(side: Side) -> LineResult
     ensures { λ r. ⌜ r ≡ answeredBy side ⌝ }
@@ -116,38 +126,80 @@ fn answered_by(side: Side) -> LineResult
     }
 }
 
-// The run of a request that no question refuses, in a lent slice of zeros, and the server's answer.
-fn run_in(serial: u32, request: Request, numbers: &mut [u32]) -> LineResult
+// The run of a request that no question refuses, and the server's answer. The numbers are lent as zeros and left so.
+fn run_in(
+    serial: u32,
+    request: Request,
+    numbers: &mut [u32],
+    book0: &mut [u32],
+    book1: &mut [u32],
+    work0: &mut [u32],
+    work1: &mut [u32],
+    messages: &mut [u8],
+) -> LineResult
     requires { ⌜ requestNo serial request ≡ 0 ⌝ }
     requires { ⌜ now numbers ≡ replicate (request .count * width + zerosFor request) 0 ⌝ }
+    requires { ⌜ RoomForRun (now book0) (now book1) (now work0) (now work1) (now messages) ⌝ }
     ensures { λ r. ⌜ r ≡ resultFor serial request ⌝ }
+    ensures { λ _. ⌜ now (numbers .exit) ≡ now (numbers .entry) ⌝ }
+    ensures { λ _. ⌜ RoomForRun (now (book0 .exit)) (now (book1 .exit)) (now (work0 .exit)) (now (work1 .exit)) (now (messages .exit)) ⌝ }
 {
     let coefficients = request.numbers;
     let count = request.count as usize;
     let each = count * WIDTH;
     spread(&mut numbers[..each], &coefficients[..count]);
-    let mut messages = [0u8; RUN_BYTES];
     let terms = terms_of(serial, request);
-    let end = execute(terms, numbers, &mut messages);
+    let end = execute(terms, numbers, book0, book1, work0, work1, messages);
+    clear(&mut numbers[..each]);
     let server = end.server;
     let side = server.side;
     answered_by(side)
 }
 
-// The run of a request that no question refuses.
-fn run_request(serial: u32, request: Request) -> LineResult
+// The run of a request that no question refuses, in the front of the lent zeros.
+fn run_request(
+    serial: u32,
+    request: Request,
+    numbers: &mut [u32],
+    book0: &mut [u32],
+    book1: &mut [u32],
+    work0: &mut [u32],
+    work1: &mut [u32],
+    messages: &mut [u8],
+) -> LineResult
     requires { ⌜ requestNo serial request ≡ 0 ⌝ }
+    requires { ⌜ LentToLine (now numbers) (now book0) (now book1) (now work0) (now work1) (now messages) ⌝ }
     ensures { λ r. ⌜ r ≡ resultFor serial request ⌝ }
+    ensures { λ _. ⌜ LentToLine (now (numbers .exit)) (now (book0 .exit)) (now (book1 .exit)) (now (work0 .exit)) (now (work1 .exit)) (now (messages .exit)) ⌝ }
 {
     let drawn = draw_length(settings_of(request).shape);
     let size = 2 * (request.count as usize * WIDTH) + drawn;
-    let mut numbers = [0u32; RUN_NUMBERS];
-    run_in(serial, request, &mut numbers[..size])
+    run_in(
+        serial,
+        request,
+        &mut numbers[..size],
+        book0,
+        book1,
+        work0,
+        work1,
+        messages,
+    )
 }
 
 // What a line gives.
-fn line_result(serial: u32, request: Request) -> LineResult
+fn line_result(
+    serial: u32,
+    request: Request,
+    numbers: &mut [u32],
+    book0: &mut [u32],
+    book1: &mut [u32],
+    work0: &mut [u32],
+    work1: &mut [u32],
+    messages: &mut [u8],
+) -> LineResult
+    requires { ⌜ LentToLine (now numbers) (now book0) (now book1) (now work0) (now work1) (now messages) ⌝ }
     ensures { λ r. ⌜ r ≡ resultFor serial request ⌝ }
+    ensures { λ _. ⌜ LentToLine (now (numbers .exit)) (now (book0 .exit)) (now (book1 .exit)) (now (work0 .exit)) (now (work1 .exit)) (now (messages .exit)) ⌝ }
 {
     let refused = request_no(serial, request);
     if refused != 0 {
@@ -157,7 +209,16 @@ fn line_result(serial: u32, request: Request) -> LineResult
             numbers: [0; 8],
         };
     }
-    run_request(serial, request)
+    run_request(
+        serial,
+        request,
+        numbers,
+        book0,
+        book1,
+        work0,
+        work1,
+        messages,
+    )
 }
 
 // ---- The whole line
@@ -171,11 +232,37 @@ fn put_malformed(out: &mut [u8], at: usize, number: u64) -> usize
     put_answer(out, at, number, FIELDS, &none[..0])
 }
 
+// The output line of a line that asks for a run.
+fn put_result(out: &mut [u8], at: usize, number: u64, result: LineResult) -> usize
+    ensures { λ r. ⌜ textAt (now (out .exit)) r ≡ puts (textAt (now (out .entry)) at) (resultAnswer number result) ⌝ }
+    ensures { λ r. ⌜ length (resultAnswer number result) ≤ 112 ⌝ }
+{
+    let numbers = result.numbers;
+    let count = least(result.length, ANSWER_PLACES);
+    put_answer(out, at, number, result.refused, &numbers[..count])
+}
+
 // The output line for an input line without its line end, put at a place of `out`; the place behind it. Its number is the serial of
 // its run; a line beyond the last serial is malformed.
-pub fn answer_line(out: &mut [u8], at: usize, number: u64, line: &[u8]) -> usize
+//
+// Lent for the run, so that none of it is made anew for each line: RUN_NUMBERS zeros, which are left as zeros; and the slices of crate
+// execution, whatever they hold. Each is a parameter of its own for the reason given at `execute`.
+pub fn answer_line(
+    out: &mut [u8],
+    at: usize,
+    number: u64,
+    line: &[u8],
+    numbers: &mut [u32],
+    book0: &mut [u32],
+    book1: &mut [u32],
+    work0: &mut [u32],
+    work1: &mut [u32],
+    messages: &mut [u8],
+) -> usize
+    requires { ⌜ LentToLine (now numbers) (now book0) (now book1) (now work0) (now work1) (now messages) ⌝ }
     ensures { λ r. ⌜ textAt (now (out .exit)) r ≡ puts (textAt (now (out .entry)) at) (lineAnswer number (now (line .entry))) ⌝ }
     ensures { λ r. ⌜ length (lineAnswer number (now (line .entry))) ≤ 112 ⌝ }
+    ensures { λ r. ⌜ LentToLine (now (numbers .exit)) (now (book0 .exit)) (now (book1 .exit)) (now (work0 .exit)) (now (work1 .exit)) (now (messages .exit)) ⌝ }
 {
     if number >= TOO_LARGE {
         return put_malformed(out, at, number);
@@ -184,8 +271,16 @@ pub fn answer_line(out: &mut [u8], at: usize, number: u64, line: &[u8]) -> usize
     if !request.good {
         return put_malformed(out, at, number);
     }
-    let result = line_result(number as u32, request);
-    let numbers = result.numbers;
-    let count = least(result.length, ANSWER_PLACES);
-    put_answer(out, at, number, result.refused, &numbers[..count])
+    let serial = number as u32;
+    let result = line_result(
+        serial,
+        request,
+        numbers,
+        book0,
+        book1,
+        work0,
+        work1,
+        messages,
+    );
+    put_result(out, at, number, result)
 }

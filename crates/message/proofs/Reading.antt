@@ -1,22 +1,29 @@
--- The parts of a message as fields of its bits, and question 12 asked field by field.
-use mathlib.Core.Path.{_≡_, ap, _∙_}
-use mathlib.Core.Bool.{Bool, true, false}
+-- The parts of a message as fields of its bits, and questions 11 and 12 asked of what is read.
+use mathlib.Core.Path.{_≡_, refl, sym, ap, _∙_}
+use mathlib.Core.Bool.{Bool, true, false, true≢false, _&&_}
 use mathlib.Core.List.{List}
 use Prim.Native.Nat.{ℕ, _+_, _-_, _*_, _%_, _/_, _^_, _≤_, _<_}
 use native.Mathlib.Nat.{mod-eq-of-lt}
-use native.Mathlib.Numerals.{add-one}
 use native.Mathlib.Omega.{arith}
 use lib.Dec.{eqb, ltb}
-use borrow.Author.Tests.{lt-ltb, le-ltb}
 use lib.ListN.{length}
-use Rattle.lists.specs.Lists.{allTo}
-use Rattle.lists.proofs.Every.{allTo-no}
+use lib.Pow.{mod-pow-add}
+use Rattle.lists.specs.Answers.{ask}
+use Rattle.lists.specs.Lists.{fill, every, allBelow, allTo, listTo}
+use Rattle.lists.proofs.Every.{every-at, every-listTo, allTo-at, allTo-yes}
+use Rattle.lists.proofs.Fill.{fill-same, whole-is}
+use Rattle.lists.proofs.Lists.{length-listFrom, getD-listTo}
 use Rattle.field.specs.Field.{q}
 use Rattle.settings.specs.Sizes.{bytesFor, messageBits}
 use Rattle.message.specs.Bits.{padding, numberOf}
-use Rattle.message.specs.Message.{headerIn, fieldIn, fieldsOk}
-use Rattle.message.specs.Fields.{firstBits, bitsAt}
-use Rattle.message.proofs.Numbers.{Bytes, first-all, first-lt}
+use Rattle.message.specs.Message.{headerIn, fieldIn, fieldsOk, askParts}
+use Rattle.message.specs.Fields.{firstBits, bitsAt, fieldAt}
+use Rattle.message.proofs.Numbers.{Bytes, first-all, first-lt, first-less}
+
+-- two fields side by side are one
+halves : (s : List ℕ) → 64 ≤ 8 * length s → bitsAt s 0 32 * 2 ^ 32 + bitsAt s 32 32 ≡ bitsAt s 0 64
+unfolding bitsAt
+halves s h = rw (first-less s 32 32 h) (sym (mod-pow-add (firstBits s 64) 32 32))
 
 module _ (fields : ℕ) (message : List ℕ) (exact : length message ≡ bytesFor (messageBits fields)) where
   pub field-at : (f : ℕ) → f < fields → bitsAt message (64 + 23 * f) 23 ≡ fieldIn fields message f
@@ -40,21 +47,43 @@ module _ (fields : ℕ) (message : List ℕ) (exact : length message ≡ bytesFo
       let e : 8 * length message - 64 ≡ padding (messageBits fields) + 23 * fields = omega arith in
       mod-eq-of-lt (first-lt message bytes 64 (omega arith)) ∙ ap (λ (w : ℕ). numberOf message / 2 ^ w) e
 
--- ---- one field after the other
+  -- the header's number, from its two halves
+  pub halves-at : Bytes message → bitsAt message 0 32 * 2 ^ 32 + bitsAt message 32 32 ≡ headerIn fields message
+  halves-at bytes = halves message (omega arith) ∙ header-at bytes
 
-module _ (fields : ℕ) (message : List ℕ) where
-  -- the test of one field
-  abbrev pub small : ℕ → Bool
-  small f = ltb (fieldIn fields message f) q
+-- ---- questions 11 and 12, of what is read
 
-  pub fields-more : (f : ℕ) → allTo f small ≡ true → fieldIn fields message f < q → allTo (f + 1) small ≡ true
-  unfolding allTo
-  fields-more f e h = rw (add-one f, e) (lt-ltb (fieldIn fields message f) q h)
+-- every number of a list that is written whole is below m
+below-filled : (m n : ℕ) (s : List ℕ) (f : ℕ → ℕ) → length s ≡ n → allBelow m (fill s 0 n f) ≡ allTo n (λ (k : ℕ). ltb (f k) m)
+unfolding allBelow
+below-filled m n s f e = ap (allBelow m) (whole-is s n f e) ∙ go (every t (listTo n f)) (allTo n (λ (k : ℕ). t (f k))) refl refl
+  where
+    t : ℕ → Bool
+    t x = ltb x m
 
-  pub field-stop : (f : ℕ) → f < fields → q ≤ fieldIn fields message f → false ≡ fieldsOk fields message
-  unfolding fieldsOk
-  field-stop f l h = rw (allTo-no fields small f l (le-ltb (fieldIn fields message f) q h))
+    go : (a b : Bool) → a ≡ every t (listTo n f) → b ≡ allTo n (λ (k : ℕ). t (f k)) → every t (listTo n f) ≡ allTo n (λ (k : ℕ). t (f k))
+    go true true p r = sym p ∙ r
+    go false false p r = sym p ∙ r
+    go true false p r =
+        absurd (true≢false (sym (allTo-yes n _ (λ k h. ap t (sym (getD-listTo n f k 0 h)) ∙ every-at t (listTo n f) k 0 (sym p) (omega (arith, length-listFrom 0 n f)))) ∙ sym r))
+    go false true p r = absurd (true≢false (sym (every-listTo t n f (λ k h. allTo-at n _ k (sym r) h)) ∙ sym p))
 
-  pub fields-end : (r : ℕ) → allTo fields small ≡ true → r ≡ numberOf message % 2 ^ padding (messageBits fields) → eqb r 0 ≡ fieldsOk fields message
-  unfolding fieldsOk
-  fields-end r e p = rw (e, p)
+ask-both : (x y z : Bool) → ask x 11 (ask y 12 (ask z 12 0)) ≡ ask x 11 (ask (y && z) 12 0)
+unfolding ask
+ask-both false y z = refl
+ask-both true false z = refl
+ask-both true true z = refl
+
+-- the questions in the order in which they are asked of the numbers read
+pub parts-is : (due : ℕ) (message ys zs : List ℕ) (h width pad : ℕ) → Bytes message → length message ≡ bytesFor (messageBits (length ys))
+    → zs ≡ fill ys 0 (length ys) (fieldAt message) → h ≡ bitsAt message 0 32 * 2 ^ 32 + bitsAt message 32 32
+    → width ≡ 8 * length message - messageBits (length ys) → pad ≡ bitsAt message (messageBits (length ys)) width
+    → (r : ℕ) → r ≡ ask (eqb h due) 11 (ask (allBelow q zs) 12 (ask (eqb pad 0) 12 0)) → r ≡ askParts due (length ys) message 0
+unfolding fieldsOk
+parts-is due message ys zs h width pad bytes exact filled head wide behind r e =
+    let n = length ys in
+    let a : h ≡ headerIn n message = head ∙ halves-at n message exact bytes in
+    let b : allBelow q zs ≡ allTo n (λ (f : ℕ). ltb (fieldIn n message f) q) =
+    ap (allBelow q) (filled ∙ fill-same ys 0 n _ _ (λ f l. field-at n message exact f l)) ∙ below-filled q n ys (fieldIn n message) refl in
+    let d : pad ≡ numberOf message % 2 ^ padding (messageBits n) = behind ∙ ap (bitsAt message (messageBits n)) wide ∙ padding-at n message exact in
+    e ∙ rw (a, b, d) (ask-both (eqb (headerIn n message) due) (allTo n (λ (f : ℕ). ltb (fieldIn n message f) q)) (eqb (numberOf message % 2 ^ padding (messageBits n)) 0))

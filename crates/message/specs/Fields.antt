@@ -4,10 +4,11 @@ use mathlib.Core.List.{List}
 use lib.ListN.{length}
 use Rattle.lists.specs.Lists.{inFront}
 use Rattle.message.specs.Bits.{packed, numberOf}
-use Rattle.settings.specs.Sizes.{headerBits, messageBits}
+use Rattle.settings.specs.Sizes.{headerBits, fieldBits, messageBits}
 use Rattle.message.specs.Message.{fieldsBehind}
 use Rattle.settings.specs.Questions.{Ready}
 use Rattle.message.specs.declared.Header.{Header}
+use Rattle.message.specs.declared.Ends.{Ends}
 
 -- the number in the first bits
 unfoldable pub firstBits : List ℕ → ℕ → ℕ
@@ -16,6 +17,14 @@ firstBits bytes bits = numberOf bytes / 2 ^ (8 * length bytes - bits)
 -- the field of so many bits that begins at bit `at`
 unfoldable pub bitsAt : List ℕ → ℕ → ℕ → ℕ
 bitsAt bytes at width = firstBits bytes (at + width) % 2 ^ width
+
+-- a message front to back: half a header and its other half, field after field, and the padding behind so many fields
+abbrev pub fieldAt : List ℕ → ℕ → ℕ
+fieldAt bytes f = bitsAt bytes (headerBits + fieldBits * f) fieldBits
+
+abbrev pub endsAt : ℕ → List ℕ → ℕ → Ends
+endsAt fields bytes width =
+    record { high = bitsAt bytes 0 32; low = bitsAt bytes 32 32; padding = bitsAt bytes (messageBits fields) width }
 
 -- the first `at` bits and then a field; zero bits fill its last byte, and what stands behind stays
 unfoldable pub putBits : List ℕ → ℕ → ℕ → ℕ → List ℕ

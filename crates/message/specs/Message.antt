@@ -48,16 +48,21 @@ fieldsOk fields message =
     let field = fieldIn fields message in
     allTo fields (λ (f : ℕ). ltb (field f) q) && eqb (numberOf message % 2 ^ padding (messageBits fields)) 0
 
--- Questions 10 to 12 of a message that is to have the header `due`, and then the rest:
--- "Message length exact?" "Header equal to mine, with the other sender?" "Fields below q, padding zero?"
+-- Questions 11 and 12 of a message of so many fields that is to have the header's number `due`, and then the rest:
+-- "Header equal to mine, with the other sender?" "Fields below q, padding zero?"
+abbrev pub askParts : ℕ → ℕ → List ℕ → ℕ → ℕ
+askParts due fields message rest =
+    ask (eqb (headerIn fields message) due) 11
+    (ask (fieldsOk fields message) 12
+    rest)
+
+-- Questions 10 to 12 of a message that is to have the header `due`, and then the rest: "Message length exact?"
 unfoldable pub askForm : ℕ → Header → List ℕ → ℕ → ℕ
 askForm k due message rest =
     let p = paramsOf (due .settings .shape) in
     let fields = fieldCount k p (due .round) in
     ask (eqb (length message) (messageLength k p (due .round))) 10
-    (ask (eqb (headerIn fields message) (headerNumber due)) 11
-    (ask (fieldsOk fields message) 12
-    rest))
+    (askParts (headerNumber due) fields message rest)
 
 -- "Form test: 1, 2, 3, 8 (round 1 to 7, serial above 0), 10 to 12", k keys a side
 unfoldable pub formNo : ℕ → ℕ → Settings → ℕ → ℕ → List ℕ → ℕ

@@ -5,14 +5,14 @@ ghost use Prim.Native.Nat.{_+_, _*_, _%_, _^_, _≤_, _<_};
 ghost use lib.ListN.{length};
 ghost use Rattle.lists.specs.Lists.{fill, inFront, allBelow};
 ghost use Rattle.settings.specs.Sizes.{keyCount, mostFields, bytesFor, fieldBits, messageBits};
-ghost use Rattle.message.specs.Bits.{padding, numberOf};
-ghost use Rattle.message.specs.Message.{headerNumber, headerWith, messageOf, fieldIn, fieldsOk, askForm, formNo};
-ghost use Rattle.message.specs.Fields.{bitsAt, putBits, putFields, byteOf, HeaderFits};
-use field::Q;
+ghost use Rattle.message.specs.Message.{headerNumber, headerWith, messageOf, fieldIn, askParts, askForm, formNo};
+ghost use Rattle.message.specs.Fields.{bitsAt, fieldAt, endsAt, putBits, putFields, byteOf, HeaderFits};
+use field::all_below_q;
 use settings::FIELD_BITS;
 use settings::FIELDS;
 use settings::HEADER;
 use settings::MESSAGE_LENGTH;
+use settings::MOST_FIELDS;
 use settings::NOT_DUE;
 use settings::ROUNDS;
 use settings::Settings;
@@ -55,6 +55,9 @@ impl Header {
 
     pub const BYTES: usize = Self::BITS / 8;
 
+    // A reader reads at most 32 bits at once.
+    pub const HALF: usize = Self::BITS / 2;
+
     // How many values fit a width: a factor makes room for the field behind.
     const SETS: u64 = 1 << Self::SET_BITS;
 
@@ -67,6 +70,8 @@ impl Header {
     const BOUNDS: u64 = 1 << Self::BOUND_BITS;
 
     const SERIALS: u64 = 1 << Self::SERIAL_BITS;
+
+    const HALVES: u64 = 1 << Self::HALF;
 
     pub fn new(sender: u32, settings: Settings, round: u32, serial: u32) -> Header
         ensures { λ r. ⌜ r ≡ headerWith sender settings round serial ⌝ }
@@ -161,12 +166,33 @@ pub struct Reader<'a> {
     pub at: usize,
 }
 
+// What was read, and the reader behind it.
+pub struct Read<'a> {
+    pub value: u32,
+    pub reader: Reader<'a>,
+}
+
 impl<'a> Reader<'a> {
     // At the first bit.
     pub fn new(bytes: &'a [u8]) -> Reader<'a>
         ensures { λ r. ⌜ (r .bytes ≡ bytes .entry) × (r .at ≡ 0) ⌝ }
     {
         Reader { bytes, at: 0 }
+    }
+
+    // The field of so many bits that comes next, and the reader behind it. Called by `read_message`, front to back.
+    pub fn read(self, width: usize) -> Read<'a>
+        requires { ⌜ (width ≤ 32) × (self .at + width ≤ 8 * length (now (self .bytes))) × (self .at + width < 2 ^ 64) ⌝ }
+        ensures { λ r. ⌜ (r .value ≡ bitsAt (now (self .entry .bytes)) (self .entry .at) width)
+            × (r .reader .bytes ≡ self .entry .bytes) × (r .reader .at ≡ self .entry .at + width) ⌝ }
+    {
+        Read {
+            value: get_bits(self.bytes, self.at, width),
+            reader: Reader {
+                bytes: self.bytes,
+                at: self.at + width,
+            },
+        }
     }
 
     // Moved on by some bits. Called by `read_field` below, which stays inside the message.
@@ -180,7 +206,7 @@ impl<'a> Reader<'a> {
         }
     }
 
-    // The field of so many bits that comes next. Called by `read_field` too.
+    // That field alone. Called by `read_field` too.
     pub fn next(self, width: usize) -> u32
         requires { ⌜ (width ≤ 32) × (self .at + width ≤ 8 * length (now (self .bytes))) ⌝ }
         ensures { λ r. ⌜ r ≡ bitsAt (now (self .entry .bytes)) (self .entry .at) width ⌝ }
@@ -189,7 +215,7 @@ impl<'a> Reader<'a> {
     }
 }
 
-// The same by a reader: the functions below read by this one, and hold no reader.
+// One field, wherever it stands, by a reader of its own.
 fn read_field(bytes: &[u8], at: usize, width: usize) -> u32
     requires { ⌜ (width ≤ 32) × (at + width ≤ 8 * length (now bytes)) ⌝ }
     ensures { λ r. ⌜ r ≡ bitsAt (now (bytes .entry)) at width ⌝ }
@@ -227,6 +253,37 @@ pub fn put_message(out: &mut [u8], header: Header, fields: &[u32]) -> usize
 
 // ---- Reading a message of so many fields. `form_no` asks its length first; `take` of crate side calls `form_no` first.
 
+// What stands before and behind the fields: the header's two halves, and the padding.
+pub struct Ends {
+    pub high: u32,
+    pub low: u32,
+    pub padding: u32,
+}
+
+// A message read front to back by one reader: its fields into `fields`. `form_no` has asked the message's length.
+fn read_message(message: &[u8], fields: &mut [u32], padding: usize) -> Ends
+    requires { ⌜ (messageBits (length (now fields)) + padding ≡ 8 * length (now message)) × (padding ≤ 32) × (length (now fields) ≤ mostFields keyCount) ⌝ }
+    ensures { λ r. ⌜ (r ≡ endsAt (length (now (fields .entry))) (now (message .entry)) padding)
+        × (now (fields .exit) ≡ fill (now (fields .entry)) 0 (length (now (fields .entry))) (fieldAt (now (message .entry)))) ⌝ }
+{
+    let high = Reader::new(message).read(Header::HALF);
+    let low = high.reader.read(Header::HALF);
+    let mut reader = low.reader;
+    let mut f = 0;
+    while f < fields.len() {
+        let field = reader.read(FIELD_BITS);
+        fields[f] = field.value;
+        reader = field.reader;
+        f += 1;
+    }
+    let last = reader.read(padding);
+    Ends {
+        high: high.value,
+        low: low.value,
+        padding: last.value,
+    }
+}
+
 // Field f. (The count of fields is for the promise: it fixes where the bits end.)
 pub fn field_of(message: &[u8], fields: usize, f: usize) -> u32
     requires { ⌜ (length (now message) ≡ bytesFor (messageBits fields)) × (f < fields) × (fields ≤ mostFields keyCount) ⌝ }
@@ -235,28 +292,30 @@ pub fn field_of(message: &[u8], fields: usize, f: usize) -> u32
     read_field(message, Header::BITS + FIELD_BITS * f, FIELD_BITS)
 }
 
-// The bits that fill the last byte.
-fn padding_of(message: &[u8], fields: usize) -> u32
-    requires { ⌜ (length (now message) ≡ bytesFor (messageBits fields)) × (fields ≤ mostFields keyCount) ⌝ }
-    ensures { λ r. ⌜ r ≡ numberOf (now (message .entry)) % 2 ^ padding (messageBits fields) ⌝ }
+// The number of a header's two halves.
+fn header_of(ends: Ends) -> u64
+    ensures { λ r. ⌜ r ≡ ends .high * 2 ^ 32 + ends .low ⌝ }
 {
-    let bits = Header::BITS + FIELD_BITS * fields;
-    read_field(message, bits, 8 * message.len() - bits)
+    ends.high as u64 * Header::HALVES + ends.low as u64
 }
 
-// Question 12.
-fn fields_ok(message: &[u8], fields: usize) -> bool
-    requires { ⌜ (length (now message) ≡ bytesFor (messageBits fields)) × (fields ≤ mostFields keyCount) ⌝ }
-    ensures { λ r. ⌜ r ≡ fieldsOk fields (now (message .entry)) ⌝ }
+// Questions 11 and 12 of a message with as many fields as `fields` has: the first no, or 0. The message is read front to back, once.
+fn parts_no(due: u64, message: &[u8], fields: &mut [u32]) -> u32
+    requires { ⌜ (length (now message) ≡ bytesFor (messageBits (length (now fields)))) × (length (now fields) ≤ mostFields keyCount) ⌝ }
+    ensures { λ r. ⌜ r ≡ askParts due (length (now (fields .entry))) (now (message .entry)) 0 ⌝ }
 {
-    let mut f = 0;
-    while f < fields {
-        if field_of(message, fields, f) >= Q {
-            return false;
-        }
-        f += 1;
+    let padding = 8 * message.len() - (Header::BITS + FIELD_BITS * fields.len());
+    let ends = read_message(message, fields, padding);
+    if header_of(ends) != due {
+        return HEADER;
     }
-    padding_of(message, fields) == 0
+    if !all_below_q(fields) {
+        return FIELDS;
+    }
+    if ends.padding != 0 {
+        return FIELDS;
+    }
+    0
 }
 
 // Questions 10 to 12 of a message that is to have the header `due`: the first no, or 0. `message_form` and `take` of crate side have asked
@@ -267,17 +326,12 @@ pub fn form_no(due: Header, message: &[u8]) -> u32
 {
     let settings = due.settings;
     let shape = settings.shape;
-    let fields = field_count(shape, due.round);
-    if message.len() != length_of(fields) {
+    let count = field_count(shape, due.round);
+    if message.len() != length_of(count) {
         return MESSAGE_LENGTH;
     }
-    if get_number(message, 0, Header::BYTES) != due.number() {
-        return HEADER;
-    }
-    if !fields_ok(message, fields) {
-        return FIELDS;
-    }
-    0
+    let mut fields = [0u32; MOST_FIELDS];
+    parts_no(due.number(), message, &mut fields[..count])
 }
 
 // The form test: the first no, or 0.

@@ -1,15 +1,16 @@
 -- Words taken one by one give the request of all of them.
 use Prim.Native.Nat.{ℕ, suc, _+_, _-_, _≤_, _<_}
 use mathlib.Core.Path.{_≡_, refl, sym, ap, _∙_}
-use mathlib.Core.Bool.{Bool, true, false, _&&_}
+use mathlib.Core.Bool.{Bool, true, false, cond, _&&_}
 use mathlib.Core.List.{List, [], _∷_, _++_, append-nil, append-assoc}
 use native.Mathlib.Numerals.{add-one}
 use native.Mathlib.Omega.{arith}
+use lib.Dec.{ltb}
 use lib.ListN.{length, getD, take, drop, length-append, length-drop}
 use lib.Seq.{getD-drop, take-all}
 use Rattle.lists.specs.Lists.{every, listFrom, lengthBefore}
 use Rattle.syntax.specs.Rows.{row}
-use Rattle.syntax.specs.Line.{fieldAt, fieldsFrom, allGood, valuesOf, orderOf, requested}
+use Rattle.syntax.specs.Line.{malformed, fieldAt, fieldsFrom, allGood, valuesOf, orderOf, requested}
 use Rattle.syntax.specs.Reading.{startWords, withWord, withWords, finish}
 use Rattle.syntax.specs.declared.Request.{Request}
 use Rattle.syntax.specs.declared.WordsRead.{WordsRead}
@@ -81,6 +82,23 @@ read-all ws =
     let s : withWords startWords ws ≡ reading (allGood (fieldsFrom 0 ws)) (length ws) (row 11 (valuesOf (fieldsFrom 0 ws))) =
     ap (λ r. withWords r ws) start-row ∙ words-on true [] ws ∙ same-reading refl (omega arith) refl in
     rw (s, ordered-row) refl
+
+-- a word without its form decides: the words behind it change nothing
+finish-bad : (s : WordsRead) → s .good ≡ false → finish s ≡ malformed
+unfolding finish
+finish-bad s e = rw e (by (ltb (s .count) 3))
+  where
+    by : (b : Bool) → _≡_ {A = Request} (cond b malformed malformed) malformed
+    by true = refl
+    by false = refl
+
+still-bad : (s : WordsRead) (ws : List (List ℕ)) → s .good ≡ false → withWords s ws .good ≡ false
+unfolding withWords withWord
+still-bad s [] e = e
+still-bad s (w ∷ ws) e = still-bad (withWord s w) ws (rw e)
+
+pub bad-decides : (s t : WordsRead) (ws : List (List ℕ)) → s .good ≡ false → withWords s ws ≡ t → finish s ≡ finish t
+bad-decides s t ws e f = finish-bad s e ∙ sym (ap finish (sym f) ∙ finish-bad (withWords s ws) (still-bad s ws e))
 
 -- ---- the loop over words
 

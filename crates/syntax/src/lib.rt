@@ -134,10 +134,10 @@ fn take_word(read: WordsRead, word: &[u8]) -> WordsRead
     }
 }
 
-// All words of a line.
+// The words of a line, up to the first that has not its form: nothing behind it makes the line good.
 fn read_words(line: &[u8]) -> WordsRead
     requires { ⌜ length (now line) ≤ 1024 ⌝ }
-    ensures { λ r. ⌜ r ≡ withWords startWords (words (now (line .entry))) ⌝ }
+    ensures { λ r. ⌜ finish r ≡ finish (withWords startWords (words (now (line .entry)))) ⌝ }
     ensures { λ r. ⌜ r .count ≤ 1025 ⌝ }
 {
     let mut read = WordsRead {
@@ -150,6 +150,9 @@ fn read_words(line: &[u8]) -> WordsRead
         let n = length_before(&line[at..], b' ');
         let end = at + n;
         read = take_word(read, &line[at..end]);
+        if !read.good {
+            return read;
+        }
         at = end + 1;
     }
     read

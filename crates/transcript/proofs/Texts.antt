@@ -14,7 +14,7 @@ use Rattle.execution.specs.declared.RunTerms.{RunTerms}
 use Rattle.execution.specs.declared.Execution.{Execution}
 use Rattle.execution.specs.Execution.{Carried, executed}
 use Rattle.execution.specs.Held.{runBytes, Executes}
-use Rattle.transcript.specs.Transcript.{malformedLine, headLength, runTermsIn, runText, transcriptOf, textFor, outLength}
+use Rattle.transcript.specs.Transcript.{malformedLine, headLength, runTermsIn, runText, zeroWork, transcriptOf, textFor, outLength}
 use Rattle.transcript.proofs.Lengths.{length-run}
 use Rattle.lists.proofs.Lists.{take-min}
 
@@ -29,9 +29,9 @@ unfolding transcriptOf
 too-few numbers h = rw (lt-ltb (length numbers) headLength h) refl
 
 module _ (numbers : List ℕ) (h : headLength ≤ length numbers) (terms : RunTerms) (e : terms ≡ runTermsIn numbers) (x : Execution) (before after : List ℕ)
-    (run : Executes (executed terms (take (length numbers - headLength) (drop headLength numbers))) x before after) where
+    (run : Executes (executed terms (take (length numbers - headLength) (drop headLength numbers)) zeroWork zeroWork) x before after) where
   abbrev end : Carried
-  end = executed terms (take (length numbers - headLength) (drop headLength numbers))
+  end = executed terms (take (length numbers - headLength) (drop headLength numbers)) zeroWork zeroWork
 
   messages-are : take (x .length) after ≡ end .messages
   messages-are = rw (run .messages-are, run .length-is) (take-append-seam (end .messages) _)

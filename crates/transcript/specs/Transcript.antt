@@ -8,7 +8,7 @@ use Rattle.text.specs.Text.{decimal, numbersText, hexBytes}
 use Rattle.text.specs.declared.NumbersRead.{NumbersRead}
 use Rattle.settings.specs.declared.Shape.{Shape}
 use Rattle.settings.specs.Settings.{settingsWith}
-use Rattle.settings.specs.Sizes.{keyCount, messageSize}
+use Rattle.settings.specs.Sizes.{keyCount, messageSize, workLength}
 use Rattle.settings.specs.Schedule.{rounds}
 use Rattle.state.specs.declared.Side.{Side}
 use Rattle.state.specs.State.{AfterAnswer, answerCall, countCall}
@@ -142,11 +142,15 @@ runTermsIn numbers =
       keys1 = take keyCount (drop (5 + keyCount) numbers);
     }
 
+-- a working slice as it is lent to the run
+abbrev pub zeroWork : List ℕ
+zeroWork = replicate (workLength keyCount) 0
+
 -- the text for the numbers of an input
 unfoldable pub transcriptOf : List ℕ → List ℕ
 transcriptOf numbers =
     cond (ltb (length numbers) headLength) malformedLine
-    (transcriptText (runTermsIn numbers .settings .shape) (executed (runTermsIn numbers) (drop headLength numbers)))
+    (transcriptText (runTermsIn numbers .settings .shape) (executed (runTermsIn numbers) (drop headLength numbers) zeroWork zeroWork))
 
 -- the text for an input that has been read to its end: its first `count` numbers, unless a byte was wrong
 unfoldable pub textFor : NumbersRead → List ℕ → List ℕ

@@ -10,6 +10,7 @@ use crate::lines::put_malformed;
 use crate::lines::put_messages;
 use crate::lines::put_openings;
 use crate::lines::put_refusal_line;
+use execution::BOOK_LENGTH;
 use execution::Execution;
 use execution::RUN_BYTES;
 use execution::Refusal;
@@ -20,6 +21,7 @@ use lists::least;
 use settings::KEYS;
 use settings::Settings;
 use settings::Shape;
+use settings::WORK_LENGTH;
 use state::Side;
 use text::NumbersRead;
 
@@ -102,8 +104,20 @@ fn transcript(numbers: &[u32], out: &mut [u8]) -> usize
         return put_malformed(out, 0);
     }
     let terms = run_terms_in(numbers);
+    let mut book0 = [0u32; BOOK_LENGTH];
+    let mut book1 = [0u32; BOOK_LENGTH];
+    let mut work0 = [0u32; WORK_LENGTH];
+    let mut work1 = [0u32; WORK_LENGTH];
     let mut messages = [0u8; RUN_BYTES];
-    let x = execute(terms, &numbers[HEAD_LENGTH..], &mut messages);
+    let x = execute(
+        terms,
+        &numbers[HEAD_LENGTH..],
+        &mut book0,
+        &mut book1,
+        &mut work0,
+        &mut work1,
+        &mut messages,
+    );
     let length = x.length;
     put_run(out, terms.settings.shape, x, &messages[..length])
 }

@@ -1,5 +1,7 @@
 //! Arithmetic modulo q. Arguments and results are below q.
 
+use std::sync::atomic::{AtomicBool, Ordering};
+
 /// The modulus of ML-DSA.
 pub const Q: u32 = 8_380_417;
 
@@ -29,14 +31,15 @@ pub fn reduce(x: u64) -> u32 {
     (x % u64::from(Q)) as u32
 }
 
-/// Whether every number is below q. It is asked of a whole working slice in every send and take, so its form tells in the bench: the
-/// feature `fold` looks at all numbers without an early end, which the compiler turns into vector instructions.
-#[cfg(not(feature = "fold"))]
-pub fn all_below_q(numbers: &[u32]) -> bool {
-    numbers.iter().all(|&number| number < Q)
-}
+/// Whether [`all_below_q`] ends at the first number that is not below q. The bench sets it to show what that form costs.
+pub static EARLY_END: AtomicBool = AtomicBool::new(false);
 
-#[cfg(feature = "fold")]
+/// Whether every number is below q. It is asked of a whole working slice in every send and take, so its form tells in the bench:
+/// without an early end the compiler turns it into vector instructions.
 pub fn all_below_q(numbers: &[u32]) -> bool {
-    numbers.iter().fold(true, |all, &number| all & (number < Q))
+    if EARLY_END.load(Ordering::Relaxed) {
+        numbers.iter().all(|&number| number < Q)
+    } else {
+        numbers.iter().fold(true, |all, &number| all & (number < Q))
+    }
 }

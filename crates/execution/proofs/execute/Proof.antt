@@ -7,15 +7,18 @@ use Rattle.execution.proofs.Given.{as-many, runs-given, runs-dealt}
 
 execute-given-requires : tie.Need-execute-given-requires
 execute-given-requires c κs =
-    (as-many (c .before .before .before .before .before .args .terms .settings .shape) (c .before .before .before .before .before .args .numbers .now) (sym (c .before .before .books-given .ensures) ∙ c .before .if1 .taken), c .before .before .before .before .before .pre)
+    let a = c .before .before .before .before .before .before .before .before .before .before .before .args in
+    (as-many (a .terms .settings .shape) (a .numbers .now) (sym (c .before .before .before .before .books-given .ensures) ∙ c .before .before .before .if1 .taken), c .before .before .before .before .before .before .before .before .before .before .before .pre .2)
 
 returns : tie.Need-returns
 returns c =
-    rw (runs-given (c .before .before .before .before .before .before .before .before .args .terms) (c .before .before .before .before .before .before .before .before .args .numbers .now) (sym (c .before .before .before .before .before .books-given .ensures) ∙ c .before .before .before .before .if1 .taken)) (c .before .before .execute-given .ensures)
+    let a = c .before .before .before .before .before .before .before .before .before .before .before .before .before .before .before .before .before .before .args in
+    rw (runs-given (a .terms) (a .numbers .now) (a .work0 .now) (a .work1 .now) (sym (c .before .before .before .before .before .before .before .before .before .before .before .books-given .ensures) ∙ c .before .before .before .before .before .before .before .before .before .before .if1 .taken)) (c .before .before .before .before .before .before .execute-given .ensures)
 
 returns-2 : tie.Need-returns-2
 returns-2 c =
-    rw (runs-dealt (c .before .before .before .before .before .before .before .before .args .terms) (c .before .before .before .before .before .before .before .before .args .numbers .now) (sym (c .before .before .before .before .before .books-given .ensures) ∙ c .before .before .before .before .if1 .left)) (c .before .before .execute-dealt .ensures)
+    let a = c .before .before .before .before .before .before .before .before .before .before .before .before .before .before .before .before .before .before .before .before .before .before .before .before .args in
+    rw (runs-dealt (a .terms) (a .numbers .now) (a .work0 .now) (a .work1 .now) (sym (c .before .before .before .before .before .before .before .before .before .before .before .before .before .before .before .before .before .books-given .ensures) ∙ c .before .before .before .before .before .before .before .before .before .before .before .before .before .before .before .before .if1 .left)) (c .before .before .before .before .before .before .before .before .before .before .execute-dealt .ensures)
 
 pub execute-spec : {M : Type 1} → statement M
 execute-spec =
@@ -24,7 +27,13 @@ execute-spec =
     (λ c κs. search needs)
     execute-given-requires
     (λ c. search needs)
+    (λ c. search needs)
+    (λ c. search needs)
     returns
     (λ c κs. search needs)
+    (λ c. search needs)
+    (λ c. search needs)
+    (λ c. search needs)
+    (λ c. search needs)
     (λ c. search needs)
     returns-2)

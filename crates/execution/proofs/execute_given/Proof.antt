@@ -10,54 +10,54 @@ use Rattle.execution.proofs.Given.{both-fill, server-half, phone-half, 
 
 add-second : tie.Need-add-second
 add-second c =
-    let a = c .before .before .before .before .before .args in
+    let a = c .before .before .before .before .before .before .before .args in
     let cut = c .before .cuts-of .ensures in
-    let fill = both-fill (a .terms .settings .shape) (a .numbers .now) _ _ (cut .phone-is) (cut .draw-is) (c .before .before .before .before .before .pre .0) (cut .within) in
-    omega (arith, c .book-size .ensures, fill, c .before .before .before .before .before .good)
+    let fill = both-fill (a .terms .settings .shape) (a .numbers .now) _ _ (cut .phone-is) (cut .draw-is) (c .before .before .before .before .before .before .before .pre .0) (cut .within) in
+    omega (arith, c .book-size .ensures, fill, c .before .before .before .before .before .before .before .good)
 
 part-book0-end : tie.Need-part-book0-end
 part-book0-end c =
-    let a = c .before .before .before .before .before .args in
+    let a = c .before .before .before .before .before .before .before .args in
     let cut = c .before .cuts-of .ensures in
-    let fill = both-fill (a .terms .settings .shape) (a .numbers .now) _ _ (cut .phone-is) (cut .draw-is) (c .before .before .before .before .before .pre .0) (cut .within) in
+    let fill = both-fill (a .terms .settings .shape) (a .numbers .now) _ _ (cut .phone-is) (cut .draw-is) (c .before .before .before .before .before .before .before .pre .0) (cut .within) in
     omega (arith, c .book-size .ensures, fill)
 
 mul-book1 : tie.Need-mul-book1
 mul-book1 c =
-    let a = c .before .before .before .before .before .before .args in
+    let a = c .before .before .before .before .before .before .before .before .args in
     let cut = c .before .before .cuts-of .ensures in
-    let fill = both-fill (a .terms .settings .shape) (a .numbers .now) _ _ (cut .phone-is) (cut .draw-is) (c .before .before .before .before .before .before .pre .0) (cut .within) in
-    omega (arith, c .before .book-size .ensures, fill, c .before .before .before .before .before .before .good)
+    let fill = both-fill (a .terms .settings .shape) (a .numbers .now) _ _ (cut .phone-is) (cut .draw-is) (c .before .before .before .before .before .before .before .before .pre .0) (cut .within) in
+    omega (arith, c .before .book-size .ensures, fill, c .before .before .before .before .before .before .before .before .good)
 
 sub-book1 : tie.Need-sub-book1
 sub-book1 c =
-    let a = c .before .before .before .before .before .before .args in
+    let a = c .before .before .before .before .before .before .before .before .args in
     let cut = c .before .before .cuts-of .ensures in
-    let fill = both-fill (a .terms .settings .shape) (a .numbers .now) _ _ (cut .phone-is) (cut .draw-is) (c .before .before .before .before .before .before .pre .0) (cut .within) in
+    let fill = both-fill (a .terms .settings .shape) (a .numbers .now) _ _ (cut .phone-is) (cut .draw-is) (c .before .before .before .before .before .before .before .before .pre .0) (cut .within) in
     omega (arith, c .before .book-size .ensures, fill)
 
 part-book1-start : tie.Need-part-book1-start
 part-book1-start c =
-    let a = c .before .before .before .before .before .before .args in
+    let a = c .before .before .before .before .before .before .before .before .args in
     let cut = c .before .before .cuts-of .ensures in
-    let fill = both-fill (a .terms .settings .shape) (a .numbers .now) _ _ (cut .phone-is) (cut .draw-is) (c .before .before .before .before .before .before .pre .0) (cut .within) in
+    let fill = both-fill (a .terms .settings .shape) (a .numbers .now) _ _ (cut .phone-is) (cut .draw-is) (c .before .before .before .before .before .before .before .before .pre .0) (cut .within) in
     omega (arith, c .before .book-size .ensures, fill)
 
 begin-and-run-requires : tie.Need-begin-and-run-requires
-begin-and-run-requires c κs = rw (c .before .start .ensures) (start-fits 0 _ (c .before .before .before .before .before .before .before .before .before .pre .1))
+begin-and-run-requires c κs = rw (c .before .before .before .start .ensures) (start-fits 0 _ (c .before .before .before .before .before .before .before .before .before .before .before .before .before .pre .1))
 
 returns : tie.Need-returns
 returns c =
-    let a = c .before .before .before .before .before .before .before .before .before .before .before .before .args in
-    let cut = c .before .before .before .before .before .before .before .before .cuts-of .ensures in
-    let second = ap (λ (n : ℕ). c .before .before .before .before .before .before .before .before .cuts-of .result .draw + n) (c .before .before .before .before .before .before .before .book-size .ensures) in
+    let a = c .before .before .before .before .before .before .before .before .before .before .before .before .before .before .before .before .before .before .before .before .args in
+    let cut = c .before .before .before .before .before .before .before .before .before .before .before .before .before .before .cuts-of .ensures in
+    let second = ap (λ (n : ℕ). c .before .before .before .before .before .before .before .before .before .before .before .before .before .before .cuts-of .result .draw + n) (c .before .before .before .before .before .before .before .before .before .before .before .before .before .book-size .ensures) in
     let ran = rw (
-      c .before .before .before .before .start .ensures,
+      c .before .before .before .before .before .before .before .before .before .before .start .ensures,
       server-half (a .terms .settings .shape) (a .numbers .now) _ _ (cut .phone-is) (cut .draw-is) _ second,
       phone-half (a .terms .settings .shape) (a .numbers .now) _ _ (cut .phone-is) (cut .draw-is) _ second,
     ) at
-    (c .before .before .begin-and-run .ensures) in
-    given-run (a .terms) (a .numbers .now) _ _ _ ran
+    (c .before .before .before .before .before .before .begin-and-run .ensures) in
+    given-run (a .terms) (a .numbers .now) (a .work0 .now) (a .work1 .now) _ _ _ ran
 
 pub execute-given-spec : {M : Type 1} → statement M
 execute-given-spec =
@@ -76,5 +76,7 @@ execute-given-spec =
     (λ c. search needs)
     (λ c κs. search needs)
     begin-and-run-requires
+    (λ c. search needs)
+    (λ c. search needs)
     (λ c. search needs)
     returns)

@@ -1,12 +1,13 @@
 -- `message::form_no` meets its contract.
 use Rattle.message.specs.Message.{askForm}
-use Rattle.message.proofs.Reading.{header-at}
-use Rattle.message.proofs.Numbers.{Bytes}
-use Rattle.settings.specs.Sizes.{messageBits, messageLength, bytesFor}
-use Rattle.lists.proofs.Questions.{walk}
-use lib.ListN.{length}
+use Prim.Native.Nat.{ℕ}
+use Rattle.settings.specs.Sizes.{keyCount, mostFields, messageLength}
+use Rattle.lists.proofs.Questions.{walk, skip}
 use native.Mathlib.Omega.{arith}
-use mathlib.Core.Path.{_≡_, refl, _∙_}
+use mathlib.Core.Path.{sym, _∙_}
+use lib.ListN.{replicate}
+use lib.Seq.{length-take-le}
+use borrow.Author.Tests.{eq-eqb}
 use borrow.Author.Needs.{needs}
 use Rattle.message.proofs.form_no.Statement.{statement}
 use Rattle.message.proofs.form_no.Tie as tie
@@ -15,37 +16,20 @@ returns : tie.Need-returns
 unfolding askForm messageLength
 returns c = rw (← c .before .before .field-count .ensures .0, ← c .before .length-of .ensures) (search walk depth 20)
 
+slice-aggregate-parts-no : tie.Need-slice-aggregate-parts-no
+slice-aggregate-parts-no c = sym (length-take-le _ _ (c .before .before .before .before .field-count .ensures .1))
+
+parts-no-requires : tie.Need-parts-no-requires
+parts-no-requires c κs =
+    let e = length-take-le {A = ℕ} _ (replicate (mostFields keyCount) 0) (c .before .before .before .before .field-count .ensures .1) in
+    (omega (arith, e), omega (arith, e))
+
 returns-2 : tie.Need-returns-2
 unfolding askForm messageLength
 returns-2 c =
-    let a = c .before .before .before .before .before .before .before .before .before .args in
-    let bytes : Bytes (a .message .now) = λ j. omega (arith, c .before .before .before .before .before .before .before .before .shared-slice-known .given j) in
-    let count = c .before .before .before .before .before .field-count in
-    let l : length (a .message .now) ≡ bytesFor (messageBits (count .result)) = omega arith in
-    let header = c .before .before .get-number .ensures ∙ header-at _ (a .message .now) l bytes in
-    rw (← count .ensures .0, ← header, ← c .before .before .before .before .length-of .ensures, ← c .before .number .ensures) (search walk depth 20)
-
-returns-3 : tie.Need-returns-3
-unfolding askForm messageLength
-returns-3 c =
-    let a = c .before .before .before .before .before .before .before .before .before .before .before .args in
-    let bytes : Bytes (a .message .now) = λ j. omega (arith, c .before .before .before .before .before .before .before .before .before .before .shared-slice-known .given j) in
-    let count = c .before .before .before .before .before .before .before .field-count in
-    let l : length (a .message .now) ≡ bytesFor (messageBits (count .result)) = omega arith in
-    let header = c .before .before .before .before .get-number .ensures ∙ header-at _ (a .message .now) l bytes in
-    rw (← count .ensures .0, ← header, ← c .before .before .before .before .before .before .length-of .ensures, ← c .before .before .before .number .ensures)
-    (search walk depth 20)
-
-returns-4 : tie.Need-returns-4
-unfolding askForm messageLength
-returns-4 c =
-    let a = c .before .before .before .before .before .before .before .before .before .before .before .args in
-    let bytes : Bytes (a .message .now) = λ j. omega (arith, c .before .before .before .before .before .before .before .before .before .before .shared-slice-known .given j) in
-    let count = c .before .before .before .before .before .before .before .field-count in
-    let l : length (a .message .now) ≡ bytesFor (messageBits (count .result)) = omega arith in
-    let header = c .before .before .before .before .get-number .ensures ∙ header-at _ (a .message .now) l bytes in
-    rw (← count .ensures .0, ← header, ← c .before .before .before .before .before .before .length-of .ensures, ← c .before .before .before .number .ensures)
-    (search (walk, refl) depth 20)
+    let e = length-take-le {A = ℕ} _ (replicate (mostFields keyCount) 0) (c .before .before .before .before .before .before .field-count .ensures .1) in
+    rw (← c .before .before .before .before .before .before .field-count .ensures .0, ← c .before .before .before .number .ensures)
+    (skip _ _ 10 _ (eq-eqb _ _ (c .before .before .before .before .if1 .left ∙ c .before .before .before .before .before .length-of .ensures)) (rw e at (c .before .parts-no .ensures)))
 
 pub form-no-spec : {M : Type 1} → statement M
 form-no-spec =
@@ -55,8 +39,7 @@ form-no-spec =
     (λ c κs. search needs)
     returns
     (λ c κs. search needs)
-    (λ c κs. search needs)
-    returns-2
-    (λ c κs. search needs)
-    returns-3
-    returns-4)
+    (λ c. search needs)
+    slice-aggregate-parts-no
+    parts-no-requires
+    returns-2)

@@ -1,7 +1,8 @@
-//! Times another line program beside the one of this package.
+//! Times another line program beside the one of this package, which runs in two forms: as it is, and with `--early`, where question 6
+//! of a slice ends at its first no.
 //!
 //! Usage: `bench PROGRAM [LINES] [TURNS] [--each]`, with 20,000 lines and 7
-//! turns if not given. Both programs run as child processes on the same input
+//! turns if not given. All run as child processes on the same input
 //! file, in turns, the order changing from turn to turn. Their outputs must be
 //! equal; if they differ, or a program fails, the exit code is not 0.
 //!
@@ -63,7 +64,11 @@ fn run() -> Result<(), Failure> {
         return Err("lines and turns must be at least 1".into());
     }
     let peer = env::current_exe()?.with_file_name("line_program");
-    let programs = [PathBuf::from(other), peer];
+    let programs = [
+        Program { name: "other", path: PathBuf::from(other), early: false },
+        Program { name: "peer", path: peer.clone(), early: false },
+        Program { name: "peer --early", path: peer, early: true },
+    ];
     let files = Files::new()?;
 
     if each {
@@ -77,10 +82,10 @@ fn run() -> Result<(), Failure> {
             println!("mix, {factor} times the lines:");
             let text = files.write_input(factor * lines, mixed_line)?;
             measure(&programs, &files, factor * lines, turns)?;
-            for (name, program) in NAMES.iter().zip(&programs) {
+            for program in &programs {
                 match peak_memory(program, text.as_bytes())? {
-                    Some(peak) => println!("  {name} peak memory {peak}"),
-                    None => println!("  {name} peak memory not known here"),
+                    Some(peak) => println!("  {} peak memory {peak}", program.name),
+                    None => println!("  {} peak memory not known here", program.name),
                 }
             }
         }
@@ -88,45 +93,61 @@ fn run() -> Result<(), Failure> {
     Ok(())
 }
 
-const NAMES: [&str; 2] = ["other", "peer"];
+/// A line program that is timed.
+struct Program {
+    name: &'static str,
+    path: PathBuf,
+    early: bool,
+}
 
-/// Runs both programs in turns and prints their times.
+impl Program {
+    fn command(&self) -> Command {
+        let mut command = Command::new(&self.path);
+        if self.early {
+            command.arg("--early");
+        }
+        command
+    }
+}
+
+/// Runs the programs in turns, each first in its turn, and prints their times.
 fn measure(
-    programs: &[PathBuf; 2],
+    programs: &[Program; 3],
     files: &Files,
     lines: usize,
     turns: usize,
 ) -> Result<(), Failure> {
-    let mut seconds = [Vec::new(), Vec::new()];
+    let mut seconds = [Vec::new(), Vec::new(), Vec::new()];
     for turn in 0..turns {
-        let mut outputs = [Vec::new(), Vec::new()];
-        let order = if turn % 2 == 0 { [0, 1] } else { [1, 0] };
-        for which in order {
+        let mut outputs = [Vec::new(), Vec::new(), Vec::new()];
+        for place in 0..programs.len() {
+            let which = (turn + place) % programs.len();
             let (time, output) = files.time(&programs[which])?;
             seconds[which].push(time);
             outputs[which] = output;
         }
-        let last = seconds.each_ref().map(|times| times[turn]);
-        println!(
-            "  turn {}: other {:.4} s, peer {:.4} s",
-            turn + 1,
-            last[0],
-            last[1]
-        );
-        compare(&outputs, lines)?;
+        print!("  turn {}:", turn + 1);
+        for (program, times) in programs.iter().zip(&seconds) {
+            print!(" {} {:.4} s;", program.name, times[turn]);
+        }
+        println!();
+        compare(&outputs[0], &outputs[1], lines)?;
+        compare(&outputs[0], &outputs[2], lines)?;
     }
     for times in &mut seconds {
         times.sort_by(f64::total_cmp);
     }
     let best = seconds.each_ref().map(|times| times[0]);
     let median = seconds.each_ref().map(|times| median(times));
-    for (word, [other, peer]) in [("best", best), ("median", median)] {
+    for (word, [other, peer, early]) in [("best", best), ("median", median)] {
         let per_line = |time: f64| 1e6 * time / lines as f64;
         println!(
-            "  {word}: other {other:.4} s ({:.2} µs/line), peer {peer:.4} s ({:.2} µs/line), ratio {:.3}",
+            "  {word}: other {:.2} µs/line, peer {:.2} µs/line, ratio {:.3}; peer --early {:.2} µs/line, ratio {:.3}",
             per_line(other),
             per_line(peer),
-            other / peer
+            other / peer,
+            per_line(early),
+            other / early
         );
     }
     Ok(())
@@ -143,7 +164,7 @@ fn median(times: &[f64]) -> f64 {
 }
 
 /// Checks that both outputs are equal and have a line for each input line.
-fn compare([other, peer]: &[Vec<u8>; 2], lines: usize) -> Result<(), Failure> {
+fn compare(other: &[u8], peer: &[u8], lines: usize) -> Result<(), Failure> {
     if other != peer {
         let pairs = other
             .split(|&b| b == b'\n')
@@ -190,18 +211,19 @@ impl Files {
     }
 
     /// Runs a program on the input; its seconds and its whole output.
-    fn time(&self, program: &Path) -> Result<(f64, Vec<u8>), Failure> {
+    fn time(&self, program: &Program) -> Result<(f64, Vec<u8>), Failure> {
         let path = self.directory.join("output");
         let input = File::open(self.input())?;
         let output = File::create(&path)?;
         let start = Instant::now();
-        let status = Command::new(program)
+        let status = program
+            .command()
             .stdin(input)
             .stdout(output)
             .status()
-            .map_err(|error| format!("{}: {error}", program.display()))?;
+            .map_err(|error| format!("{}: {error}", program.path.display()))?;
         let seconds = start.elapsed().as_secs_f64();
-        check_status(program, status)?;
+        check_status(&program.path, status)?;
         Ok((seconds, fs::read(path)?))
     }
 }
@@ -225,8 +247,9 @@ fn check_status(program: &Path, status: ExitStatus) -> Result<(), Failure> {
 ///
 /// The input goes through a pipe that stays open, so that the program is still
 /// there to be asked when it has read all but a pipe's last filling.
-fn peak_memory(program: &Path, input: &[u8]) -> Result<Option<String>, Failure> {
-    let mut child = Command::new(program)
+fn peak_memory(program: &Program, input: &[u8]) -> Result<Option<String>, Failure> {
+    let mut child = program
+        .command()
         .stdin(Stdio::piped())
         .stdout(Stdio::piped())
         .spawn()?;
@@ -236,7 +259,7 @@ fn peak_memory(program: &Path, input: &[u8]) -> Result<Option<String>, Failure> 
     let written = stdin.write_all(input);
     let status = fs::read_to_string(format!("/proc/{}/status", child.id()));
     drop(stdin);
-    check_status(program, child.wait()?)?;
+    check_status(&program.path, child.wait()?)?;
     written?;
     reader.join().map_err(|_| "the reading thread failed")??;
     Ok(status.ok().and_then(|text| {

@@ -8,61 +8,75 @@ use lib.ListN.{length, drop}
 use Rattle.stream.specs.Waiting.{standing, allCalls}
 use Rattle.stream.proofs.Waiting.{more-used, used-in, calls-on}
 use Rattle.lines.specs.Plain.{lineAnswer}
+use Rattle.lines.specs.Run.{LentToLine}
 use Rattle.line_program.proofs.answers.answer_some.Statement.{statement}
 use Rattle.line_program.proofs.answers.answer_some.Tie as tie
 
 abbrev Inv-loop : tie.InvT-loop
-Inv-loop kept₀ bytes out₀ most used₀ here₀ waiting₀ kept out used here waiting =
-    (used ≤ length bytes) × (waiting ≤ length out₀) × (length kept ≡ length kept₀) × (length out ≡ length out₀) × (min waiting 1 ≤ used) × (most + 112 ≡ length out₀)
+Inv-loop kept₀ bytes out₀ numbers₀ book0₀ book1₀ work0₀ work1₀ messages₀ most used₀ here₀ waiting₀ kept out numbers book0 book1 work0 work1 messages used here waiting =
+    (used ≤ length bytes) × (waiting ≤ length out₀) × (length kept ≡ length kept₀) × (length out ≡ length out₀)
+    × (length numbers ≡ length numbers₀) × (length book0 ≡ length book0₀) × (length book1 ≡ length book1₀) × (length work0 ≡ length work0₀) × (length work1 ≡ length work1₀) × (length messages ≡ length messages₀)
+    × (min waiting 1 ≤ used) × (most + 112 ≡ length out₀)
+    × (LentToLine numbers book0 book1 work0 work1 messages)
     × (allCalls lineAnswer (standing here kept out waiting) (drop used bytes) ≡ allCalls lineAnswer (standing here₀ kept₀ out₀ 0) bytes)
 
 abbrev μ-loop : tie.MeasureT-loop
-μ-loop kept₀ bytes out₀ most used₀ here₀ waiting₀ kept out used here waiting = length bytes - used
+μ-loop kept₀ bytes out₀ numbers₀ book0₀ book1₀ work0₀ work1₀ messages₀ most used₀ here₀ waiting₀ kept out numbers book0 book1 work0 work1 messages used here waiting =
+    length bytes - used
 
 loop-holds : tie.Need-loop-holds Inv-loop μ-loop
-loop-holds c = (omega arith, omega arith, search needs, search needs, omega arith, omega arith, refl)
+loop-holds c = (omega arith, omega arith, search needs, search needs, refl, refl, refl, refl, refl, refl, omega arith, omega arith, c .before .before .before .before .before .before .before .before .before .pre .1, refl)
 
 answer-call-requires : tie.Need-answer-call-requires Inv-loop μ-loop
-answer-call-requires c κs = omega (arith, leb-true)
+answer-call-requires c κs = (omega (arith, leb-true), c .before .before .before .before .before .before .before .before .before .before .before .loop .inv .12)
 
 add-used : tie.Need-add-used Inv-loop μ-loop
 add-used c =
-    let loop = c .before .before .before .before .before .before .before .before .before .before .before .loop in
+    let loop = c .before .before .before .before .before .before .before .before .before .before .before .before .before .before .before .before .before .before .before .before .before .before .before .before .before .before .before .before .before .loop in
     omega (
       arith,
-      used-in (loop .here) (loop .kept) (c .before .before .before .before .before .before .before .before .before .before .before .before .before .before .before .args .bytes .now)
-          (loop .used) (c .before .before .before .before .before .answer-call .result .used) (omega arith) (c .before .before .before .before .before .answer-call .ensures .1 .0),
+      c .before .before .before .before .before .before .before .before .before .before .before .before .before .before .before .before .before .before .before .before .before .before .before .before .before .before .before .before .before .before .before .before .before .before .before .before .before .before .before .good .1 .1 .0,
+      used-in (loop .here) (loop .kept) (c .before .before .before .before .before .before .before .before .before .before .before .before .before .before .before .before .before .before .before .before .before .before .before .before .before .before .before .before .before .before .before .before .before .before .before .before .before .before .before .args .bytes .now)
+          (loop .used) (c .before .before .before .before .before .before .before .before .before .before .before .before .before .before .before .before .before .answer-call .result .used) (omega (arith, c .before .before .before .before .before .before .before .before .before .before .before .before .before .before .before .before .before .before .before .before .before .before .before .before .before .before .before .before .loop-test .taken)) (c .before .before .before .before .before .before .before .before .before .before .before .before .before .before .before .before .before .answer-call .ensures .1 .0),
     )
 
 loop-less : tie.Need-loop-less Inv-loop μ-loop
 loop-less c =
-    let loop = c .before .before .before .before .before .before .before .before .before .before .before .before .loop in
+    let loop = c .before .before .before .before .before .before .before .before .before .before .before .before .before .before .before .before .before .before .before .before .before .before .before .before .before .before .before .before .before .before .loop in
     omega (
       arith,
-      more-used (loop .here) (loop .kept) (c .before .before .before .before .before .before .before .before .before .before .before .before .before .before .before .before .args .bytes .now)
-          (loop .used) (c .before .before .before .before .before .before .answer-call .result .used) (omega arith) (c .before .before .before .before .before .before .answer-call .ensures .1 .0),
+      c .before .before .before .before .before .before .before .before .before .before .before .before .before .before .before .before .before .before .before .before .before .before .before .before .before .before .before .before .before .loop-test .taken,
+      more-used (loop .here) (loop .kept) (c .before .before .before .before .before .before .before .before .before .before .before .before .before .before .before .before .before .before .before .before .before .before .before .before .before .before .before .before .before .before .before .before .before .before .before .before .before .before .before .before .args .bytes .now)
+          (loop .used) (c .before .before .before .before .before .before .before .before .before .before .before .before .before .before .before .before .before .before .answer-call .result .used) (omega (arith, c .before .before .before .before .before .before .before .before .before .before .before .before .before .before .before .before .before .before .before .before .before .before .before .before .before .before .before .before .before .loop-test .taken)) (c .before .before .before .before .before .before .before .before .before .before .before .before .before .before .before .before .before .before .answer-call .ensures .1 .0),
     )
 
 loop-again : tie.Need-loop-again Inv-loop μ-loop
 loop-again c =
-    let loop = c .before .before .before .before .before .before .before .before .before .before .before .before .loop in
-    let bytes = c .before .before .before .before .before .before .before .before .before .before .before .before .before .before .before .before .args .bytes .now in
-    let call = c .before .before .before .before .before .before .answer-call in
-    let more = more-used (loop .here) (loop .kept) bytes (loop .used) (call .result .used) (omega arith) (call .ensures .1 .0) in (
-      used-in (loop .here) (loop .kept) bytes (loop .used) (call .result .used) (omega arith) (call .ensures .1 .0),
-      omega (arith, call .ensures .1 .1),
+    let loop = c .before .before .before .before .before .before .before .before .before .before .before .before .before .before .before .before .before .before .before .before .before .before .before .before .before .before .before .before .before .before .loop in
+    let bytes = c .before .before .before .before .before .before .before .before .before .before .before .before .before .before .before .before .before .before .before .before .before .before .before .before .before .before .before .before .before .before .before .before .before .before .before .before .before .before .before .before .args .bytes .now in
+    let call = c .before .before .before .before .before .before .before .before .before .before .before .before .before .before .before .before .before .before .answer-call in
+    let more = more-used (loop .here) (loop .kept) bytes (loop .used) (call .result .used) (omega (arith, c .before .before .before .before .before .before .before .before .before .before .before .before .before .before .before .before .before .before .before .before .before .before .before .before .before .before .before .before .before .loop-test .taken)) (call .ensures .1 .0) in (
+      used-in (loop .here) (loop .kept) bytes (loop .used) (call .result .used) (omega (arith, c .before .before .before .before .before .before .before .before .before .before .before .before .before .before .before .before .before .before .before .before .before .before .before .before .before .before .before .before .before .loop-test .taken)) (call .ensures .1 .0),
+      omega (arith, call .ensures .1 .1 .0, loop .inv .3),
       search needs,
       search needs,
-      omega arith,
-      omega arith,
-      calls-on (loop .here) (loop .kept) bytes (loop .used) (call .result .used) (omega arith) (call .ensures .1 .0) lineAnswer (loop .out) (loop .waiting) _ _ (call .ensures .0) (loop .inv .6),
+      search needs,
+      search needs,
+      search needs,
+      search needs,
+      search needs,
+      search needs,
+      omega (arith, more),
+      loop .inv .11,
+      call .ensures .1 .1 .1,
+      calls-on (loop .here) (loop .kept) bytes (loop .used) (call .result .used) (omega (arith, c .before .before .before .before .before .before .before .before .before .before .before .before .before .before .before .before .before .before .before .before .before .before .before .before .before .before .before .before .before .loop-test .taken)) (call .ensures .1 .0) lineAnswer (loop .out) (loop .waiting) _ _ (call .ensures .0) (loop .inv .13),
     )
 
 returns : tie.Need-returns Inv-loop μ-loop
-returns c = (c .before .before .loop .inv .6, (omega arith, (λ h. omega (arith, leb-false), omega arith)))
+returns c = (c .before .before .loop .inv .13, (omega arith, (λ h. omega (arith, leb-false), (omega arith, c .before .before .loop .inv .12))))
 
 returns-2 : tie.Need-returns-2 Inv-loop μ-loop
-returns-2 c = (c .before .loop .inv .6, (omega arith, (λ h. omega arith, omega arith)))
+returns-2 c = (c .before .loop .inv .13, (omega arith, (λ h. omega arith, (omega arith, c .before .loop .inv .12))))
 
 pub answer-some-spec : {M : Type 1} → statement M
 answer-some-spec =
@@ -81,7 +95,19 @@ answer-some-spec =
     loop-again
     (λ c. search needs)
     (λ c. search needs)
+    (λ c. search needs)
+    (λ c. search needs)
+    (λ c. search needs)
+    (λ c. search needs)
+    (λ c. search needs)
+    (λ c. search needs)
     returns
+    (λ c. search needs)
+    (λ c. search needs)
+    (λ c. search needs)
+    (λ c. search needs)
+    (λ c. search needs)
+    (λ c. search needs)
     (λ c. search needs)
     (λ c. search needs)
     returns-2)

@@ -17,13 +17,13 @@ slice-aggregate-answer-line c = sym (length-take-le _ _ (omega arith))
 
 returns-2 : tie.Need-returns-2
 returns-2 c =
-    let a = c .before .before .before .before .before .before .before .before .before .before .args in
-    let left = c .before .before .before .before .before .before .before .is-left in
-    let least = c .before .before .before .before .before .least in
-    let line = c .before .before .answer-line in (
-      last-some lineAnswer (a .stream) (a .kept .now) _ (left .result) (least .result) (left .ensures) (c .before .before .before .before .before .before .if1 .left)
-          (least .ensures .0) (front-put (a .out .now) 0 _ _ (line .result) (line .ensures .0) (omega (arith, line .ensures .1))),
-      omega (arith, within-put (a .out .now) 0 _ _ (line .result) (line .ensures .0) (omega arith), length-put (a .out .now) 0 _ _ (line .result) (line .ensures .0)),
+    let a = c .before .before .before .before .before .before .before .before .before .before .before .before .before .before .before .before .before .before .before .before .before .before .before .before .before .before .before .before .before .before .before .before .before .before .args in
+    let left = c .before .before .before .before .before .before .before .before .before .before .before .before .before .before .before .before .before .before .before .before .before .before .before .before .before .is-left in
+    let least = c .before .before .before .before .before .before .before .before .before .before .before .before .before .before .before .before .before .before .before .before .before .before .before .least in
+    let line = c .before .before .before .before .before .before .before .before .before .before .before .before .before .before .answer-line in (
+      last-some lineAnswer (a .stream) (a .kept .now) _ (left .result) (least .result) (left .ensures) (c .before .before .before .before .before .before .before .before .before .before .before .before .before .before .before .before .before .before .before .before .before .before .before .before .if1 .left)
+          (least .ensures .0) (front-put (a .out .now) 0 _ _ (line .result) (line .ensures .0) (omega (arith, line .ensures .1 .0, c .before .before .before .before .before .before .before .before .before .before .before .before .before .before .before .before .before .before .before .before .before .before .before .before .before .before .before .before .before .before .before .before .before .before .pre .0))),
+      omega (arith, within-put (a .out .now) 0 _ _ (line .result) (line .ensures .0) (omega (arith, c .before .before .before .before .before .before .before .before .before .before .before .before .before .before .before .before .before .before .before .before .before .before .before .before .before .before .before .before .before .before .before .before .before .before .pre .0)), length-put (a .out .now) 0 _ _ (line .result) (line .ensures .0)),
     )
 
 pub put-last-spec : {M : Type 1} → statement M
@@ -35,5 +35,11 @@ put-last-spec =
     (λ c κs. search needs)
     slice-aggregate-answer-line
     (λ c κs. search needs)
+    (λ c. search needs)
+    (λ c. search needs)
+    (λ c. search needs)
+    (λ c. search needs)
+    (λ c. search needs)
+    (λ c. search needs)
     (λ c. search needs)
     returns-2)

@@ -15,18 +15,18 @@ returns c =
     rw (← few) (in-front (a .out .now) malformedLine _ _ (c .before .before .put-malformed .ensures) (omega arith) (c .before .before .before .before .before .before .before .pre))
 
 array-share-prefix-messages : tie.Need-array-share-prefix-messages
-array-share-prefix-messages c = omega (arith, c .before .before .execute .ensures .length-is, c .before .before .execute .ensures .fits)
+array-share-prefix-messages c = omega (arith, c .before .before .before .before .before .before .execute .ensures .length-is, c .before .before .before .before .before .before .execute .ensures .fits)
 
 slice-aggregate-put-run : tie.Need-slice-aggregate-put-run
-slice-aggregate-put-run c = simp length-take (omega (arith, c .before .before .before .execute .ensures .length-is, c .before .before .before .execute .ensures .fits))
+slice-aggregate-put-run c = simp length-take (omega (arith, c .before .before .before .before .before .before .before .execute .ensures .length-is, c .before .before .before .before .before .before .before .execute .ensures .fits))
 
 returns-2 : tie.Need-returns-2
 returns-2 c =
-    let a = c .before .before .before .before .before .before .before .before .before .before .before .before .before .args in
-    let enough = c .before .before .before .before .before .before .before .before .before .before .if1 .left in
-    let room = c .before .before .before .before .before .before .before .before .before .before .before .before .before .pre in
-    let terms = c .before .before .before .before .before .before .before .before .before .run-terms-in in
-    let x = c .before .before .before .before .before .before .execute in
+    let a = c .before .before .before .before .before .before .before .before .before .before .before .before .before .before .before .before .before .before .before .before .before .args in
+    let enough = c .before .before .before .before .before .before .before .before .before .before .before .before .before .before .before .before .before .before .if1 .left in
+    let room = c .before .before .before .before .before .before .before .before .before .before .before .before .before .before .before .before .before .before .before .before .before .pre in
+    let terms = c .before .before .before .before .before .before .before .before .before .before .before .before .before .before .before .before .before .run-terms-in in
+    let x = c .before .before .before .before .before .before .before .before .before .before .execute in
     let is = text-is (a .numbers .now) enough (terms .result) (terms .ensures) (x .result) _ _ (x .ensures) in
     let fits = text-fits (a .numbers .now) enough (terms .result) (terms .ensures) (x .result) _ _ (x .ensures) refl in
     rw (← is) (in-front (a .out .now) _ _ _ (c .before .before .put-run .ensures) fits room)
@@ -43,7 +43,11 @@ transcript-spec =
     (λ c. search needs)
     (λ c. search needs)
     (λ c. search needs)
-    (λ c κs. omega arith)
+    (λ c. search needs)
+    (λ c. search needs)
+    (λ c. search needs)
+    (λ c. search needs)
+    (λ c κs. search needs)
     array-share-prefix-messages
     slice-aggregate-put-run
     (λ c κs. search needs)
