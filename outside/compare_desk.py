@@ -8,7 +8,7 @@ import random
 import subprocess
 import sys
 
-from compare_lines import coefficient
+from compare_lines import coefficient, forms_of, stored_in
 from plain_desk import LONGEST, MOST_BOUND, Q, output_for, shared_numbers
 from plain_lines import lines_of
 
@@ -154,20 +154,11 @@ def long_lines(rng):
 
 def inputs(rng, count):
     """Pairs of a name and an input."""
-    lines = [line(rng) for _ in range(count)]
-    whole = b'\n'.join(lines) + b'\n'
-    yield f'{count} lines', whole
-    yield 'the last line without its line end', whole[:-1]
-    yield 'line ends of two bytes', b'\r\n'.join(lines[:200]) + b'\r\n'
-    for _ in range(10):
-        cut = rng.randrange(len(whole))
-        yield f'cut at byte {cut}', whole[max(0, cut - 100000) : cut]
+    yield from forms_of(rng, [line(rng) for _ in range(count)], 200, 10)
     longs = list(long_lines(rng))
     yield 'long lines', b'\n'.join(longs) + b'\n'
     yield 'a long line without its line end', longs[-2]
-    for name in sorted(os.listdir(STORED)):
-        with open(os.path.join(STORED, name), 'rb') as file:
-            yield f'stored input {name}', file.read()
+    yield from stored_in(STORED)
 
 
 def show(text):

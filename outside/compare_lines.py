@@ -88,19 +88,27 @@ def line(rng):
     return malformed(rng)
 
 
-def inputs(rng, count):
-    """Pairs of a name and an input."""
-    lines = [line(rng) for _ in range(count)]
+def forms_of(rng, lines, with_return, cuts):
+    """Pairs of a name and an input: these lines, without the last line end, some with line ends of two bytes, and cut off at random."""
     whole = b'\n'.join(lines) + b'\n'
-    yield f'{count} lines', whole
+    yield f'{len(lines)} lines', whole
     yield 'the last line without its line end', whole[:-1]
-    yield 'line ends of two bytes', b'\r\n'.join(lines[:2000]) + b'\r\n'
-    for _ in range(20):
+    yield 'line ends of two bytes', b'\r\n'.join(lines[:with_return]) + b'\r\n'
+    for _ in range(cuts):
         cut = rng.randrange(len(whole))
-        yield f'cut at byte {cut}', whole[max(0, cut - 100000):cut]
-    for name in sorted(os.listdir(EDGES)):
-        with open(os.path.join(EDGES, name), 'rb') as file:
-            yield f'edge file {name}', file.read()
+        yield f'cut at byte {cut}', whole[max(0, cut - 100000) : cut]
+
+
+def stored_in(folder):
+    """The stored inputs of a crate, with their names."""
+    for name in sorted(os.listdir(folder)):
+        with open(os.path.join(folder, name), 'rb') as file:
+            yield f'stored input {name}', file.read()
+
+
+def inputs(rng, count):
+    yield from forms_of(rng, [line(rng) for _ in range(count)], 2000, 20)
+    yield from stored_in(EDGES)
 
 
 def main():

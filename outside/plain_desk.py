@@ -4,9 +4,7 @@
 output_for(bytes) -> bytes answers one input. As a program: the inputs in the named files, one
 after another, or standard input.
 """
-import sys
-
-from plain_lines import ALPHA, Q, centred, decompose, lines_of, number_in
+from plain_lines import ALPHA, Q, answer_inputs, centred, decompose, lines_of, number_in
 
 LONGEST = 2**20  # the most bytes of a line, without its line end
 MOST_BOUND = (Q - 1) // 2
@@ -100,14 +98,5 @@ def output_for(data):
     return "".join(f"{answer(line)}\n" for line in lines_of(data)).encode()
 
 
-def main():
-    if len(sys.argv) < 2:
-        sys.stdout.buffer.write(output_for(sys.stdin.buffer.read()))
-        return
-    for name in sys.argv[1:]:
-        with open(name, "rb") as file:
-            sys.stdout.buffer.write(output_for(file.read()))
-
-
 if __name__ == "__main__":
-    main()
+    answer_inputs(output_for)

@@ -90,14 +90,15 @@ def output_for(data):
     return "".join(f"{k} {answer(k, line)}\n" for k, line in enumerate(lines, 1)).encode()
 
 
-def main():
+def answer_inputs(answer_input):
+    """Writes what a function of an input's bytes gives: for the named files, one after another, or for standard input."""
     if len(sys.argv) < 2:
-        sys.stdout.buffer.write(output_for(sys.stdin.buffer.read()))
+        sys.stdout.buffer.write(answer_input(sys.stdin.buffer.read()))
         return
     for name in sys.argv[1:]:
         with open(name, "rb") as file:
-            sys.stdout.buffer.write(output_for(file.read()))
+            sys.stdout.buffer.write(answer_input(file.read()))
 
 
 if __name__ == "__main__":
-    main()
+    answer_inputs(output_for)
