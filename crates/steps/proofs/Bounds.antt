@@ -45,22 +45,19 @@ vector-room a c i hs hk hc hi =
 
 -- ---- Digits
 
-top-small : (set x : ℕ) → set < 2 → x < 4294967296 → x / scaleOf set .alpha < 65536
-top-small zero x h l = omega arith
-top-small (suc zero) x h l = omega arith
-top-small (suc (suc set)) x h l = absurd (omega arith)
-
--- a digit of any number of 32 bits
-pub digit-small : (set x i : ℕ) → set < 2 → i < 5 → x < 4294967296 → digit (scaleOf set) x i < 65536
-digit-small set x i hs hi l = go (decLt i 4)
+-- the limit of a rule
+pub limit-range : (set i : ℕ) → set < 2 → i < 5 → (1 ≤ limitOf (scaleOf set) i) × (limitOf (scaleOf set) i ≤ 45)
+unfolding limitOf
+limit-range set i hs hi = go (decLt i 4)
   where
-    go : Dec (i < 4) → digit (scaleOf set) x i < 65536
-    go (yes p) =
-        let b = base-range set i hs hi in
-        rw (low-digit (scaleOf set) x i p) (omega (arith, mod-lt (x / unit (scaleOf set) i) {m = base (scaleOf set) i} (omega arith)))
-    go (no p) =
-        let e : i ≡ 4 = omega arith in
-        rw (e, top-digit (scaleOf set) x, unit-alpha (scaleOf set) (lawful set hs)) (top-small set x hs l)
+    parts : (set : ℕ) → set < 2 → (1 ≤ scaleOf set .parts) × (scaleOf set .parts ≤ 45)
+    parts zero h = (omega arith, omega arith)
+    parts (suc zero) h = (omega arith, omega arith)
+    parts (suc (suc set)) h = absurd (omega arith)
+
+    go : Dec (i < 4) → (1 ≤ cond (ltb i 4) (base (scaleOf set) i) (scaleOf set .parts)) × (cond (ltb i 4) (base (scaleOf set) i) (scaleOf set .parts) ≤ 45)
+    go (yes p) = rw (lt-ltb i 4 p) (base-range set i hs hi)
+    go (no p) = rw (le-ltb i 4 (omega arith)) (parts set hs)
 
 -- ---- The rule Zero: digits 0 to 3 of HIGH alone have it
 
@@ -71,7 +68,7 @@ isZero Top = false
 isZero Over = false
 isZero Below = false
 
-zero-low : (kind i k : ℕ) → ruleOf kind i k ≡ Zero → i < 4
+pub zero-low : (kind i k : ℕ) → ruleOf kind i k ≡ Zero → i < 4
 unfolding ruleOf isZero
 zero-low kind i k e = go (eqb kind 0) (eqb k 0) (decLt i 4) (ap isZero e)
   where
@@ -81,29 +78,14 @@ zero-low kind i k e = go (eqb kind 0) (eqb k 0) (decLt i 4) (ap isZero e)
     go true false (no h) t = absurd (false≢true (rw (le-ltb i 4 (omega arith)) at t))
     go false b (no h) t = absurd (false≢true t)
 
--- its limit is the digit's base, and the public digit + 1 is at most that
-pub zero-fits : (set kind i k x d up : ℕ) → set < 2 → up ≤ 1 → d ≡ digit (scaleOf set) x i → ruleOf kind i k ≡ Zero →
-    (base (scaleOf set) i ≡ limitOf (scaleOf set) i) × (d + up ≤ limitOf (scaleOf set) i)
-unfolding limitOf
-zero-fits set kind i k x d up hs hu e rule =
-    let low = zero-low kind i k rule in
-    let b = base-range set i hs (omega arith) in
-    rw (lt-ltb i 4 low)
-    (refl, rw (e, low-digit (scaleOf set) x i low) (omega (arith, mod-lt (x / unit (scaleOf set) i) {m = base (scaleOf set) i} (omega arith))))
-
--- a threshold is below q, and so its digits are below their bases
-threshold-below : (bound k y : ℕ) → threshold q bound k y < q
+-- a threshold is below q
+pub threshold-below : (bound k y : ℕ) → threshold q bound k y < q
 unfolding threshold
 threshold-below bound k y = go (eqb k 0)
   where
     go : (b : Bool) → cond b ((2 * bound - 1 + (q - y % q)) % q) ((0 + (q - y % q)) % q) < q
     go true = omega arith
     go false = omega arith
-
-pub threshold-digit : (set kind bound k y i d : ℕ) → set < 2 → i < 5 → kind ≢ 0 → d ≡ digit (scaleOf set) (lookedAt q kind bound k y) i → d < base (scaleOf set) i
-unfolding lookedAt
-threshold-digit set kind bound k y i d hs hi h e =
-    rw (e, ne-eqb kind 0 h) (digit-below (scaleOf set) (lawful set hs) (threshold q bound k y) i (threshold-below bound k y) hi)
 
 -- ---- The zero check's index
 

@@ -1,19 +1,80 @@
--- A gate looks at its own coefficient's masked number alone.
-use Prim.Native.Nat.{ℕ}
-use mathlib.Core.Path.{_≡_, refl}
+-- A gate as the code has it: it fits its column, its forms are those of the steps, and its result from the numbers that a side holds.
+use mathlib.Core.Path.{_≡_, refl, sym, ap, _∙_}
+use Prim.Native.Nat.{ℕ, _+_, _-_, _*_, _/_, _%_, _≤_, _<_}
+use native.Mathlib.Nat.{add-zero}
+use native.Mathlib.Omega.{arith}
+use lib.Dec.{lit<}
+use lib.ListN.{getD}
+use borrow.Author.Tests.{lt-ltb}
+use Rattle.field.specs.Field.{q, add, sub, mul}
+use Rattle.field.specs.Forms.{Form}
+use Rattle.field.proofs.Solve.{at, _⊕_, _⊖_, _⊗_, neg, red, solve}
+use Rattle.settings.specs.declared.Shape.{Shape}
 use Rattle.settings.specs.declared.Settings.{Settings}
-use Rattle.steps.specs.Steps.{vectorSum, addend, factorU, factorV, openFactor, gateResult}
-use Rattle.steps.specs.Calls.{publicBy, publicAt}
+use Rattle.settings.specs.Sets.{scaleOf, base}
+use Rattle.settings.specs.Settings.{paramsOf}
+use Rattle.settings.specs.Questions.{ShapeReady}
+use Rattle.book.specs.Book.{tripleAt}
+use Rattle.settings.proofs.Sets.{base-range}
+use Rattle.rounding.specs.declared.Split.{Split}
+use Rattle.rounding.specs.Digits.{splitOf}
+use Rattle.slice.specs.Weights.{ruleOf}
+use Rattle.slice.specs.declared.Weighted.{Weighted}
+use Rattle.slice.specs.declared.Rule.the-variants.{Zero}
+use Rattle.steps.specs.declared.Gate.{Gate}
+use Rattle.steps.specs.Steps.{lookedAt, limitOf, vectorSum, addend, factorU, factorV, openFactor, gateResult}
+use Rattle.steps.specs.Context.{publicBy}
+use Rattle.steps.specs.Gates.{termsAt, gateAt, sumForm, addendForm, uForm, vForm, openU, openV, resultForm, TermsFit}
+use Rattle.steps.proofs.Bounds.{vector-room, zero-low, limit-range}
 
-module _ (s : Settings) (ys : ℕ → ℕ) (c i k : ℕ) where
-  pub vector-sum-at : (up : ℕ) → vectorSum (publicAt s (ys c)) c i k up ≡ vectorSum (publicBy s ys) c i k up
+-- ---- Bounds
+
+pub terms-fit : (shape : Shape) (split : Split) (g i : ℕ) → ShapeReady shape → g < 2 * shape .n → i < 5
+    → getD (split .digits) i 0 < base (scaleOf (shape .set)) i → TermsFit (termsAt shape split g i)
+unfolding limitOf
+terms-fit shape split g i ready hg hi below =
+    let b = base-range (shape .set) i (ready .sets) hi in
+    let l = limit-range (shape .set) i (ready .sets) hi in
+    record {
+      room = vector-room shape (g / 2) i (ready .sets) (ready .kinds) (omega (arith, ready .most)) hi;
+      few = b .1;
+      limit-some = l .0;
+      limit-most = l .1;
+      digit-below = below;
+      zero-fits = λ rule. limit-low (zero-low (shape .kind) i (g % 2) rule);
+    }
+  where
+    limit-low : i < 4 → base (scaleOf (shape .set)) i ≡ limitOf (scaleOf (shape .set)) i
+    limit-low low = rw (lt-ltb i 4 low)
+
+-- ---- The forms of a gate that looks at the number of its coefficient
+
+module _ (settings : Settings) (masked : ℕ → ℕ) (split : Split) (g i : ℕ)
+    (looks : split ≡ splitOf (scaleOf (settings .shape .set)) (lookedAt q (settings .shape .kind) (settings .bound) (g % 2) (masked (g / 2)))) where
+  pub sum-is : (up : ℕ) → sumForm (termsAt (settings .shape) split g i) up ≡ vectorSum (publicBy settings masked) (g / 2) i (g % 2) up
   unfolding vectorSum
-  vector-sum-at up = refl
+  sum-is up = rw looks
 
-  pub open-factor-at : (part : ℕ) → openFactor (publicAt s (ys c)) c i k part ≡ openFactor (publicBy s ys) c i k part
-  unfolding openFactor factorU factorV vectorSum
-  open-factor-at part = refl
+  pub open-u-is : openU (gateAt (settings .shape) split g i) ≡ openFactor (publicBy settings masked) (g / 2) i (g % 2) 0
+  unfolding openFactor uForm factorU
+  open-u-is = rw (looks, add-zero (tripleAt (paramsOf (settings .shape)) (g / 2) (2 * (i - 1) + g % 2)))
 
-  pub gate-result-at : (e f : ℕ) → gateResult (publicAt s (ys c)) c i k e f ≡ gateResult (publicBy s ys) c i k e f
-  unfolding gateResult addend factorU factorV vectorSum
-  gate-result-at e f = refl
+  pub open-v-is : openV (gateAt (settings .shape) split g i) ≡ openFactor (publicBy settings masked) (g / 2) i (g % 2) 1
+  unfolding openFactor vForm factorV vectorSum
+  open-v-is = rw looks
+
+  pub result-is : (e f : ℕ) → resultForm (gateAt (settings .shape) split g i) e f ≡ gateResult (publicBy settings masked) (g / 2) i (g % 2) e f
+  unfolding gateResult addendForm uForm vForm addend factorU factorV vectorSum
+  result-is e f = rw looks
+
+-- ---- The result, with u and v from the numbers that were opened for them
+
+pub gate-sum : (sum first second third e f κ a b u v : ℕ) → u ≡ sub q first a → v ≡ sub q second b
+    → (sum + e * (v + b) + f * (u + a) + third + (q - κ * (e * f % q) % q)) % q
+    ≡ sub q (add q (add q (add q sum (mul q e second)) (mul q f first)) third) (mul q κ (e * f % q))
+gate-sum sum first second third e f κ a b u v eu ev =
+    rw (eu, ev)
+    (solve q (lit< tt)
+    (at sum ⊕ at e ⊗ (red (at second ⊖ at b) ⊕ at b) ⊕ at f ⊗ (red (at first ⊖ at a) ⊕ at a) ⊕ at third ⊕ neg (at κ ⊗ red (at e ⊗ at f)))
+    (red (red (red (at sum ⊕ red (at e ⊗ at second)) ⊕ red (at f ⊗ at first)) ⊕ at third) ⊖ red (at κ ⊗ red (at e ⊗ at f)))
+    (omega arith) .path)

@@ -1,3 +1,4 @@
--- Bounds that the functions need, and what a gate looks at.
+-- Bounds that the functions need, and the laws of a context and of its gates.
 pub mod Bounds
+pub mod Contexts
 pub mod Gates

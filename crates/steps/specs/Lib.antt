@@ -1,4 +1,5 @@
 -- The seven rounds as linear forms over a column, and on a working slice of columns.
 pub mod Steps
 pub mod Work
-pub mod Calls
+pub mod Context
+pub mod Gates

@@ -7,26 +7,26 @@ ghost use Prim.Native.Nat.{ℕ, _+_, _*_, _/_, _≤_, _<_};
 ghost use lib.Dec.{ltb};
 ghost use lib.ListN.{length, getD};
 ghost use Rattle.lists.specs.Answers.{bit};
-ghost use Rattle.field.specs.Field.{q, add, mul};
-ghost use Rattle.field.specs.Forms.{value, _⊟_};
-ghost use Rattle.settings.specs.Sets.{scaleOf};
+ghost use Rattle.field.specs.Field.{q};
+ghost use Rattle.field.specs.Forms.{value, Form, reg, num, _⊟_, _⊞_, _⊠_};
+ghost use Rattle.settings.specs.Sets.{scaleOf, base};
 ghost use Rattle.settings.specs.Settings.{paramsOf, termsOf};
+ghost use Rattle.settings.specs.Questions.{Ready, ShapeReady};
+ghost use Rattle.settings.specs.Sizes.{places};
 ghost use Rattle.rounding.specs.Rounds.{threshold};
-ghost use Rattle.settings.specs.Sizes.{openings, places};
-ghost use Rattle.book.specs.Book.{groupGap};
-ghost use Rattle.slice.specs.Layout.{column};
+ghost use Rattle.book.specs.Book.{groupK, groupGap, groupAt};
+ghost use Rattle.slice.specs.Layout.{runningAt, column};
 ghost use Rattle.slice.specs.Weights.{ruleOf};
-ghost use Rattle.steps.specs.Steps.{lookedAt, digitOf, limitOf, vectorSum, addend, factorU, factorV, tripleOf, shiftOf, openInput, openFactor};
-ghost use Rattle.steps.specs.Steps.{insideForm, insides, checked, openCheck, gateResult, groupOf, checkEntry, afterCheck, running};
-ghost use Rattle.steps.specs.Work.{openingOn, runningOn};
-ghost use Rattle.steps.specs.Calls.{publicAt, publicIn};
-ghost use Rattle.settings.specs.Questions.{Ready};
+ghost use Rattle.steps.specs.Steps.{limitOf, shiftOf, openInput, insides, groupOf, checkEntry, afterCheck};
+ghost use Rattle.steps.specs.Context.{publicBy, numberAt, splitCount, splitPlace, ContextOf};
+ghost use Rattle.steps.specs.Gates.{termsAt, gateAt, TermsFit, GateFits, sumForm, addendForm, uForm, vForm, openU, openV, resultForm};
 use book::group_at;
 use book::group_gap;
 use book::group_k;
 use book::mask_at;
 use book::triple_at;
 use book::vector_at;
+use field::Q64;
 use field::add_mod;
 use field::mul_mod;
 use field::sub_mod;
@@ -46,11 +46,13 @@ use slice::raised_by;
 use slice::register;
 use slice::weighted_sum;
 
-// What both sides know in a round: the settings, the masked numbers, which round 1 opens, and the round's number.
-pub struct Known {
+// What both sides know in a round: the settings, the round's number, and the numbers whose digits its gates look at, each split in its
+// five digits: HIGH, y of each coefficient; BOUND, hi and lo of each coefficient in turn. All of it follows from the settings and from what
+// round 1 opened: no share, no part and no key is in it. It is made once for each call, and every round that needs a digit reads it here.
+pub struct Context {
     pub settings: Settings,
-    pub masked: [u32; 8],
     pub round: u32,
+    pub splits: [Split; 16],
 }
 
 // A column of the working slice, and what a public 1 adds to it.
@@ -59,12 +61,13 @@ pub struct Column {
     pub weight: u32,
 }
 
-// The first (which = 0) or second (1) gate of digit i of coefficient j, whose masked number is y.
-struct Gate {
-    j: usize,
-    y: u32,
-    i: usize,
-    which: usize,
+// The first (which = 0) or second (1) gate of coefficient j for a digit: addend + u × v, by the triple at a place. All columns share it.
+pub struct Gate {
+    pub kind: u32,
+    pub j: usize,
+    pub which: usize,
+    pub triple: usize,
+    pub terms: Weighted,
 }
 
 // ---- Numbers
@@ -76,7 +79,7 @@ fn less(a: u32, b: u32) -> u32
     if a < b { 1 } else { 0 }
 }
 
-// ---- Digits. (which: the first (0) or second (1) gate and running register of a coefficient.)
+// ---- The context
 
 // hi (which = 0) or lo.
 fn threshold_of(bound: u32, which: usize, y: u32) -> u32
@@ -89,35 +92,64 @@ fn threshold_of(bound: u32, which: usize, y: u32) -> u32
     sub_mod(0, y)
 }
 
-// The number whose digits a gate looks at.
-fn looked_at(kind: u32, bound: u32, which: usize, y: u32) -> u32
-    requires { ⌜ (bound ≤ 4190208) × (kind ≢ 0 → 1 ≤ bound) ⌝ }
-    ensures { λ r. ⌜ r ≡ lookedAt q kind bound which y ⌝ }
+// How many numbers a context splits.
+fn split_count(shape: Shape) -> usize
+    requires { ⌜ shape .n ≤ 8 ⌝ }
+    ensures { λ r. ⌜ (r ≡ splitCount shape) × (r ≤ 16) ⌝ }
+{
+    if shape.kind == 0 {
+        return shape.n as usize;
+    }
+    2 * shape.n as usize
+}
+
+// Number x that a context splits, of these masked numbers.
+fn number_at(settings: Settings, masked: &[u32], x: usize) -> u32
+    requires { ⌜ Ready settings ⌝ }
+    requires { ⌜ (settings .shape .n ≤ length (now masked)) × (x < splitCount (settings .shape)) ⌝ }
+    ensures { λ r. ⌜ r ≡ numberAt settings (λ (j : ℕ). getD (now (masked .entry)) j 0) x ⌝ }
+{
+    if settings.shape.kind == 0 {
+        return masked[x];
+    }
+    threshold_of(settings.bound, x % 2, masked[x / 2])
+}
+
+// The context of a round, from the masked numbers.
+pub fn context_of(settings: Settings, round: u32, masked: &[u32]) -> Context
+    requires { ⌜ Ready settings ⌝ }
+    requires { ⌜ settings .shape .n ≤ length (now masked) ⌝ }
+    ensures { λ r. ⌜ ContextOf settings round (λ (j : ℕ). getD (now (masked .entry)) j 0) r ⌝ }
+{
+    let set = settings.shape.set as usize;
+    let count = split_count(settings.shape);
+    let none = Split {
+        number: 0,
+        digits: [0; 5],
+    };
+    let mut splits = [none; 16];
+    let mut x = 0;
+    while x < count {
+        splits[x] = split_number(set, number_at(settings, masked, x));
+        x += 1;
+    }
+    Context {
+        settings,
+        round,
+        splits,
+    }
+}
+
+// ---- Gates. Who calls asks for a gate that there is, 0 to 2 N − 1, with its split number.
+
+// Which of a context's numbers gate g looks at.
+pub fn split_place(kind: u32, g: usize) -> usize
+    ensures { λ r. ⌜ r ≡ splitPlace kind g ⌝ }
 {
     if kind == 0 {
-        return y;
+        return g / 2;
     }
-    threshold_of(bound, which, y)
-}
-
-// Digit i of a number that is split.
-fn entry(split: Split, i: usize) -> u32
-    requires { ⌜ i < 5 ⌝ }
-    ensures { λ r. ⌜ r ≡ getD (split .digits) i 0 ⌝ }
-{
-    split.digits[i]
-}
-
-// The digit of the number that a gate looks at.
-fn digit_of(settings: Settings, gate: Gate) -> u32
-    requires { ⌜ Ready settings ⌝ }
-    requires { ⌜ gate .i < 5 ⌝ }
-    ensures { λ r. ⌜ (r ≡ digitOf (publicAt settings (gate .y)) (gate .j) (gate .i) (gate .which)) × (r < 65536) ⌝ }
-{
-    let shape = settings.shape;
-    let x = looked_at(shape.kind, settings.bound, gate.which, gate.y);
-    let split = split_number(shape.set as usize, x);
-    entry(split, gate.i)
+    g
 }
 
 fn rule_of(kind: u32, i: usize, which: usize) -> Rule
@@ -148,51 +180,58 @@ fn limit_of(set: usize, i: usize) -> u32
     parts_of(set)
 }
 
-// ---- Gates: addend + u × v, of digit i of coefficient j. No public number is added: the weight does not matter.
-
-// A, Z, F, G, or the sum below Ti.
-fn vector_sum(work: &[u32], col: usize, settings: Settings, gate: Gate) -> u32
-    requires { ⌜ Ready settings ⌝ }
-    requires { ⌜ ((col + 1) * places ≤ length (now work)) × (gate .j < settings .shape .n) × (gate .i < 5) ⌝ }
-    ensures { λ r. ⌜ ((κ : ℕ) → r ≡ value q κ (column (now (work .entry)) col) (vectorSum (publicAt settings (gate .y)) (gate .j) (gate .i) (gate .which) 0)) ⌝ }
+// The sum over digit i's vector: A, Z, F, G, or the sum below Ti.
+pub fn terms_of(shape: Shape, split: Split, g: usize, i: usize) -> Weighted
+    requires { ⌜ ShapeReady shape ⌝ }
+    requires { ⌜ (g < 2 * shape .n) × (i < 5) × (getD (split .digits) i 0 < base (scaleOf (shape .set)) i) ⌝ }
+    ensures { λ r. ⌜ (r ≡ termsAt shape split g i) × TermsFit r ⌝ }
 {
-    let shape = settings.shape;
-    let terms = Weighted {
-        digit: digit_of(settings, gate),
-        place: vector_at(shape, gate.j, gate.i),
-        n: base_of(shape.set as usize, gate.i) as usize,
-        rule: rule_of(shape.kind, gate.i, gate.which),
-        limit: limit_of(shape.set as usize, gate.i),
-    };
+    let set = shape.set as usize;
+    let digits = split.digits;
+    Weighted {
+        place: vector_at(shape, g / 2, i),
+        n: base_of(set, i) as usize,
+        rule: rule_of(shape.kind, i, g % 2),
+        limit: limit_of(set, i),
+        digit: digits[i],
+    }
+}
+
+// The gate of digit i, 1 to 4.
+pub fn gate_of(shape: Shape, split: Split, g: usize, i: usize) -> Gate
+    requires { ⌜ ShapeReady shape ⌝ }
+    requires { ⌜ (g < 2 * shape .n) × (1 ≤ i) × (i < 5) × (getD (split .digits) i 0 < base (scaleOf (shape .set)) i) ⌝ }
+    ensures { λ r. ⌜ (r ≡ gateAt shape split g i) × GateFits r ⌝ }
+{
+    let terms = terms_of(shape, split, g, i);
+    Gate {
+        kind: shape.kind,
+        j: g / 2,
+        which: g % 2,
+        triple: triple_at(shape, g / 2, 2 * (i - 1) + g % 2),
+        terms,
+    }
+}
+
+// ---- A gate on one column. No public number is added to addend, u and v: the weight does not matter.
+
+// The gate's sum alone: what round 1 makes of digit 0.
+pub fn sum_value(work: &[u32], col: usize, terms: Weighted) -> u32
+    requires { ⌜ TermsFit terms ⌝ }
+    requires { ⌜ (col + 1) * places ≤ length (now work) ⌝ }
+    ensures { λ r. ⌜ ((κ : ℕ) → r ≡ value q κ (column (now (work .entry)) col) (sumForm terms 0)) ⌝ }
+{
     weighted_sum(work, col, terms)
 }
 
-// A′ − A, Z′ − Z, F′ − F or G′ − G.
-fn vector_raise(work: &[u32], col: usize, settings: Settings, gate: Gate) -> u32
-    requires { ⌜ Ready settings ⌝ }
-    requires { ⌜ ((col + 1) * places ≤ length (now work)) × (gate .j < settings .shape .n) × (gate .i < 5) ⌝ }
-    ensures { λ r. ⌜ ((κ : ℕ) → r ≡ value q κ (column (now (work .entry)) col) (vectorSum (publicAt settings (gate .y)) (gate .j) (gate .i) (gate .which) 1
-        ⊟ vectorSum (publicAt settings (gate .y)) (gate .j) (gate .i) (gate .which) 0)) ⌝ }
+fn addend_value(work: &[u32], col: usize, gate: Gate) -> u32
+    requires { ⌜ GateFits gate ⌝ }
+    requires { ⌜ (col + 1) * places ≤ length (now work) ⌝ }
+    ensures { λ r. ⌜ ((κ : ℕ) → r ≡ value q κ (column (now (work .entry)) col) (addendForm gate)) ⌝ }
 {
-    let shape = settings.shape;
-    let terms = Weighted {
-        digit: digit_of(settings, gate),
-        place: vector_at(shape, gate.j, gate.i),
-        n: base_of(shape.set as usize, gate.i) as usize,
-        rule: rule_of(shape.kind, gate.i, gate.which),
-        limit: limit_of(shape.set as usize, gate.i),
-    };
-    raised_by(work, col, terms)
-}
-
-fn addend_value(work: &[u32], col: usize, settings: Settings, gate: Gate) -> u32
-    requires { ⌜ Ready settings ⌝ }
-    requires { ⌜ ((col + 1) * places ≤ length (now work)) × (gate .j < settings .shape .n) × (gate .i < 5) × (gate .which < 2) ⌝ }
-    ensures { λ r. ⌜ ((κ : ℕ) → r ≡ value q κ (column (now (work .entry)) col) (addend (publicAt settings (gate .y)) (gate .j) (gate .i) (gate .which))) ⌝ }
-{
-    let shape = settings.shape;
-    let a = vector_sum(work, col, settings, gate);
-    if shape.kind == 0 {
+    let terms = gate.terms;
+    let a = sum_value(work, col, terms);
+    if gate.kind == 0 {
         if gate.which == 1 {
             return add_mod(register(work, col, SECOND + gate.j), a);
         }
@@ -201,33 +240,81 @@ fn addend_value(work: &[u32], col: usize, settings: Settings, gate: Gate) -> u32
     a
 }
 
-fn u_value(work: &[u32], col: usize, settings: Settings, gate: Gate) -> u32
-    requires { ⌜ Ready settings ⌝ }
-    requires { ⌜ ((col + 1) * places ≤ length (now work)) × (gate .j < settings .shape .n) × (gate .i < 5) × (gate .which < 2) ⌝ }
-    ensures { λ r. ⌜ ((κ : ℕ) → r ≡ value q κ (column (now (work .entry)) col) (factorU (publicAt settings (gate .y)) (gate .j) (gate .i) (gate .which))) ⌝ }
+fn u_value(work: &[u32], col: usize, gate: Gate) -> u32
+    requires { ⌜ GateFits gate ⌝ }
+    requires { ⌜ (col + 1) * places ≤ length (now work) ⌝ }
+    ensures { λ r. ⌜ ((κ : ℕ) → r ≡ value q κ (column (now (work .entry)) col) (uForm gate)) ⌝ }
 {
-    let shape = settings.shape;
-    if shape.kind == 0 {
+    if gate.kind == 0 {
         return register(work, col, FIRST + gate.j);
     }
-    let t = digit_of(settings, gate) as usize;
-    let place = vector_at(shape, gate.j, gate.i);
-    register(work, col, place + t)
+    register(work, col, gate.terms.place + gate.terms.digit as usize)
 }
 
-fn v_value(work: &[u32], col: usize, settings: Settings, gate: Gate) -> u32
-    requires { ⌜ Ready settings ⌝ }
-    requires { ⌜ ((col + 1) * places ≤ length (now work)) × (gate .j < settings .shape .n) × (gate .i < 5) × (gate .which < 2) ⌝ }
-    ensures { λ r. ⌜ ((κ : ℕ) → r ≡ value q κ (column (now (work .entry)) col) (factorV (publicAt settings (gate .y)) (gate .j) (gate .i) (gate .which))) ⌝ }
+fn v_value(work: &[u32], col: usize, gate: Gate) -> u32
+    requires { ⌜ GateFits gate ⌝ }
+    requires { ⌜ (col + 1) * places ≤ length (now work) ⌝ }
+    ensures { λ r. ⌜ ((κ : ℕ) → r ≡ value q κ (column (now (work .entry)) col) (vForm gate)) ⌝ }
 {
-    let shape = settings.shape;
-    if shape.kind == 0 {
-        return vector_raise(work, col, settings, gate);
+    if gate.kind == 0 {
+        let terms = gate.terms;
+        return raised_by(work, col, terms);
     }
     register(work, col, FIRST + 8 * gate.which + gate.j)
 }
 
-// ---- What is opened
+// u − a.
+pub fn open_u(work: &[u32], col: usize, gate: Gate) -> u32
+    requires { ⌜ GateFits gate ⌝ }
+    requires { ⌜ (col + 1) * places ≤ length (now work) ⌝ }
+    ensures { λ r. ⌜ ((κ : ℕ) → r ≡ value q κ (column (now (work .entry)) col) (openU gate)) ⌝ }
+{
+    let u = u_value(work, col, gate);
+    sub_mod(u, register(work, col, gate.triple))
+}
+
+// v − b.
+pub fn open_v(work: &[u32], col: usize, gate: Gate) -> u32
+    requires { ⌜ GateFits gate ⌝ }
+    requires { ⌜ (col + 1) * places ≤ length (now work) ⌝ }
+    ensures { λ r. ⌜ ((κ : ℕ) → r ≡ value q κ (column (now (work .entry)) col) (openV gate)) ⌝ }
+{
+    let v = v_value(work, col, gate);
+    sub_mod(v, register(work, col, gate.triple + 1))
+}
+
+// A number below q times a factor that is not reduced.
+fn times(a: u32, b: u64) -> u64
+    requires { ⌜ (a < q) × (b < 8589934592) ⌝ }
+    ensures { λ r. ⌜ (r ≡ a * b) × (r < 72057594037927936) ⌝ }
+{
+    a as u64 * b
+}
+
+// The numbers of a gate's two openings: for u − a, and for v − b.
+pub struct Factors {
+    pub u: u32,
+    pub v: u32,
+}
+
+// addend + e × v + f × u + third − e × f, e and f the opened numbers. u and v are not worked out again: they are this side's own numbers for
+// the two openings, with a and b added. Only the end is reduced.
+pub fn gate_value(work: &[u32], col: Column, gate: Gate, own: Factors, opened: Factors) -> u32
+    requires { ⌜ GateFits gate ⌝ }
+    requires { ⌜ ((col .index + 1) * places ≤ length (now work)) × (opened .u < q) × (opened .v < q) ⌝ }
+    requires { ⌜ (own .u ≡ value q (col .weight) (column (now work) (col .index)) (openU gate)) × (own .v ≡ value q (col .weight) (column (now work) (col .index)) (openV gate)) ⌝ }
+    ensures { λ r. ⌜ r ≡ value q (col .weight) (column (now (work .entry)) (col .index)) (resultForm gate (opened .u) (opened .v)) ⌝ }
+{
+    let addend = addend_value(work, col.index, gate);
+    let u = own.u as u64 + register(work, col.index, gate.triple) as u64;
+    let v = own.v as u64 + register(work, col.index, gate.triple + 1) as u64;
+    let third = register(work, col.index, gate.triple + 2);
+    let sum = addend as u64 + times(opened.u, v) + times(opened.v, u) + third as u64;
+    let product = mul_mod(col.weight, mul_mod(opened.u, opened.v));
+    ((sum + (Q64 - product as u64)) % Q64) as u32
+}
+
+// ---- What else is opened
 
 fn shift_of(settings: Settings) -> u32
     requires { ⌜ Ready settings ⌝ }
@@ -240,13 +327,12 @@ fn shift_of(settings: Settings) -> u32
     settings.bound - 1
 }
 
-// Round 1: y.
-fn open_input(work: &[u32], col: Column, known: Known, j: usize) -> u32
-    requires { ⌜ Ready (known .settings) ⌝ }
-    requires { ⌜ ((col .index + 1) * places ≤ length (now work)) × (j < known .settings .shape .n) ⌝ }
-    ensures { λ r. ⌜ r ≡ value q (col .weight) (column (now (work .entry)) (col .index)) (openInput (publicIn known) j) ⌝ }
+// Round 1: y. (No masked number is looked at.)
+pub fn open_input(work: &[u32], col: Column, settings: Settings, j: usize) -> u32
+    requires { ⌜ Ready settings ⌝ }
+    requires { ⌜ ((col .index + 1) * places ≤ length (now work)) × (j < settings .shape .n) ⌝ }
+    ensures { λ r. ⌜ ((masked : ℕ → ℕ) → r ≡ value q (col .weight) (column (now (work .entry)) (col .index)) (openInput (publicBy settings masked) j)) ⌝ }
 {
-    let settings = known.settings;
     let shape = settings.shape;
     let shift = shift_of(settings);
     let place = mask_at(shape, j);
@@ -257,38 +343,11 @@ fn open_input(work: &[u32], col: Column, known: Known, j: usize) -> u32
     sub_mod(a, register(work, col.index, place))
 }
 
-// The place of a gate's triple.
-fn triple_of(settings: Settings, gate: Gate) -> usize
-    requires { ⌜ Ready settings ⌝ }
-    requires { ⌜ (gate .j < settings .shape .n) × (1 ≤ gate .i) × (gate .i < 5) × (gate .which < 2) ⌝ }
-    ensures { λ r. ⌜ (r ≡ tripleOf (publicAt settings (gate .y)) (gate .j) (gate .i) (gate .which)) × (r ≤ 1320) ⌝ }
+// BOUND: is the coefficient with these hi and lo inside?
+fn inside_value(work: &[u32], col: Column, hi: u32, lo: u32, j: usize) -> u32
+    requires { ⌜ ((col .index + 1) * places ≤ length (now work)) × (j < 8) ⌝ }
+    ensures { λ r. ⌜ r ≡ value q (col .weight) (column (now (work .entry)) (col .index)) (reg (runningAt 0 j) ⊟ reg (runningAt 1 j) ⊞ num (bit (ltb hi lo))) ⌝ }
 {
-    let shape = settings.shape;
-    triple_at(shape, gate.j, 2 * (gate.i - 1) + gate.which)
-}
-
-// Rounds 2 to 5: u − a (part 0), v − b (part 1).
-fn open_factor(work: &[u32], col: usize, settings: Settings, gate: Gate, part: usize) -> u32
-    requires { ⌜ Ready settings ⌝ }
-    requires { ⌜ ((col + 1) * places ≤ length (now work)) × (gate .j < settings .shape .n) × (1 ≤ gate .i) × (gate .i < 5) × (gate .which < 2) × (part < 2) ⌝ }
-    ensures { λ r. ⌜ ((κ : ℕ) → r ≡ value q κ (column (now (work .entry)) col) (openFactor (publicAt settings (gate .y)) (gate .j) (gate .i) (gate .which) part)) ⌝ }
-{
-    let place = triple_of(settings, gate);
-    if part == 0 {
-        let u = u_value(work, col, settings, gate);
-        return sub_mod(u, register(work, col, place + part));
-    }
-    let v = v_value(work, col, settings, gate);
-    sub_mod(v, register(work, col, place + part))
-}
-
-// BOUND: is the coefficient with the masked number y inside?
-fn inside_value(work: &[u32], col: Column, bound: u32, y: u32, j: usize) -> u32
-    requires { ⌜ (bound ≤ 4190208) × (1 ≤ bound) × ((col .index + 1) * places ≤ length (now work)) × (j < 8) ⌝ }
-    ensures { λ r. ⌜ r ≡ value q (col .weight) (column (now (work .entry)) (col .index)) (insideForm q bound y j) ⌝ }
-{
-    let hi = threshold_of(bound, 0, y);
-    let lo = threshold_of(bound, 1, y);
     let d = sub_mod(
         register(work, col.index, FIRST + j),
         register(work, col.index, SECOND + j),
@@ -296,102 +355,40 @@ fn inside_value(work: &[u32], col: Column, bound: u32, y: u32, j: usize) -> u32
     add_mod(d, mul_mod(col.weight, less(hi, lo)))
 }
 
-// BOUND: the sum of the insides of the first m coefficients.
-fn insides_value(work: &[u32], col: Column, known: Known, m: usize) -> u32
+// BOUND: the sum of the insides of all coefficients. The context has hi and lo of each.
+pub fn insides_value(work: &[u32], col: Column, known: Context) -> u32
     requires { ⌜ Ready (known .settings) ⌝ }
-    requires { ⌜ ((col .index + 1) * places ≤ length (now work)) × (m ≤ known .settings .shape .n) × (1 ≤ known .settings .bound) ⌝ }
-    ensures { λ r. ⌜ r ≡ value q (col .weight) (column (now (work .entry)) (col .index)) (insides (publicIn known) m) ⌝ }
+    requires { ⌜ ((col .index + 1) * places ≤ length (now work)) × (known .settings .shape .kind ≢ 0) ⌝ }
+    ensures { λ r. ⌜ ((masked : ℕ → ℕ) → ContextOf (known .settings) (known .round) masked known
+        → r ≡ value q (col .weight) (column (now (work .entry)) (col .index)) (insides (publicBy (known .settings) masked) (known .settings .shape .n))) ⌝ }
 {
+    let n = known.settings.shape.n as usize;
     let mut total = mul_mod(col.weight, 0);
     let mut j = 0;
-    while j < m {
-        let one = inside_value(work, col, known.settings.bound, known.masked[j], j);
-        total = add_mod(total, one);
+    while j < n {
+        let hi = known.splits[2 * j];
+        let lo = known.splits[2 * j + 1];
+        total = add_mod(total, inside_value(work, col, hi.number, lo.number, j));
         j += 1;
     }
     total
 }
 
-// The number that group g checks for zero.
-fn checked_value(work: &[u32], col: Column, known: Known, g: usize) -> u32
-    requires { ⌜ Ready (known .settings) ⌝ }
-    requires { ⌜ ((col .index + 1) * places ≤ length (now work)) × (g < known .settings .shape .n) ⌝ }
-    ensures { λ r. ⌜ r ≡ value q (col .weight) (column (now (work .entry)) (col .index)) (checked (publicIn known) g) ⌝ }
+// Round 6: ρ + g × (K − number), of the group of a coefficient. HIGH: the number is its count of zeros; BOUND: that of the insides.
+pub fn open_check(work: &[u32], col: Column, shape: Shape, group: usize, number: u32) -> u32
+    requires { ⌜ ShapeReady shape ⌝ }
+    requires { ⌜ ((col .index + 1) * places ≤ length (now work)) × (group < shape .n) ⌝ }
+    ensures { λ r. ⌜ ((f : Form) → number ≡ value q (col .weight) (column (now (work .entry)) (col .index)) f → r
+        ≡ value q (col .weight) (column (now (work .entry)) (col .index)) (reg (groupAt (paramsOf shape) group) ⊞ groupGap (paramsOf shape) ⊠ (num (groupK (paramsOf shape)) ⊟ f))) ⌝ }
 {
-    let shape = known.settings.shape;
     let most = mul_mod(col.weight, group_k(shape));
-    if shape.kind == 0 {
-        return sub_mod(most, register(work, col.index, SECOND + g));
-    }
-    let inside = insides_value(work, col, known, shape.n as usize);
-    sub_mod(most, inside)
-}
-
-// Round 6: ρ + g × n.
-fn open_check(work: &[u32], col: Column, known: Known, g: usize) -> u32
-    requires { ⌜ Ready (known .settings) ⌝ }
-    requires { ⌜ ((col .index + 1) * places ≤ length (now work)) × (g < known .settings .shape .n) ⌝ }
-    ensures { λ r. ⌜ r ≡ value q (col .weight) (column (now (work .entry)) (col .index)) (openCheck (publicIn known) g) ⌝ }
-{
-    let shape = known.settings.shape;
-    let n = checked_value(work, col, known, g);
-    let place = group_at(shape, g);
+    let n = sub_mod(most, number);
+    let place = group_at(shape, group);
     let gap = group_gap(shape);
     add_mod(register(work, col.index, place), mul_mod(gap, n))
 }
 
-// Opening o of the round.
-pub fn opening_value(work: &[u32], col: Column, known: Known, o: usize) -> u32
-    requires { ⌜ Ready (known .settings) ⌝ }
-    requires { ⌜ ((col .index + 1) * places ≤ length (now work)) × (1 ≤ known .round) × (o < openings (paramsOf (known .settings .shape)) (known .round)) ⌝ }
-    ensures { λ r. ⌜ r ≡ openingOn (publicIn known) (known .round) (col .weight) (column (now (work .entry)) (col .index)) o ⌝ }
-{
-    let round = known.round;
-    if round == 1 {
-        return open_input(work, col, known, o);
-    }
-    if round <= 5 {
-        let j = o / 4;
-        let masked = known.masked;
-        let gate = Gate {
-            j: j,
-            y: masked[j],
-            i: (round - 1) as usize,
-            which: o / 2 % 2,
-        };
-        return open_factor(work, col.index, known.settings, gate, o % 2);
-    }
-    if round == 6 {
-        return open_check(work, col, known, o);
-    }
-    register(work, col.index, FIRST + o)
-}
-
-// ---- What the opened numbers make of the running registers
-
-// addend + e × v + f × u + third.
-fn combine(addend: u32, v: u32, u: u32, third: u32, e: u32, f: u32) -> u32
-    ensures { λ r. ⌜ r ≡ add q (add q (add q addend (mul q e v)) (mul q f u)) third ⌝ }
-{
-    let with_v = add_mod(addend, mul_mod(e, v));
-    let with_u = add_mod(with_v, mul_mod(f, u));
-    add_mod(with_u, third)
-}
-
-// addend + e × v + f × u + third − e × f.
-fn gate_value(work: &[u32], col: Column, settings: Settings, gate: Gate, e: u32, f: u32) -> u32
-    requires { ⌜ Ready settings ⌝ }
-    requires { ⌜ ((col .index + 1) * places ≤ length (now work)) × (gate .j < settings .shape .n) × (1 ≤ gate .i) × (gate .i < 5) × (gate .which < 2) ⌝ }
-    ensures { λ r. ⌜ r ≡ value q (col .weight) (column (now (work .entry)) (col .index)) (gateResult (publicAt settings (gate .y)) (gate .j) (gate .i) (gate .which) e f) ⌝ }
-{
-    let place = triple_of(settings, gate);
-    let a = addend_value(work, col.index, settings, gate);
-    let v = v_value(work, col.index, settings, gate);
-    let u = u_value(work, col.index, settings, gate);
-    let third = register(work, col.index, place + 2);
-    let with_third = combine(a, v, u, third, e, f);
-    sub_mod(with_third, mul_mod(col.weight, mul_mod(e, f)))
-}
+// ---- What the opened numbers of round 6 make of the running registers
 
 // An opened number divided by the gap.
 fn index_of(shape: Shape, x: u32) -> usize
@@ -401,14 +398,14 @@ fn index_of(shape: Shape, x: u32) -> usize
     (x / group_gap(shape)) as usize
 }
 
-// The entry of group g's vector for the opened number x: the zero check's result.
-fn check_entry(work: &[u32], col: usize, known: Known, g: usize, x: u32) -> u32
-    requires { ⌜ Ready (known .settings) ⌝ }
-    requires { ⌜ ((col + 1) * places ≤ length (now work)) × (g < 8) × (x < q) ⌝ }
-    ensures { λ r. ⌜ ((κ : ℕ) → r ≡ value q κ (column (now (work .entry)) col) (checkEntry (publicIn known) g x)) ⌝ }
+// The entry of a group's vector for the opened number x: the zero check's result.
+fn check_entry(work: &[u32], col: usize, settings: Settings, group: usize, x: u32) -> u32
+    requires { ⌜ Ready settings ⌝ }
+    requires { ⌜ ((col + 1) * places ≤ length (now work)) × (group < 8) × (x < q) ⌝ }
+    ensures { λ r. ⌜ ((masked : ℕ → ℕ) (κ : ℕ) → r ≡ value q κ (column (now (work .entry)) col) (checkEntry (publicBy settings masked) group x)) ⌝ }
 {
-    let shape = known.settings.shape;
-    let place = group_at(shape, g);
+    let shape = settings.shape;
+    let place = group_at(shape, group);
     let index = index_of(shape, x);
     register(work, col, place + 1 + index)
 }
@@ -423,65 +420,21 @@ fn group_of(kind: u32, j: usize) -> usize
     0
 }
 
-// Round 6: HIGH's F − C; BOUND's result, for coefficient 0.
-fn after_check(work: &[u32], col: usize, known: Known, j: usize, which: usize, x: u32) -> u32
-    requires { ⌜ Ready (known .settings) ⌝ }
-    requires { ⌜ ((col + 1) * places ≤ length (now work)) × (j < known .settings .shape .n) × (which < 2) × (x < q) ⌝ }
-    ensures { λ r. ⌜ ((κ : ℕ) → r ≡ value q κ (column (now (work .entry)) col) (afterCheck (publicIn known) j which x)) ⌝ }
+// The first register of coefficient j after round 6: HIGH's F − C; BOUND's result, for coefficient 0.
+pub fn after_check(work: &[u32], col: usize, settings: Settings, j: usize, opened: &[u32]) -> u32
+    requires { ⌜ Ready settings ⌝ }
+    requires { ⌜ ((col + 1) * places ≤ length (now work)) × (j < settings .shape .n) ⌝ }
+    requires { ⌜ (groupOf (settings .shape .kind) j < length (now opened)) × ((o : ℕ) → getD (now opened) o 0 < q) ⌝ }
+    ensures { λ r. ⌜ ((masked : ℕ → ℕ) (κ : ℕ) → r ≡ value q κ (column (now (work .entry)) col) (afterCheck (publicBy settings masked) j 0 (getD (now (opened .entry)) (groupOf (settings .shape .kind) j) 0))) ⌝ }
 {
-    if which == 0 {
-        if known.settings.shape.kind == 0 {
-            let wrap = check_entry(work, col, known, j, x);
-            return sub_mod(register(work, col, FIRST + j), wrap);
-        }
-        if j == 0 {
-            return check_entry(work, col, known, 0, x);
-        }
-        return register(work, col, FIRST + j);
+    let kind = settings.shape.kind;
+    let x = opened[group_of(kind, j)];
+    if kind == 0 {
+        let wrap = check_entry(work, col, settings, j, x);
+        return sub_mod(register(work, col, FIRST + j), wrap);
     }
-    register(work, col, FIRST + 8 * which + j)
-}
-
-// The first or second running register of coefficient j after the round.
-pub fn running_value(
-    work: &[u32],
-    col: Column,
-    known: Known,
-    opened: &[u32],
-    which: usize,
-    j: usize,
-) -> u32
-    requires { ⌜ Ready (known .settings) ⌝ }
-    requires { ⌜ ((col .index + 1) * places ≤ length (now work)) × (1 ≤ known .round) × (which < 2) × (j < known .settings .shape .n) ⌝ }
-    requires { ⌜ (openings (paramsOf (known .settings .shape)) (known .round) ≤ length (now opened)) × ((o : ℕ) → getD (now opened) o 0 < q) ⌝ }
-    ensures { λ r. ⌜ r ≡ runningOn (publicIn known) (known .round) (λ (o : ℕ). getD (now (opened .entry)) o 0) (col .weight) (column (now (work .entry)) (col .index)) which j ⌝ }
-{
-    let round = known.round;
-    let masked = known.masked;
-    if round == 1 {
-        let gate = Gate {
-            j: j,
-            y: masked[j],
-            i: 0,
-            which: which,
-        };
-        return vector_sum(work, col.index, known.settings, gate);
+    if j == 0 {
+        return check_entry(work, col, settings, 0, x);
     }
-    if round <= 5 {
-        let i = (round - 1) as usize;
-        let gate = Gate {
-            j: j,
-            y: masked[j],
-            i: i,
-            which: which,
-        };
-        let e = opened[4 * j + 2 * which];
-        let f = opened[4 * j + 2 * which + 1];
-        return gate_value(work, col, known.settings, gate, e, f);
-    }
-    if round == 6 {
-        let x = opened[group_of(known.settings.shape.kind, j)];
-        return after_check(work, col.index, known, j, which, x);
-    }
-    register(work, col.index, FIRST + 8 * which + j)
+    register(work, col, FIRST + j)
 }

@@ -1,0 +1,56 @@
+-- `steps::context_of` meets its contract.
+use Prim.Native.Nat.{ℕ, _≤_, _<_, _-_}
+use mathlib.Core.Path.{_≡_, refl}
+use mathlib.Core.List.{[]}
+use native.Mathlib.Omega.{arith}
+use borrow.Author.Needs.{needs}
+use lib.ListN.{length, getD, length-set}
+use Rattle.settings.specs.Sets.{scaleOf}
+use Rattle.rounding.specs.declared.Split.{Split}
+use Rattle.rounding.specs.Digits.{splitOf}
+use Rattle.steps.specs.Context.{splitCount, numberAt}
+use Rattle.steps.proofs.Contexts.{split-more}
+use Rattle.steps.proofs.context_of.Statement.{statement}
+use Rattle.steps.proofs.context_of.Tie as tie
+
+abbrev Inv-loop : tie.InvT-loop
+Inv-loop settings round masked set count splits₀ x₀ splits x =
+    (x ≤ count) × (length splits ≡ 16)
+    × ((y : ℕ) → y < x → getD splits y (record { number = 0; digits = [] }) ≡ splitOf (scaleOf (settings .shape .set)) (numberAt settings (λ (j : ℕ). getD masked j 0) y))
+
+abbrev μ-loop : tie.MeasureT-loop
+μ-loop settings round masked set count splits₀ x₀ splits x = count - x
+
+loop-holds : tie.Need-loop-holds Inv-loop μ-loop
+loop-holds c = (omega arith, refl, λ y h. absurd (omega arith))
+
+loop-again : tie.Need-loop-again Inv-loop μ-loop
+loop-again c =
+    let settings = c .before .before .before .before .before .before .before .args .settings in
+    let split : ℕ → Split = λ (y : ℕ). splitOf (scaleOf (settings .shape .set)) (numberAt settings (λ (j : ℕ). getD (c .before .before .before .before .before .before .before .args .masked .now) j 0) y) in (
+      omega arith,
+      simp length-set (c .before .before .before .loop .inv .1),
+      split-more (c .before .before .before .loop .splits) split (c .before .before .before .loop .x) (c .split-number .result) (record { number = 0; digits = [] }) (omega arith)
+          (rw (c .split-number .ensures, c .before .number-at .ensures)) (c .before .before .before .loop .inv .2),
+    )
+
+returns : tie.Need-returns Inv-loop μ-loop
+returns c = record { settings-kept = refl; round-kept = refl; split = λ x h. c .before .loop .inv .2 x (omega arith) }
+
+pub context-of-spec : {M : Type 1} → statement M
+context-of-spec =
+    tie.close
+    (tie.spec
+    Inv-loop
+    μ-loop
+    (λ c. omega arith)
+    (λ c κs. omega arith)
+    loop-holds
+    (λ c κs. (c .before .before .before .before .before .pre .0, omega arith))
+    (λ c κs. omega arith)
+    (λ c. omega arith)
+    (λ c. omega arith)
+    (λ c. omega arith)
+    (λ c. omega arith)
+    loop-again
+    returns)
