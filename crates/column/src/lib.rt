@@ -1,157 +1,514 @@
-// The seven rounds on a side's working slice: its numbers for a round's openings, and the slice after a round.
+// The seven rounds on a side's working slice: its numbers for a round's openings, and the slice after a round. What crate side has found out
+// by its questions, the functions require: whole settings, lengths, and numbers below q.
 ghost use mathlib.Core.Path.{_≡_};
-ghost use Prim.Native.Nat.{ℕ, _+_, _*_, _/_, _≤_, _<_};
+ghost use mathlib.Core.Bool.{true};
+ghost use mathlib.Core.Logic.{_≢_};
+ghost use mathlib.Core.List.{List};
+ghost use Prim.Native.Nat.{ℕ, _+_, _*_, _/_, _%_, _≤_, _<_};
 ghost use lib.ListN.{length, getD};
-ghost use Rattle.lists.specs.Lists.{fill};
+ghost use Rattle.lists.specs.Lists.{fill, fillBy, allBelow};
 ghost use Rattle.field.specs.Field.{q};
+ghost use Rattle.field.specs.Forms.{value};
 ghost use Rattle.settings.specs.Settings.{paramsOf, termsOf};
-ghost use Rattle.settings.specs.Schedule.{rounds};
-ghost use Rattle.settings.specs.Sizes.{openings, mostOpenings, places};
-ghost use Rattle.slice.specs.Layout.{ownAt, runningAt, column, maskedIn};
-ghost use Rattle.steps.specs.Steps.{publicOf, running};
-ghost use Rattle.steps.specs.Work.{openingOn, runningOn, takenColumn, takenColumns, takenWork};
-ghost use Rattle.steps.specs.Calls.{publicIn, Held, HeldAll};
+ghost use Rattle.settings.specs.Sizes.{openings, mostOpenings, places, width};
 ghost use Rattle.settings.specs.Questions.{Ready};
+ghost use Rattle.slice.specs.Layout.{ownAt, runningAt, column, maskedIn};
+ghost use Rattle.steps.specs.Steps.{publicOf};
+ghost use Rattle.steps.specs.Work.{openingOn, runningOn, takenColumns, takenWork};
+ghost use Rattle.steps.specs.Context.{publicBy, ContextOf, SplitsBelow};
+ghost use Rattle.steps.specs.Gates.{GateFits, TermsFit, sumForm, openU, openV, resultForm};
+ghost use Rattle.column.specs.Held.{columnAt, Holds, HeldAll, Room, RegistersHeld, LateHeld, GatesHeld, maskedAfter};
 use lists::copy_numbers;
+use settings::MOST_OPENINGS;
 use settings::PLACES;
 use settings::Settings;
+use settings::WIDTH;
 use settings::openings_in;
 use slice::FIRST;
 use slice::MASKED;
 use slice::OWN;
 use slice::SECOND;
+use slice::Weighted;
 use slice::masked_in;
+use slice::register;
 use steps::Column;
-use steps::Known;
-use steps::opening_value;
-use steps::running_value;
+use steps::Context;
+use steps::Factors;
+use steps::Gate;
+use steps::after_check;
+use steps::context_of;
+use steps::gate_of;
+use steps::gate_value;
+use steps::insides_value;
+use steps::open_check;
+use steps::open_input;
+use steps::open_u;
+use steps::open_v;
+use steps::split_place;
+use steps::sum_value;
+use steps::terms_of;
 
-// The room for a column's own numbers in the slice that take_work is handed: no round has more openings.
-const OWN_ROOM: usize = 32;
-
-// ---- A round on the working slice
-
-fn openings_of(settings: Settings, round: u32) -> usize
-    requires { ⌜ Ready settings ⌝ }
-    ensures { λ r. ⌜ (r ≡ openings (paramsOf (settings .shape)) round) × (r ≤ mostOpenings) ⌝ }
-{
-    openings_in(settings.shape, round) as usize
+// Columns of a working slice: the share's, and behind it those of parts from column 1 + skip on; `count` in all.
+pub struct ColumnChoice {
+    pub count: usize,
+    pub skip: usize,
 }
 
-// This side's numbers in one column for the round's openings, in front of `out`. The caller has asked the questions.
-pub fn prepare(out: &mut [u32], work: &[u32], col: Column, known: Known)
-    requires { ⌜ Ready (known .settings) ⌝ }
-    requires { ⌜ (1 ≤ known .round) × (known .round ≤ rounds) × ((col .index + 1) * places ≤ length (now work)) × (openings (paramsOf (known .settings .shape)) (known .round) ≤ length (now out)) ⌝ }
-    ensures { λ _. ⌜ now (out .exit) ≡ fill (now (out .entry)) 0 (openings (paramsOf (known .settings .shape)) (known .round))
-        (openingOn (publicIn known) (known .round) (col .weight) (column (now (work .entry)) (col .index))) ⌝ }
+// ---- A side's numbers for the openings of a round
+
+// The column at place f.
+fn column_at(columns: ColumnChoice, f: usize) -> usize
+    requires { ⌜ (f < columns .count) × (columns .count + columns .skip ≤ 4294967296) ⌝ }
+    ensures { λ r. ⌜ (r ≡ columnAt (columns .skip) f) × (r < columns .count + columns .skip) ⌝ }
 {
-    let count = openings_of(known.settings, known.round);
+    if f == 0 {
+        return 0;
+    }
+    f + columns.skip
+}
+
+// Opening o of round 1, of round 6 of HIGH, or of round 7: no digit is looked at.
+fn plain_opening(work: &[u32], col: Column, settings: Settings, round: u32, o: usize) -> u32
+    requires { ⌜ Ready settings ⌝ }
+    requires { ⌜ ((col .index + 1) * places ≤ length (now work)) × (o < openings (paramsOf (settings .shape)) round) ⌝ }
+    requires { ⌜ (round ≢ 1 → 5 < round) × (round ≡ 6 → settings .shape .kind ≡ 0) ⌝ }
+    ensures { λ r. ⌜ ((masked : ℕ → ℕ) → r ≡ openingOn (publicBy settings masked) round (col .weight) (column (now (work .entry)) (col .index)) o) ⌝ }
+{
+    if round == 1 {
+        return open_input(work, col, settings, o);
+    }
+    if round == 6 {
+        let zeros = register(work, col.index, SECOND + o);
+        return open_check(work, col, settings.shape, o, zeros);
+    }
+    register(work, col.index, FIRST + o)
+}
+
+// All of them in one column, from a place of `out` on.
+fn plain_into(out: &mut [u32], at: usize, work: &[u32], col: Column, settings: Settings, round: u32)
+    requires { ⌜ Ready settings ⌝ }
+    requires { ⌜ ((col .index + 1) * places ≤ length (now work)) × (at + mostOpenings ≤ length (now out)) ⌝ }
+    requires { ⌜ (round ≢ 1 → 5 < round) × (round ≡ 6 → settings .shape .kind ≡ 0) ⌝ }
+    ensures { λ _. ⌜ ((masked : ℕ → ℕ) → now (out .exit) ≡ fill (now (out .entry)) at (openings (paramsOf (settings .shape)) round)
+        (openingOn (publicBy settings masked) round (col .weight) (column (now (work .entry)) (col .index)))) ⌝ }
+{
+    let count = openings_in(settings.shape, round) as usize;
     let mut o = 0;
     while o < count {
-        let x = opening_value(work, col, known, o);
-        out[o] = x;
+        out[at + o] = plain_opening(work, col, settings, round, o);
         o += 1;
     }
 }
 
-// The first (which = 0) or second (1) running registers of all coefficients after the round, in front of `out`.
-fn running_into(
+// Column by column.
+fn prepare_plain(
     out: &mut [u32],
     work: &[u32],
-    col: Column,
-    known: Known,
-    opened: &[u32],
-    which: usize,
+    weights: &[u32],
+    columns: ColumnChoice,
+    settings: Settings,
+    round: u32,
 )
-    requires { ⌜ Ready (known .settings) ⌝ }
-    requires { ⌜ ((col .index + 1) * places ≤ length (now work)) × (1 ≤ known .round) × (which < 2) × (known .settings .shape .n ≤ length (now out)) ⌝ }
-    requires { ⌜ (openings (paramsOf (known .settings .shape)) (known .round) ≤ length (now opened)) × ((o : ℕ) → getD (now opened) o 0 < q) ⌝ }
-    ensures { λ _. ⌜ now (out .exit) ≡ fill (now (out .entry)) 0 (known .settings .shape .n)
-        (runningOn (publicIn known) (known .round) (λ (o : ℕ). getD (now (opened .entry)) o 0) (col .weight) (column (now (work .entry)) (col .index)) which) ⌝ }
+    requires { ⌜ Ready settings ⌝ }
+    requires { ⌜ Room columns (now weights) (now work) (now out) ⌝ }
+    requires { ⌜ (round ≢ 1 → 5 < round) × (round ≡ 6 → settings .shape .kind ≡ 0) ⌝ }
+    ensures { λ _. ⌜ ((masked : ℕ → ℕ) → Holds (publicBy settings masked) round (now (weights .entry)) (now (work .entry)) columns (openings (paramsOf (settings .shape)) round) (now (out .exit))) ⌝ }
 {
-    let n = known.settings.shape.n as usize;
-    let mut j = 0;
-    while j < n {
-        let x = running_value(work, col, known, opened, which, j);
-        out[j] = x;
-        j += 1;
+    let mut f = 0;
+    while f < columns.count {
+        let index = column_at(columns, f);
+        let col = Column {
+            index,
+            weight: weights[index],
+        };
+        plain_into(out, MOST_OPENINGS * f, work, col, settings, round);
+        f += 1;
     }
 }
 
-// The first n of the opened numbers, and 0 behind them.
-fn masked_opened(opened: &[u32], n: usize) -> [u32; 8]
-    requires { ⌜ (n ≤ 8) × (n ≤ length (now opened)) ⌝ }
-    ensures { λ r. ⌜ ((j : ℕ) → j < n → getD r j 0 ≡ getD (now (opened .entry)) j 0) ⌝ }
+// Round 6 of BOUND: the one opening.
+fn prepare_insides(
+    out: &mut [u32],
+    work: &[u32],
+    weights: &[u32],
+    columns: ColumnChoice,
+    known: Context,
+)
+    requires { ⌜ Ready (known .settings) ⌝ }
+    requires { ⌜ Room columns (now weights) (now work) (now out) ⌝ }
+    requires { ⌜ (known .settings .shape .kind ≢ 0) × (known .round ≡ 6) ⌝ }
+    ensures { λ _. ⌜ ((masked : ℕ → ℕ) → ContextOf (known .settings) (known .round) masked known
+        → Holds (publicBy (known .settings) masked) (known .round) (now (weights .entry)) (now (work .entry)) columns 1 (now (out .exit))) ⌝ }
 {
-    let mut ys = [0u32; 8];
-    copy_numbers(&mut ys, 0, opened, 0, n);
-    ys
+    let settings = known.settings;
+    let mut f = 0;
+    while f < columns.count {
+        let index = column_at(columns, f);
+        let col = Column {
+            index,
+            weight: weights[index],
+        };
+        let insides = insides_value(work, col, known);
+        out[MOST_OPENINGS * f] = open_check(work, col, settings.shape, 0, insides);
+        f += 1;
+    }
 }
 
-// Writes one column after the round: its own numbers for the openings, then the first and second registers.
+// u − a of a gate in all columns, at a place of each.
+fn u_into(out: &mut [u32], at: usize, work: &[u32], columns: ColumnChoice, gate: Gate)
+    requires { ⌜ GateFits gate ⌝ }
+    requires { ⌜ (at < mostOpenings) × (mostOpenings * columns .count ≤ length (now out)) × ((columns .count + columns .skip) * places ≤ length (now work)) × (columns .count + columns .skip ≤ 4294967296) ⌝ }
+    ensures { λ _. ⌜ ((κ : ℕ → ℕ) → now (out .exit) ≡ fillBy mostOpenings (now (out .entry)) at (columns .count)
+        (λ (f : ℕ). value q (κ f) (column (now (work .entry)) (columnAt (columns .skip) f)) (openU gate))) ⌝ }
+{
+    let mut f = 0;
+    while f < columns.count {
+        out[at + MOST_OPENINGS * f] = open_u(work, column_at(columns, f), gate);
+        f += 1;
+    }
+}
+
+// v − b.
+fn v_into(out: &mut [u32], at: usize, work: &[u32], columns: ColumnChoice, gate: Gate)
+    requires { ⌜ GateFits gate ⌝ }
+    requires { ⌜ (at < mostOpenings) × (mostOpenings * columns .count ≤ length (now out)) × ((columns .count + columns .skip) * places ≤ length (now work)) × (columns .count + columns .skip ≤ 4294967296) ⌝ }
+    ensures { λ _. ⌜ ((κ : ℕ → ℕ) → now (out .exit) ≡ fillBy mostOpenings (now (out .entry)) at (columns .count)
+        (λ (f : ℕ). value q (κ f) (column (now (work .entry)) (columnAt (columns .skip) f)) (openV gate))) ⌝ }
+{
+    let mut f = 0;
+    while f < columns.count {
+        out[at + MOST_OPENINGS * f] = open_v(work, column_at(columns, f), gate);
+        f += 1;
+    }
+}
+
+// Rounds 2 to 5: gate by gate, each made once for all columns.
+fn prepare_gates(out: &mut [u32], work: &[u32], columns: ColumnChoice, known: Context)
+    requires { ⌜ Ready (known .settings) × SplitsBelow known ⌝ }
+    requires { ⌜ (2 ≤ known .round) × (known .round ≤ 5) ⌝ }
+    requires { ⌜ (mostOpenings * columns .count ≤ length (now out)) × ((columns .count + columns .skip) * places ≤ length (now work)) × (columns .count + columns .skip ≤ 4294967296) ⌝ }
+    ensures { λ _. ⌜ ((masked : ℕ → ℕ) (κs : List ℕ) → ContextOf (known .settings) (known .round) masked known
+        → Holds (publicBy (known .settings) masked) (known .round) κs (now (work .entry)) columns (4 * known .settings .shape .n) (now (out .exit))) ⌝ }
+{
+    let shape = known.settings.shape;
+    let i = (known.round - 1) as usize;
+    let mut g = 0;
+    while g < 2 * shape.n as usize {
+        let x = split_place(shape.kind, g);
+        let split = known.splits[x];
+        let gate = gate_of(shape, split, g, i);
+        u_into(out, 2 * g, work, columns, gate);
+        v_into(out, 2 * g + 1, work, columns, gate);
+        g += 1;
+    }
+}
+
+// A side's numbers for the openings of a round, in a choice of columns: 32 places of `out` for each. Crate opening asks for round 1 to 7.
+pub fn prepare(
+    out: &mut [u32],
+    work: &[u32],
+    weights: &[u32],
+    columns: ColumnChoice,
+    settings: Settings,
+    round: u32,
+)
+    requires { ⌜ Ready settings ⌝ }
+    requires { ⌜ Room columns (now weights) (now work) (now out) ⌝ }
+    requires { ⌜ (1 ≤ round) × (1 ≤ length (now weights)) × (allBelow q (now work) ≡ true) ⌝ }
+    ensures { λ _. ⌜ Holds (publicOf (termsOf settings) (maskedIn (now (work .entry)))) round (now (weights .entry)) (now (work .entry)) columns
+        (openings (paramsOf (settings .shape)) round) (now (out .exit)) ⌝ }
+{
+    let kind = settings.shape.kind;
+    if round == 1 {
+        prepare_plain(out, work, weights, columns, settings, round);
+        return;
+    }
+    if round <= 5 {
+        let masked = masked_in(work);
+        prepare_gates(out, work, columns, context_of(settings, round, &masked));
+        return;
+    }
+    if kind == 0 {
+        prepare_plain(out, work, weights, columns, settings, round);
+        return;
+    }
+    if round == 6 {
+        let masked = masked_in(work);
+        prepare_insides(
+            out,
+            work,
+            weights,
+            columns,
+            context_of(settings, round, &masked),
+        );
+        return;
+    }
+    prepare_plain(out, work, weights, columns, settings, round);
+}
+
+// ---- The running registers after a round: 16 places of `next` for each column
+
+// The sum of a gate in all columns, at a place of each: what round 1 makes of digit 0.
+fn sums_into(next: &mut [u32], at: usize, work: &[u32], columns: usize, terms: Weighted)
+    requires { ⌜ TermsFit terms ⌝ }
+    requires { ⌜ (at < 16) × (16 * columns ≤ length (now next)) × (columns * places ≤ length (now work)) ⌝ }
+    ensures { λ _. ⌜ ((κ : ℕ → ℕ) → now (next .exit) ≡ fillBy 16 (now (next .entry)) at columns (λ (c : ℕ). value q (κ c) (column (now (work .entry)) c) (sumForm terms 0))) ⌝ }
+{
+    let mut c = 0;
+    while c < columns {
+        next[at + 16 * c] = sum_value(work, c, terms);
+        c += 1;
+    }
+}
+
+// The result of a gate in all columns, from this side's own numbers for its two openings and the opened ones: openings o and o + 1.
+fn results_into(
+    next: &mut [u32],
+    work: &[u32],
+    weights: &[u32],
+    gate: Gate,
+    own: &[u32],
+    opened: &[u32],
+)
+    requires { ⌜ GateFits gate ⌝ }
+    requires { ⌜ (16 * length (now weights) ≤ length (now next)) × (length (now work) ≡ length (now weights) * places) × (mostOpenings * length (now weights) ≤ length (now own)) ⌝ }
+    requires { ⌜ (4 * gate .j + 2 * gate .which + 1 < length (now opened)) × ((o : ℕ) → getD (now opened) o 0 < q) ⌝ }
+    requires { ⌜ ((c : ℕ) → c < length (now weights)
+        → (getD (now own) (mostOpenings * c + (4 * gate .j + 2 * gate .which)) 0 ≡ value q (getD (now weights) c 0) (column (now work) c) (openU gate))
+        × (getD (now own) (mostOpenings * c + (4 * gate .j + 2 * gate .which + 1)) 0 ≡ value q (getD (now weights) c 0) (column (now work) c) (openV gate))) ⌝ }
+    ensures { λ _. ⌜ now (next .exit) ≡ fillBy 16 (now (next .entry)) (8 * gate .which + gate .j) (length (now (weights .entry)))
+        (λ (c : ℕ). value q (getD (now (weights .entry)) c 0) (column (now (work .entry)) c)
+        (resultForm gate (getD (now (opened .entry)) (4 * gate .j + 2 * gate .which) 0) (getD (now (opened .entry)) (4 * gate .j + 2 * gate .which + 1) 0))) ⌝ }
+{
+    let o = 4 * gate.j + 2 * gate.which;
+    let at = 8 * gate.which + gate.j;
+    let joined = Factors {
+        u: opened[o],
+        v: opened[o + 1],
+    };
+    let mut c = 0;
+    while c < weights.len() {
+        let col = Column {
+            index: c,
+            weight: weights[c],
+        };
+        let mine = Factors {
+            u: own[MOST_OPENINGS * c + o],
+            v: own[MOST_OPENINGS * c + (o + 1)],
+        };
+        next[at + 16 * c] = gate_value(work, col, gate, mine, joined);
+        c += 1;
+    }
+}
+
+// Round 1.
+fn first_registers(next: &mut [u32], work: &[u32], columns: usize, known: Context)
+    requires { ⌜ Ready (known .settings) × SplitsBelow known ⌝ }
+    requires { ⌜ (known .round ≡ 1) × (16 * columns ≤ length (now next)) × (columns * places ≤ length (now work)) ⌝ }
+    ensures { λ _. ⌜ ((masked opened : ℕ → ℕ) (κs : List ℕ) → length κs ≡ columns → ContextOf (known .settings) (known .round) masked known
+        → RegistersHeld (publicBy (known .settings) masked) (known .round) opened κs (now (work .entry)) (2 * known .settings .shape .n) (now (next .exit))) ⌝ }
+{
+    let shape = known.settings.shape;
+    let mut g = 0;
+    while g < 2 * shape.n as usize {
+        let x = split_place(shape.kind, g);
+        let split = known.splits[x];
+        let terms = terms_of(shape, split, g, 0);
+        sums_into(next, 8 * (g % 2) + g / 2, work, columns, terms);
+        g += 1;
+    }
+}
+
+// Rounds 2 to 5: gate by gate, each made once for all columns.
+fn gate_registers(
+    next: &mut [u32],
+    work: &[u32],
+    weights: &[u32],
+    known: Context,
+    own: &[u32],
+    opened: &[u32],
+)
+    requires { ⌜ Ready (known .settings) × SplitsBelow known ⌝ }
+    requires { ⌜ (2 ≤ known .round) × (known .round ≤ 5) × (16 * length (now weights) ≤ length (now next)) × (length (now work) ≡ length (now weights) * places) ⌝ }
+    requires { ⌜ (mostOpenings * length (now weights) ≤ length (now own)) × (4 * known .settings .shape .n ≤ length (now opened)) × ((o : ℕ) → getD (now opened) o 0 < q) ⌝ }
+    requires { ⌜ GatesHeld known (now weights) (now work) (now own) ⌝ }
+    ensures { λ _. ⌜ ((masked : ℕ → ℕ) → ContextOf (known .settings) (known .round) masked known
+        → RegistersHeld (publicBy (known .settings) masked) (known .round) (λ (o : ℕ). getD (now (opened .entry)) o 0) (now (weights .entry)) (now (work .entry)) (2 * known .settings .shape .n) (now (next .exit))) ⌝ }
+{
+    let shape = known.settings.shape;
+    let i = (known.round - 1) as usize;
+    let mut g = 0;
+    while g < 2 * shape.n as usize {
+        let x = split_place(shape.kind, g);
+        let split = known.splits[x];
+        let gate = gate_of(shape, split, g, i);
+        results_into(next, work, weights, gate, own, opened);
+        g += 1;
+    }
+}
+
+// Gate g's register after round 6 or 7: round 6 changes the first registers.
+fn late_register(
+    work: &[u32],
+    col: usize,
+    settings: Settings,
+    round: u32,
+    opened: &[u32],
+    g: usize,
+) -> u32
+    requires { ⌜ Ready settings ⌝ }
+    requires { ⌜ ((col + 1) * places ≤ length (now work)) × (g < 2 * settings .shape .n) × (5 < round) ⌝ }
+    requires { ⌜ (openings (paramsOf (settings .shape)) round ≤ length (now opened)) × ((o : ℕ) → getD (now opened) o 0 < q) ⌝ }
+    ensures { λ r. ⌜ ((masked : ℕ → ℕ) (κ : ℕ) → r ≡ runningOn (publicBy settings masked) round (λ (o : ℕ). getD (now (opened .entry)) o 0) κ (column (now (work .entry)) col) (g % 2) (g / 2)) ⌝ }
+{
+    let kept = register(work, col, FIRST + 8 * (g % 2) + g / 2);
+    if round != 6 {
+        return kept;
+    }
+    if g % 2 != 0 {
+        return kept;
+    }
+    after_check(work, col, settings, g / 2, opened)
+}
+
+// All of them in one column.
+fn late_into(
+    next: &mut [u32],
+    work: &[u32],
+    col: usize,
+    settings: Settings,
+    round: u32,
+    opened: &[u32],
+)
+    requires { ⌜ Ready settings ⌝ }
+    requires { ⌜ ((col + 1) * places ≤ length (now work)) × (16 * (col + 1) ≤ length (now next)) × (5 < round) ⌝ }
+    requires { ⌜ (openings (paramsOf (settings .shape)) round ≤ length (now opened)) × ((o : ℕ) → getD (now opened) o 0 < q) ⌝ }
+    ensures { λ _. ⌜ ((masked : ℕ → ℕ) (κ : ℕ) → LateHeld (publicBy settings masked) round (λ (o : ℕ). getD (now (opened .entry)) o 0) κ (now (work .entry)) col (2 * settings .shape .n) (now (next .entry)) (now (next .exit))) ⌝ }
+{
+    let mut g = 0;
+    while g < 2 * settings.shape.n as usize {
+        next[16 * col + (8 * (g % 2) + g / 2)] = late_register(
+            work,
+            col,
+            settings,
+            round,
+            opened,
+            g,
+        );
+        g += 1;
+    }
+}
+
+// Rounds 6 and 7.
+fn late_registers(
+    next: &mut [u32],
+    work: &[u32],
+    columns: usize,
+    settings: Settings,
+    round: u32,
+    opened: &[u32],
+)
+    requires { ⌜ Ready settings ⌝ }
+    requires { ⌜ (16 * columns ≤ length (now next)) × (columns * places ≤ length (now work)) × (5 < round) ⌝ }
+    requires { ⌜ (openings (paramsOf (settings .shape)) round ≤ length (now opened)) × ((o : ℕ) → getD (now opened) o 0 < q) ⌝ }
+    ensures { λ _. ⌜ ((masked : ℕ → ℕ) (κs : List ℕ) → length κs ≡ columns
+        → RegistersHeld (publicBy settings masked) round (λ (o : ℕ). getD (now (opened .entry)) o 0) κs (now (work .entry)) (2 * settings .shape .n) (now (next .exit))) ⌝ }
+{
+    let mut c = 0;
+    while c < columns {
+        late_into(next, work, c, settings, round, opened);
+        c += 1;
+    }
+}
+
+// ---- The working slice after a round
+
+// Writes one column: its own numbers for the openings, then the first and second registers.
 fn put_column(
     work: &mut [u32],
     col: usize,
-    known: Known,
+    settings: Settings,
+    round: u32,
     own: &[u32],
-    first: &[u32],
-    second: &[u32],
+    next: &[u32],
 )
-    requires { ⌜ Ready (known .settings) ⌝ }
-    requires { ⌜ ((col + 1) * places ≤ length (now work)) × (32 * (col + 1) ≤ length (now own)) × (known .settings .shape .n ≤ length (now first))
-        × (known .settings .shape .n ≤ length (now second)) ⌝ }
+    requires { ⌜ Ready settings ⌝ }
+    requires { ⌜ ((col + 1) * places ≤ length (now work)) × (mostOpenings * (col + 1) ≤ length (now own)) × (16 * (col + 1) ≤ length (now next)) ⌝ }
     ensures { λ _. ⌜ now (work .exit) ≡ fill (fill (fill
-        (now (work .entry)) (col * places + ownAt 0) (openings (paramsOf (known .settings .shape)) (known .round))
-        (λ (o : ℕ). getD (now (own .entry)) (32 * col + o) 0))
-        (col * places + runningAt 0 0) (known .settings .shape .n) (λ (j : ℕ). getD (now (first .entry)) j 0))
-        (col * places + runningAt 1 0) (known .settings .shape .n) (λ (j : ℕ). getD (now (second .entry)) j 0) ⌝ }
+        (now (work .entry)) (col * places + ownAt 0) (openings (paramsOf (settings .shape)) round)
+        (λ (o : ℕ). getD (now (own .entry)) (mostOpenings * col + o) 0))
+        (col * places + runningAt 0 0) (settings .shape .n) (λ (j : ℕ). getD (now (next .entry)) (16 * col + j) 0))
+        (col * places + runningAt 1 0) (settings .shape .n) (λ (j : ℕ). getD (now (next .entry)) (16 * col + 8 + j) 0) ⌝ }
 {
     let start = col * PLACES;
-    let n = known.settings.shape.n as usize;
-    let count = openings_of(known.settings, known.round);
-    copy_numbers(work, start + OWN, own, OWN_ROOM * col, count);
-    copy_numbers(work, start + FIRST, first, 0, n);
-    copy_numbers(work, start + SECOND, second, 0, n);
+    let n = settings.shape.n as usize;
+    let count = openings_in(settings.shape, round) as usize;
+    copy_numbers(work, start + OWN, own, MOST_OPENINGS * col, count);
+    copy_numbers(work, start + FIRST, next, 16 * col, n);
+    copy_numbers(work, start + SECOND, next, 16 * col + 8, n);
 }
 
-// One column after the round. `own` holds its own numbers for the openings. The running registers are worked out before
-// any is written: all read the column as it was.
-fn take_column(work: &mut [u32], col: Column, known: Known, opened: &[u32], own: &[u32])
-    requires { ⌜ Ready (known .settings) ⌝ }
-    requires { ⌜ ((col .index + 1) * places ≤ length (now work)) × (1 ≤ known .round) × (32 * (col .index + 1) ≤ length (now own)) ⌝ }
-    requires { ⌜ (openings (paramsOf (known .settings .shape)) (known .round) ≤ length (now opened)) × ((o : ℕ) → getD (now opened) o 0 < q) ⌝ }
-    requires { ⌜ Held (publicIn known) (known .round) (col .weight) (column (now work) (col .index)) (now own) (col .index) ⌝ }
-    ensures { λ _. ⌜ now (work .exit) ≡ takenColumn (publicIn known) (known .round) (λ (o : ℕ). getD (now (opened .entry)) o 0) (col .index) (col .weight) (now (work .entry)) ⌝ }
+// All columns.
+fn put_columns(
+    work: &mut [u32],
+    weights: &[u32],
+    settings: Settings,
+    round: u32,
+    own: &[u32],
+    next: &[u32],
+)
+    requires { ⌜ Ready settings ⌝ }
+    requires { ⌜ (length (now work) ≡ length (now weights) * places) × (mostOpenings * length (now weights) ≤ length (now own)) × (16 * length (now weights) ≤ length (now next)) ⌝ }
+    ensures { λ _. ⌜ ((masked opened : ℕ → ℕ) → HeldAll (publicBy settings masked) round (now (weights .entry)) (now (work .entry)) (now (own .entry))
+        → RegistersHeld (publicBy settings masked) round opened (now (weights .entry)) (now (work .entry)) (2 * settings .shape .n) (now (next .entry))
+        → now (work .exit) ≡ takenColumns (publicBy settings masked) round opened (now (weights .entry)) (now (work .entry)) (length (now (weights .entry)))) ⌝ }
 {
-    let mut first = [0u32; 8];
-    let mut second = [0u32; 8];
-    running_into(&mut first, work, col, known, opened, 0);
-    running_into(&mut second, work, col, known, opened, 1);
-    put_column(work, col.index, known, own, &first, &second);
-}
-
-// All columns after the round, by their weights.
-fn take_columns(work: &mut [u32], known: Known, opened: &[u32], own: &[u32], weights: &[u32])
-    requires { ⌜ Ready (known .settings) ⌝ }
-    requires { ⌜ (1 ≤ known .round) × (length (now work) ≡ length (now weights) * places) × (32 * length (now weights) ≤ length (now own)) ⌝ }
-    requires { ⌜ (openings (paramsOf (known .settings .shape)) (known .round) ≤ length (now opened)) × ((o : ℕ) → getD (now opened) o 0 < q) ⌝ }
-    requires { ⌜ HeldAll (publicIn known) (known .round) (now weights) (now work) (now own) ⌝ }
-    ensures { λ _. ⌜ now (work .exit) ≡ takenColumns (publicIn known) (known .round) (λ (o : ℕ). getD (now (opened .entry)) o 0) (now (weights .entry))
-        (now (work .entry)) (length (now (weights .entry))) ⌝ }
-{
-    let mut i = 0;
-    while i < weights.len() {
-        let col = Column {
-            index: i,
-            weight: weights[i],
-        };
-        take_column(work, col, known, opened, own);
-        i += 1;
+    let mut c = 0;
+    while c < weights.len() {
+        put_column(work, c, settings, round, own, next);
+        c += 1;
     }
 }
 
+// The registers after a round, for all columns.
+fn registers_into(
+    next: &mut [u32],
+    work: &[u32],
+    weights: &[u32],
+    settings: Settings,
+    round: u32,
+    own: &[u32],
+    opened: &[u32],
+)
+    requires { ⌜ Ready settings ⌝ }
+    requires { ⌜ (1 ≤ round) × (1 ≤ length (now weights)) × (length (now work) ≡ length (now weights) * places) × (allBelow q (now work) ≡ true) ⌝ }
+    requires { ⌜ (mostOpenings * length (now weights) ≤ length (now own)) × (16 * length (now weights) ≤ length (now next)) ⌝ }
+    requires { ⌜ (openings (paramsOf (settings .shape)) round ≤ length (now opened)) × ((o : ℕ) → getD (now opened) o 0 < q) ⌝ }
+    requires { ⌜ HeldAll (publicOf (termsOf settings) (maskedIn (now work))) round (now weights) (now work) (now own) ⌝ }
+    ensures { λ _. ⌜ RegistersHeld (publicOf (termsOf settings) (maskedAfter round (λ (o : ℕ). getD (now (opened .entry)) o 0) (now (work .entry)))) round (λ (o : ℕ). getD (now (opened .entry)) o 0)
+        (now (weights .entry)) (now (work .entry)) (2 * settings .shape .n) (now (next .exit)) ⌝ }
+{
+    if round == 1 {
+        first_registers(
+            next,
+            work,
+            weights.len(),
+            context_of(settings, round, opened),
+        );
+        return;
+    }
+    if round <= 5 {
+        let masked = masked_in(work);
+        let known = context_of(settings, round, &masked);
+        gate_registers(next, work, weights, known, own, opened);
+        return;
+    }
+    late_registers(next, work, weights.len(), settings, round, opened);
+}
+
 // The working slice after a round: `opened` are the joined numbers, `own` holds this side's own for each column. The round
-// 1 to 7, the lengths and the opened numbers are as `take` of crate side has asked, and it has prepared `own`.
+// 1 to 7, the lengths and the opened numbers are as `take` of crate side has asked, and it has prepared `own`. All registers are worked out
+// before any is written: each reads the slice as it was.
 pub fn take_work(
     work: &mut [u32],
     settings: Settings,
@@ -161,25 +518,15 @@ pub fn take_work(
     weights: &[u32],
 )
     requires { ⌜ Ready settings ⌝ }
-    requires { ⌜ (1 ≤ round) × (round ≤ rounds) × (length (now work) ≡ length (now weights) * places) × (1 ≤ length (now weights)) × (32 * length (now weights) ≤ length (now own)) ⌝ }
-    requires { ⌜ (openings (paramsOf (settings .shape)) round ≤ length (now opened)) × ((o : ℕ) → getD (now opened) o 0 < q) ⌝ }
+    requires { ⌜ (1 ≤ round) × (1 ≤ length (now weights)) × (length (now weights) ≤ width) × (length (now work) ≡ length (now weights) * places) × (allBelow q (now work) ≡ true) ⌝ }
+    requires { ⌜ (mostOpenings * length (now weights) ≤ length (now own)) × (openings (paramsOf (settings .shape)) round ≤ length (now opened)) × ((o : ℕ) → getD (now opened) o 0 < q) ⌝ }
     requires { ⌜ HeldAll (publicOf (termsOf settings) (maskedIn (now work))) round (now weights) (now work) (now own) ⌝ }
     ensures { λ _. ⌜ now (work .exit) ≡ takenWork (termsOf settings) round (λ (o : ℕ). getD (now (opened .entry)) o 0) (now (weights .entry)) (now (work .entry)) ⌝ }
 {
+    let mut next = [0u32; 16 * WIDTH];
+    registers_into(&mut next, work, weights, settings, round, own, opened);
+    put_columns(work, weights, settings, round, own, &next);
     if round == 1 {
-        let known = Known {
-            settings: settings,
-            round: round,
-            masked: masked_opened(opened, settings.shape.n as usize),
-        };
-        take_columns(work, known, opened, own, weights);
         copy_numbers(work, MASKED, opened, 0, settings.shape.n as usize);
-    } else {
-        let known = Known {
-            settings: settings,
-            round: round,
-            masked: masked_in(work),
-        };
-        take_columns(work, known, opened, own, weights);
     }
 }

@@ -7,3 +7,4 @@ pub mod Fill
 pub mod Part
 pub mod Choices
 pub mod Bytes
+pub mod Strides

@@ -1,5 +1,5 @@
 -- Words for lists: tests of every member, lists by an index function, and lists that are written into.
-use Prim.Native.Nat.{ℕ, zero, suc, _+_}
+use Prim.Native.Nat.{ℕ, zero, suc, _+_, _*_}
 use mathlib.Core.Bool.{Bool, true, cond, _&&_}
 use mathlib.Core.List.{List, [], _∷_, _++_}
 use lib.Dec.{eqb, ltb}
@@ -40,6 +40,11 @@ joinTo n f = joinFrom 0 n f
 unfoldable pub fill : List ℕ → ℕ → ℕ → (ℕ → ℕ) → List ℕ
 fill s i zero f = s
 fill s i (suc n) f = set (fill s i n f) (i + n) (f n)
+
+-- s, with f 0 .. f (n - 1) at the places i, i + step, i + 2 × step ..
+unfoldable pub fillBy : ℕ → List ℕ → ℕ → ℕ → (ℕ → ℕ) → List ℕ
+fillBy step s i zero f = s
+fillBy step s i (suc n) f = set (fillBy step s i n f) (i + step * n) (f n)
 
 -- "Longer outputs change only in front"
 abbrev pub inFront : List ℕ → List ℕ → List ℕ

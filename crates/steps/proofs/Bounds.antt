@@ -128,6 +128,10 @@ module _ (p : Params) (round : ℕ) where
   unfolding openings
   open-middle h k = rw (ne-eqb round 1 h, le-leb round 5 k)
 
+  pub open-one : round ≢ 1 → 5 < round → p .kind ≢ 0 → openings p round ≡ 1
+  unfolding openings
+  open-one h k l = rw (ne-eqb round 1 h, lt-leb round 5 k, ne-eqb (p .kind) 0 l)
+
   pub open-late : round ≢ 1 → 5 < round → 1 ≤ p .n → openings p round ≤ p .n
   unfolding openings
   open-late h k l = rw (ne-eqb round 1 h, lt-leb round 5 k) (go (eqb (p .kind) 0))

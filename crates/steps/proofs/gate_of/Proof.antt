@@ -30,9 +30,9 @@ triple-at-requires c κs = search needs
 -- src/lib.rt:201:1
 returns : tie.Need-returns
 returns c = (
-      rw (c .triple-at .ensures .0, c .before .terms-of .ensures .0),
-      record { coefficient = omega arith; which-two = omega arith; triple-room = c .triple-at .ensures .1; terms-fit = c .before .terms-of .ensures .1 },
-    )
+  rw (c .triple-at .ensures .0, c .before .terms-of .ensures .0),
+  record { coefficient = omega arith; which-two = omega arith; triple-room = c .triple-at .ensures .1; terms-fit = c .before .terms-of .ensures .1 },
+)
 
 pub gate-of-spec : {M : Type 1} → statement M
 gate-of-spec =

@@ -46,10 +46,10 @@ array-read-t17 c = search needs
 -- src/lib.rt:184:1
 returns : tie.Need-returns
 returns c = let a = c .before .before .before .before .before .before .args in (
-      rw (c .before .before .before .vector-at .ensures .0, c .before .before .base-of .ensures .0, c .before .rule-of .ensures, c .limit-of .ensures .0),
-      rw (c .before .before .before .vector-at .ensures .0, c .before .before .base-of .ensures .0, c .before .rule-of .ensures, c .limit-of .ensures .0)
-          (terms-fit (a .shape) (a .split) (a .g) (a .i) (c .before .before .before .before .before .before .pre .0) (c .before .before .before .before .before .before .pre .1 .0) (c .before .before .before .before .before .before .pre .1 .1) (c .before .before .before .before .before .before .pre .1 .2)),
-    )
+  rw (c .before .before .before .vector-at .ensures .0, c .before .before .base-of .ensures .0, c .before .rule-of .ensures, c .limit-of .ensures .0),
+  rw (c .before .before .before .vector-at .ensures .0, c .before .before .base-of .ensures .0, c .before .rule-of .ensures, c .limit-of .ensures .0)
+      (terms-fit (a .shape) (a .split) (a .g) (a .i) (c .before .before .before .before .before .before .pre .0) (c .before .before .before .before .before .before .pre .1 .0) (c .before .before .before .before .before .before .pre .1 .1) (c .before .before .before .before .before .before .pre .1 .2)),
+)
 
 pub terms-of-spec : {M : Type 1} → statement M
 terms-of-spec =
