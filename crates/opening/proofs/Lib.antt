@@ -1,6 +1,5 @@
 -- Laws of a round's openings.
 pub mod Checks
 pub mod Columns
-pub mod Openings
 pub mod Sending
 pub mod Taking

@@ -1,14 +1,16 @@
 -- Names for what the working functions leave, between the definitions of a round's openings.
-use Prim.Native.Nat.{ℕ, zero, suc, _+_, _-_, _*_, _/_, _%_}
+use Prim.Native.Nat.{ℕ, zero, suc, _+_, _-_, _*_, _/_, _%_, _<_}
+use mathlib.Core.Path.{_≡_}
 use mathlib.Core.Bool.{Bool, cond}
 use mathlib.Core.List.{List}
 use lib.Dec.{eqb}
 use lib.ListN.{getD}
 use Rattle.lists.specs.Lists.{fill, allTo}
 use Rattle.field.specs.Field.{q, add, mul}
-use Rattle.settings.specs.Sizes.{keyCount, mostOpenings}
+use Rattle.settings.specs.Sizes.{keyCount, width, openings, mostOpenings}
+use Rattle.settings.specs.Settings.{paramsIn}
 use Rattle.state.specs.declared.Side.{Side}
-use Rattle.opening.specs.Opening.{partColumn, outgoing, incoming}
+use Rattle.opening.specs.Opening.{partColumn, prepared, outgoing, incoming}
 
 -- a list with `count` numbers of f in each of its first columns, column c from place 32 × c on
 unfoldable pub columnsTo : ℕ → (ℕ → ℕ → ℕ) → List ℕ → ℕ → List ℕ
@@ -25,6 +27,11 @@ fieldColumn s f = cond (eqb f 0) 0 (partColumn keyCount (1 - s .number) (f - 1))
 abbrev pub outgoingIn : Side → List ℕ → ℕ → ℕ → ℕ
 outgoingIn s work f o = outgoing keyCount s work (fieldColumn s f) o
 
+-- `sent` holds them, 32 places for each field of an opening
+abbrev pub OutgoingHeld : Side → List ℕ → List ℕ → Type 0
+OutgoingHeld s work sent =
+    (f o : ℕ) → f < 1 + keyCount → o < openings (paramsIn (s .settings)) (s .round) → getD sent (mostOpenings * f + o) 0 ≡ outgoingIn s work f o
+
 -- the fields of a round's message, opening by opening
 unfoldable pub outgoingField : Side → List ℕ → ℕ → ℕ
 outgoingField s work x = outgoingIn s work (x % (1 + keyCount)) (x / (1 + keyCount))
@@ -34,6 +41,11 @@ abbrev pub inTurn : List ℕ → ℕ → ℕ
 inTurn sent x = getD sent (mostOpenings * (x % (1 + keyCount)) + x / (1 + keyCount)) 0
 
 -- ---- Take
+
+-- `own` holds a side's numbers for the openings of its round, 32 places for each column
+abbrev pub PreparedHeld : Side → List ℕ → List ℕ → Type 0
+PreparedHeld s work own =
+    (c o : ℕ) → c < width → o < openings (paramsIn (s .settings)) (s .round) → getD own (mostOpenings * c + o) 0 ≡ prepared keyCount s work c o
 
 -- opening o, joined from a list of columns and a message
 unfoldable pub joinedAt : Side → List ℕ → List ℕ → ℕ → ℕ

@@ -10,8 +10,10 @@ ghost use Rattle.field.specs.Field.{q};
 ghost use Rattle.settings.specs.Settings.{paramsIn};
 ghost use Rattle.settings.specs.Sizes.{keyCount, width, openings, mostOpenings, mostFields, messageLength, workLength};
 ghost use Rattle.state.specs.State.{Whole};
-ghost use Rattle.opening.specs.Work.{columnsTo, fieldColumn, outgoingIn, outgoingField, inTurn, joinedAt, partAt, checkedAt};
-ghost use Rattle.opening.specs.Opening.{prepared, outgoing, message, incoming};
+ghost use Rattle.slice.specs.Layout.{ownIn};
+ghost use Rattle.opening.specs.Work.{columnsTo, PreparedHeld, OutgoingHeld, outgoingField, inTurn, joinedAt, partAt, checkedAt};
+ghost use Rattle.opening.specs.Opening.{message, incoming};
+use column::ColumnChoice;
 use column::prepare;
 use field::add_mod;
 use field::mul_mod;
@@ -25,82 +27,50 @@ use settings::MOST_OPENINGS;
 use settings::WIDTH;
 use settings::field_count;
 use settings::openings_in;
-use slice::masked_in;
 use slice::own_column;
 use slice::weights_of;
 use state::Side;
-use steps::Column;
-use steps::Known;
 
 // The numbers of a side for a round's openings, in all columns.
 pub const OWN_LENGTH: usize = WIDTH * MOST_OPENINGS;
 
-// ---- What a side has for the openings of its round
-
-// The side's numbers for the openings in one column, worked out from the slice, in front of `out`.
-fn prepare_column(out: &mut [u32], work: &[u32], side: Side, column: usize)
-    requires { ⌜ Whole side ⌝ }
-    requires { ⌜ (length (now work) ≡ workLength keyCount) × (column < width) × (mostOpenings ≤ length (now out)) ⌝ }
-    ensures { λ _. ⌜ now (out .exit) ≡ fill (now (out .entry)) 0 (openings (paramsIn (side .settings)) (side .round)) (prepared keyCount side (now (work .entry)) column) ⌝ }
-{
-    let keys = side.keys;
-    let weights = weights_of(side.number, keys);
-    let settings = side.settings;
-    let known = Known {
-        settings,
-        round: side.round,
-        masked: masked_in(work),
-    };
-    let col = Column {
-        index: column,
-        weight: weights[column],
-    };
-    prepare(out, work, col, known);
-}
-
 // ---- Send
 
-// The numbers of one column that are to be sent, in front of `out`: the server works them out, the phone kept its own.
-fn outgoing_column(out: &mut [u32], work: &[u32], side: Side, column: usize)
-    requires { ⌜ Whole side ⌝ }
-    requires { ⌜ (length (now work) ≡ workLength keyCount) × (column < width) × (mostOpenings ≤ length (now out)) ⌝ }
-    ensures { λ _. ⌜ now (out .exit) ≡ fill (now (out .entry)) 0 (openings (paramsIn (side .settings)) (side .round)) (outgoing keyCount side (now (work .entry)) column) ⌝ }
-{
-    if side.number == 0 {
-        prepare_column(out, work, side, column);
-    } else {
-        let count = openings_in(side.settings.shape, side.round) as usize;
-        own_column(out, work, column, count);
-    }
-}
-
-// The column of field f of an opening: 0 is the share, the others are the parts under the receiver's keys.
-fn field_column(side: Side, f: usize) -> usize
-    requires { ⌜ (side .number < 2) × (f < 1 + keyCount) ⌝ }
-    ensures { λ r. ⌜ (r ≡ fieldColumn side f) × (r < width) ⌝ }
-{
-    if f == 0 {
-        return 0;
-    }
-    1 + (1 - side.number as usize) * KEYS + (f - 1)
-}
-
-// The numbers that are to be sent, 32 places for each field of an opening.
-fn outgoing_columns(sent: &mut [u32], work: &[u32], side: Side)
-    requires { ⌜ Whole side ⌝ }
-    requires { ⌜ (length (now work) ≡ workLength keyCount) × (length (now sent) ≡ mostFields keyCount) ⌝ }
-    ensures { λ _. ⌜ now (sent .exit) ≡ columnsTo (openings (paramsIn (side .settings)) (side .round)) (outgoingIn side (now (work .entry))) (now (sent .entry)) (1 + keyCount) ⌝ }
+// The phone's own numbers for the openings, as it kept them: 32 places for each field of an opening.
+fn kept_columns(sent: &mut [u32], work: &[u32], count: usize)
+    requires { ⌜ (length (now work) ≡ workLength keyCount) × (length (now sent) ≡ mostFields keyCount) × (count ≤ mostOpenings) ⌝ }
+    ensures { λ _. ⌜ now (sent .exit) ≡ columnsTo count (ownIn (now (work .entry))) (now (sent .entry)) (1 + keyCount) ⌝ }
 {
     let mut f = 0;
     while f < FIELDS_PER_OPENING {
-        let column = field_column(side, f);
-        outgoing_column(
+        own_column(
             &mut sent[MOST_OPENINGS * f..MOST_OPENINGS * f + MOST_OPENINGS],
             work,
-            side,
-            column,
+            f,
+            count,
         );
         f += 1;
+    }
+}
+
+// The numbers that are to be sent, 32 places for each field of an opening: the share, then the parts under the receiver's keys. The server
+// works them out, the phone kept its own.
+fn outgoing_columns(sent: &mut [u32], work: &[u32], side: Side)
+    requires { ⌜ Whole side ⌝ }
+    requires { ⌜ (length (now work) ≡ workLength keyCount) × (allBelow q (now work) ≡ true) × (length (now sent) ≡ mostFields keyCount) ⌝ }
+    ensures { λ _. ⌜ OutgoingHeld side (now (work .entry)) (now (sent .exit)) ⌝ }
+{
+    let settings = side.settings;
+    if side.number == 0 {
+        let keys = side.keys;
+        let weights = weights_of(side.number, keys);
+        let columns = ColumnChoice {
+            count: FIELDS_PER_OPENING,
+            skip: KEYS,
+        };
+        prepare(sent, work, &weights, columns, settings, side.round);
+    } else {
+        kept_columns(sent, work, openings_in(settings.shape, side.round) as usize);
     }
 }
 
@@ -119,7 +89,8 @@ fn put_in_turn(fields: &mut [u32], sent: &[u32], count: usize)
 // The fields of the round's message, in front of `fields`.
 fn outgoing_fields(fields: &mut [u32], work: &[u32], side: Side, count: usize)
     requires { ⌜ Whole side ⌝ }
-    requires { ⌜ (length (now work) ≡ workLength keyCount) × (count ≡ openings (paramsIn (side .settings)) (side .round)) × (count ≤ mostOpenings) × (length (now fields) ≡ mostFields keyCount) ⌝ }
+    requires { ⌜ (length (now work) ≡ workLength keyCount) × (allBelow q (now work) ≡ true) ⌝ }
+    requires { ⌜ (count ≡ openings (paramsIn (side .settings)) (side .round)) × (count ≤ mostOpenings) × (length (now fields) ≡ mostFields keyCount) ⌝ }
     ensures { λ _. ⌜ now (fields .exit) ≡ fill (now (fields .entry)) 0 ((1 + keyCount) * count) (outgoingField side (now (work .entry))) ⌝ }
 {
     let mut sent = [0u32; MOST_FIELDS];
@@ -145,19 +116,17 @@ pub fn write_message(side: Side, work: &[u32], out: &mut [u8]) -> usize
 // The side's numbers for the openings in all columns, 32 places for each.
 pub fn prepare_columns(own: &mut [u32], work: &[u32], side: Side)
     requires { ⌜ Whole side ⌝ }
-    requires { ⌜ (length (now work) ≡ workLength keyCount) × (length (now own) ≡ mostOpenings * width) ⌝ }
-    ensures { λ _. ⌜ now (own .exit) ≡ columnsTo (openings (paramsIn (side .settings)) (side .round)) (prepared keyCount side (now (work .entry))) (now (own .entry)) width ⌝ }
+    requires { ⌜ (length (now work) ≡ workLength keyCount) × (allBelow q (now work) ≡ true) × (length (now own) ≡ mostOpenings * width) ⌝ }
+    ensures { λ _. ⌜ PreparedHeld side (now (work .entry)) (now (own .exit)) ⌝ }
 {
-    let mut c = 0;
-    while c < WIDTH {
-        prepare_column(
-            &mut own[MOST_OPENINGS * c..MOST_OPENINGS * c + MOST_OPENINGS],
-            work,
-            side,
-            c,
-        );
-        c += 1;
-    }
+    let keys = side.keys;
+    let weights = weights_of(side.number, keys);
+    let settings = side.settings;
+    let columns = ColumnChoice {
+        count: WIDTH,
+        skip: 0,
+    };
+    prepare(own, work, &weights, columns, settings, side.round);
 }
 
 // Field f of opening o of a message: 0 is the share, 1 + i the check part under the receiver's key i.

@@ -1,0 +1,93 @@
+use Prim.Native.Nat.{ℕ, _≤_, _<_, _-_, _+_, _*_, _%_, _/_}
+use mathlib.Core.Path.{_≡_, refl, sym, ap, _∙_}
+use native.Mathlib.Omega.{arith}
+use borrow.Author.Needs.{needs}
+use lib.ListN.{length, set, getD, length-set}
+use Rattle.opening.proofs.kept_columns.Statement.{statement}
+use Rattle.opening.proofs.kept_columns.Tie as tie
+use Rattle.opening.proofs.kept_columns.Reads as reads
+use Rattle.opening.proofs.kept_columns.Lts as lts
+use Rattle.slice.proofs.own_column.Reads as own-column-reads
+
+abbrev Inv-loop : tie.InvT-loop
+Inv-loop sent₀ work count f₀ sent f = ?
+
+abbrev μ-loop : tie.MeasureT-loop
+μ-loop sent₀ work count f₀ sent f = ?
+
+-- src/lib.rt:45:5
+loop-holds : tie.Need-loop-holds Inv-loop μ-loop
+loop-holds c = ?
+
+-- src/lib.rt:47:23
+mul-own-column : tie.Need-mul-own-column Inv-loop μ-loop
+mul-own-column c = omega arith
+
+-- src/lib.rt:47:42
+mul-own-column-2 : tie.Need-mul-own-column-2 Inv-loop μ-loop
+mul-own-column-2 c = omega arith
+
+-- src/lib.rt:47:42
+add-own-column : tie.Need-add-own-column Inv-loop μ-loop
+add-own-column c = omega arith
+
+-- src/lib.rt:47:13
+mul-own-column-3 : tie.Need-mul-own-column-3 Inv-loop μ-loop
+mul-own-column-3 c = omega arith
+
+-- src/lib.rt:47:13
+sub-own-column : tie.Need-sub-own-column Inv-loop μ-loop
+sub-own-column c = omega arith
+
+-- src/lib.rt:47:13
+part-own-column-start : tie.Need-part-own-column-start Inv-loop μ-loop
+part-own-column-start c = omega arith
+
+-- src/lib.rt:47:13
+part-own-column-end : tie.Need-part-own-column-end Inv-loop μ-loop
+part-own-column-end c = omega arith
+
+-- src/lib.rt:46:9
+own-column-requires : tie.Need-own-column-requires Inv-loop μ-loop
+own-column-requires c κs = omega arith
+
+-- src/lib.rt:52:9
+add-f : tie.Need-add-f Inv-loop μ-loop
+add-f c = omega arith
+
+-- src/lib.rt:45:5
+loop-less : tie.Need-loop-less Inv-loop μ-loop
+loop-less c = omega arith
+
+-- src/lib.rt:45:5
+loop-again : tie.Need-loop-again Inv-loop μ-loop
+loop-again c = ?
+
+-- src/lib.rt:40:1
+same-length : tie.Need-same-length Inv-loop μ-loop
+same-length c = search needs
+
+-- src/lib.rt:40:1
+returns : tie.Need-returns Inv-loop μ-loop
+returns c = ?
+
+pub kept-columns-spec : {M : Type 1} → statement M
+kept-columns-spec =
+    tie.close
+    (tie.spec
+    Inv-loop
+    μ-loop
+    loop-holds
+    mul-own-column
+    mul-own-column-2
+    add-own-column
+    mul-own-column-3
+    sub-own-column
+    part-own-column-start
+    part-own-column-end
+    own-column-requires
+    add-f
+    loop-less
+    loop-again
+    same-length
+    returns)
