@@ -29,25 +29,37 @@ module _ (f : ℕ → Bool) (xs : List ℕ) (i : ℕ) where
   unfolding every
   every-end h inv = rw (drop-of-length-le xs h) at inv
 
+  -- a loop that looks at every number, `good` being whether all passed so far
+  step : i < length xs → every f (drop i xs) ≡ (f (getD xs i 0) && every f (drop (i + 1) xs))
+  unfolding every
+  step h = rw (drop-cons xs i 0 h, add-one) refl
+
+  pub every-passed : (good : Bool) → i < length xs → f (getD xs i 0) ≡ true → (good && every f (drop i xs)) ≡ every f xs → (good && every f (drop (i + 1) xs)) ≡ every f xs
+  every-passed good h e inv = rw (step h, e) at inv
+
+  pub every-failed : (good : Bool) → i < length xs → f (getD xs i 0) ≡ false → (good && every f (drop i xs)) ≡ every f xs → false ≡ every f xs
+  every-failed good h e inv = sym (and-false good) ∙ rw (step h, e) at inv
+
+  pub every-ended : (good : Bool) → length xs ≤ i → (good && every f (drop i xs)) ≡ every f xs → good ≡ every f xs
+  unfolding every
+  every-ended good h inv = sym (and-true good) ∙ rw (drop-of-length-le xs h) at inv
+
 -- the same for numbers below m
 module _ (m : ℕ) (xs : List ℕ) (i : ℕ) where
   abbrev less : ℕ → Bool
   less x = ltb x m
 
-  step : i < length xs → allBelow m (drop i xs) ≡ (ltb (getD xs i 0) m && allBelow m (drop (i + 1) xs))
-  unfolding allBelow every
-  step h = rw (drop-cons xs i 0 h, add-one) refl
-
-  -- a loop that looks at every number, `good` being whether all passed so far
   pub below-passed : (good : Bool) → i < length xs → getD xs i 0 < m → (good && allBelow m (drop i xs)) ≡ allBelow m xs → (good && allBelow m (drop (i + 1) xs)) ≡ allBelow m xs
-  below-passed good h e inv = rw (step h, lt-ltb (getD xs i 0) m e) at inv
+  unfolding allBelow
+  below-passed good h e inv = every-passed less xs i good h (lt-ltb (getD xs i 0) m e) inv
 
   pub below-failed : (good : Bool) → i < length xs → m ≤ getD xs i 0 → (good && allBelow m (drop i xs)) ≡ allBelow m xs → false ≡ allBelow m xs
-  below-failed good h e inv = sym (and-false good) ∙ rw (step h, le-ltb (getD xs i 0) m e) at inv
+  unfolding allBelow
+  below-failed good h e inv = every-failed less xs i good h (le-ltb (getD xs i 0) m e) inv
 
   pub below-ended : (good : Bool) → length xs ≤ i → (good && allBelow m (drop i xs)) ≡ allBelow m xs → good ≡ allBelow m xs
-  unfolding allBelow every
-  below-ended good h inv = sym (and-true good) ∙ rw (drop-of-length-le xs h) at inv
+  unfolding allBelow
+  below-ended good h inv = every-ended less xs i good h inv
 
 -- ---- one member
 

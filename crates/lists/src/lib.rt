@@ -1,10 +1,15 @@
 // The words for lists and answers in which the meaning of the product is written, and their laws; and the functions over slices that
 // several crates need: the smaller of two numbers, copying, and the length before a byte.
 ghost use mathlib.Core.Path.{_≡_};
+ghost use mathlib.Core.Bool.{not};
 ghost use Prim.Native.Nat.{ℕ, _+_, _≤_, min};
-ghost use lib.ListN.{length, getD};
+ghost use lib.Dec.{eqb};
+ghost use lib.ListN.{length, getD, drop};
 ghost use lib.Seq.{paste};
-ghost use Rattle.lists.specs.Lists.{fill, lengthBefore};
+ghost use Rattle.lists.specs.Lists.{every, fill, lengthBefore};
+
+// The bytes of a block: two of the vectors that every x86-64 has.
+const BLOCK: usize = 32;
 
 // The smaller of the two.
 pub fn least(a: usize, b: usize) -> usize
@@ -52,4 +57,42 @@ pub fn length_before(bytes: &[u8], byte: u8) -> usize
         i += 1;
     }
     i
+}
+
+// Is `byte` nowhere in the block? None of its bytes is passed over after a first match, so that several are compared at a time.
+fn lacks(block: &[u8], byte: u8) -> bool
+    ensures { λ r. ⌜ r ≡ every (λ (x : ℕ). not (eqb x byte)) (now (block .entry)) ⌝ }
+{
+    let mut good = true;
+    let mut i = 0;
+    while i < block.len() {
+        if block[i] == byte {
+            good = false;
+        }
+        i += 1;
+    }
+    good
+}
+
+// How many bytes stand in whole blocks before the first block with `byte` in it.
+fn blocks_before(bytes: &[u8], byte: u8) -> usize
+    ensures { λ r. ⌜ (r + lengthBefore byte (drop r (now (bytes .entry))) ≡ lengthBefore byte (now (bytes .entry))) × (r ≤ length (now (bytes .entry))) ⌝ }
+{
+    let mut at = 0;
+    while bytes.len() - at >= BLOCK {
+        let end = at + BLOCK;
+        if !lacks(&bytes[at..end], byte) {
+            return at;
+        }
+        at = end;
+    }
+    at
+}
+
+// The same as `length_before`: faster where the byte is some blocks off, and slower where it is near.
+pub fn length_before_by_blocks(bytes: &[u8], byte: u8) -> usize
+    ensures { λ r. ⌜ (r ≡ lengthBefore byte (now (bytes .entry))) × (r ≤ length (now (bytes .entry))) ⌝ }
+{
+    let at = blocks_before(bytes, byte);
+    at + length_before(&bytes[at..], byte)
 }

@@ -5,7 +5,7 @@ ghost use Rattle.lists.specs.Lists.{inFront};
 ghost use Rattle.stream.specs.Stream.{atStart, numberAfter, atLine, withBytes, keptAfter, nextLine, isLeft};
 use lists::copy_bytes;
 use lists::least;
-use lists::length_before;
+use lists::length_before_by_blocks;
 
 // Where an input stands: the number of the line that is being read, from 1; how many of its bytes are held; whether it has ended.
 pub struct Stream {
@@ -75,7 +75,7 @@ pub fn next_line(stream: Stream, kept: &mut [u8], bytes: &[u8]) -> Step
     ensures { λ _. ⌜ now (kept .exit) ≡ keptAfter stream (now (kept .entry)) (now (bytes .entry)) ⌝ }
 {
     let line = at_line(stream);
-    let n = length_before(bytes, LINE_END);
+    let n = length_before_by_blocks(bytes, LINE_END);
     let held = hold(kept, line.held, &bytes[..n]);
     if n < bytes.len() {
         return Step {

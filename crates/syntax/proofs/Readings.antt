@@ -6,7 +6,7 @@ use mathlib.Core.List.{List, [], _∷_, _++_, append-nil, append-assoc}
 use native.Mathlib.Numerals.{add-one}
 use native.Mathlib.Omega.{arith}
 use lib.Dec.{ltb}
-use lib.ListN.{length, getD, take, drop, length-append, length-drop}
+use lib.ListN.{length, getD, set, take, drop, length-append, length-drop}
 use lib.Seq.{getD-drop, take-all}
 use Rattle.lists.specs.Lists.{every, listFrom, lengthBefore}
 use Rattle.syntax.specs.Rows.{row}
@@ -19,7 +19,7 @@ use Rattle.lists.proofs.Questions.{and-true}
 use Rattle.syntax.proofs.Rows.{set-row, getD-row, row-cong}
 use Rattle.syntax.proofs.Words.{rest, rest-more, rest-end}
 
-abbrev reading : Bool → ℕ → List ℕ → WordsRead
+abbrev pub reading : Bool → ℕ → List ℕ → WordsRead
 reading g n vs = record { good = g; count = n; values = vs }
 
 same-reading : {g h : Bool} {n m : ℕ} {vs us : List ℕ} → g ≡ h → n ≡ m → vs ≡ us → reading g n vs ≡ reading h m us
@@ -97,24 +97,32 @@ unfolding withWords withWord
 still-bad s [] e = e
 still-bad s (w ∷ ws) e = still-bad (withWord s w) ws (rw e)
 
-pub bad-decides : (s t : WordsRead) (ws : List (List ℕ)) → s .good ≡ false → withWords s ws ≡ t → finish s ≡ finish t
-bad-decides s t ws e f = finish-bad s e ∙ sym (ap finish (sym f) ∙ finish-bad (withWords s ws) (still-bad s ws e))
+bad-decides : (s r t : WordsRead) (ws : List (List ℕ)) → s .good ≡ false → r .good ≡ false → withWords r ws ≡ t → finish s ≡ finish t
+bad-decides s r t ws d e f = finish-bad s d ∙ sym (ap finish (sym f) ∙ finish-bad (withWords r ws) (still-bad r ws e))
 
 -- ---- the loop over words
 
-pub words-more : (s r t : WordsRead) (line : List ℕ) (i n : ℕ) → i ≤ length line → n ≡ lengthBefore 32 (take (length line - i) (drop i line)) → withWords s (rest line i) ≡ t
-    → r ≡ withWord s (take (i + n - i) (drop i line)) → withWords r (rest line (i + n + 1)) ≡ t
+next-word : (s t : WordsRead) (line : List ℕ) (i n : ℕ) → i ≤ length line → n ≡ lengthBefore 32 (take (length line - i) (drop i line)) → withWords s (rest line i) ≡ t
+    → withWords (withWord s (take (i + n - i) (drop i line))) (rest line (i + n + 1)) ≡ t
 unfolding withWords
-words-more s r t line i n h l e p =
+next-word s t line i n h l e =
     let k : i + n + 1 ≡ i + suc n = omega arith in
     let m : i + n - i ≡ n = omega arith in
     let f : n ≡ lengthBefore 32 (drop i line) = l ∙ ap (lengthBefore 32) (take-all (length line - i) (drop i line) (omega (arith, length-drop i line))) in
-    rw (p, k, m) (rw (rest-more line i n h f) at e)
+    rw (k, m) (rw (rest-more line i n h f) at e)
+
+-- from byte i on, behind `count` words with these values: the next word, of n bytes, is read as f
+module _ (line values : List ℕ) (count i n : ℕ) (f : ReadNumber) (t : WordsRead) (h : i ≤ length line)
+    (l : n ≡ lengthBefore 32 (take (length line - i) (drop i line))) (e : withWords (reading true count values) (rest line i) ≡ t)
+    (p : f ≡ fieldAt count (take (i + n - i) (drop i line))) where
+  pub words-more : (placed : List ℕ) → f .good ≡ true → placed ≡ set values count (f .value) → withWords (reading true (count + 1) placed) (rest line (i + n + 1)) ≡ t
+  unfolding withWord
+  words-more placed g q = rw q (rw (← p, g) at (next-word (reading true count values) t line i n h l e))
+
+  pub words-stop : f .good ≡ false → finish (reading false count values) ≡ finish t
+  unfolding withWord
+  words-stop g = bad-decides (reading false count values) _ t _ refl (rw (← p, g) refl) (next-word (reading true count values) t line i n h l e)
 
 pub words-done : (s t : WordsRead) (line : List ℕ) (i : ℕ) → length line < i → withWords s (rest line i) ≡ t → s ≡ t
 unfolding withWords
 words-done s t line i h e = rw (rest-end line i h) at e
-
-pub counted : (s r : WordsRead) (w : List ℕ) → r ≡ withWord s w → r .count ≡ s .count + 1
-unfolding withWord
-counted s r w e = ap (λ (k : WordsRead). k .count) e

@@ -1,11 +1,10 @@
 // The form of lines: what an input line asks for, and the text of an output line.
 ghost use mathlib.Core.Path.{_≡_};
-ghost use mathlib.Core.Bool.{_&&_};
 ghost use Prim.Native.Nat.{_≤_};
 ghost use lib.ListN.{length, set};
 ghost use Rattle.text.specs.Text.{textAt, puts};
 ghost use Rattle.syntax.specs.Line.{isByte, kindIn, setIn, fieldAt, words, malformed, requested, lineOf};
-ghost use Rattle.syntax.specs.Reading.{startWords, withWord, withWords, finish};
+ghost use Rattle.syntax.specs.Reading.{startWords, withWords, finish};
 ghost use Rattle.syntax.specs.Answer.{refusalText, answerPart, answerText};
 use lists::length_before;
 use text::ReadNumber;
@@ -16,9 +15,6 @@ use text::put_numbers;
 
 // The most bytes of an input line, without its line end.
 pub const LONGEST_INPUT_LINE: usize = 1024;
-
-// The words whose numbers are kept: kind, set, B and eight coefficients.
-const WORDS_KEPT: usize = 11;
 
 // What a line asks for: kind 0 HIGH or 1 BOUND, set, B, how many coefficients, and the first 8 of them. All is 0 where the line
 // is malformed (`good` is false).
@@ -31,7 +27,8 @@ pub struct Request {
     pub numbers: [u32; 8],
 }
 
-// How far a line has been read: whether each word had its form, how many there were, and the numbers of the first 11.
+// How far a line has been read: whether each word had its form, how many there were, and the numbers of the first 11: kind, set, B and
+// eight coefficients.
 struct WordsRead {
     good: bool,
     count: usize,
@@ -98,39 +95,12 @@ fn field_at(place: usize, word: &[u8]) -> ReadNumber
 
 // ---- A line
 
-fn both(a: bool, b: bool) -> bool
-    ensures { λ r. ⌜ r ≡ (a && b) ⌝ }
+// Stores one value more, if it has a place.
+fn place(values: &mut [u32], at: usize, value: u32)
+    ensures { λ _. ⌜ now (values .exit) ≡ set (now (values .entry)) at value ⌝ }
 {
-    if a {
-        return b;
-    }
-    false
-}
-
-// The values with one more, if it has a place.
-fn place(values: [u32; 11], at: usize, value: u32) -> [u32; 11]
-    ensures { λ r. ⌜ r ≡ set values at value ⌝ }
-{
-    let mut placed = values;
-    if at < WORDS_KEPT {
-        placed[at] = value;
-        return placed;
-    }
-    placed
-}
-
-// One word more.
-fn take_word(read: WordsRead, word: &[u8]) -> WordsRead
-    requires { ⌜ read .count ≤ 1024 ⌝ }
-    ensures { λ r. ⌜ r ≡ withWord read (now (word .entry)) ⌝ }
-{
-    let field = field_at(read.count, word);
-    let old = read.values;
-    let values = place(old, read.count, field.value);
-    WordsRead {
-        good: both(read.good, field.good),
-        count: read.count + 1,
-        values,
+    if at < values.len() {
+        values[at] = value;
     }
 }
 
@@ -140,22 +110,29 @@ fn read_words(line: &[u8]) -> WordsRead
     ensures { λ r. ⌜ finish r ≡ finish (withWords startWords (words (now (line .entry)))) ⌝ }
     ensures { λ r. ⌜ r .count ≤ 1025 ⌝ }
 {
-    let mut read = WordsRead {
-        good: true,
-        count: 0,
-        values: [0; 11],
-    };
+    let mut values = [0u32; 11];
+    let mut count = 0;
     let mut at = 0;
     while at <= line.len() {
         let n = length_before(&line[at..], b' ');
         let end = at + n;
-        read = take_word(read, &line[at..end]);
-        if !read.good {
-            return read;
+        let field = field_at(count, &line[at..end]);
+        if !field.good {
+            return WordsRead {
+                good: false,
+                count,
+                values,
+            };
         }
+        place(&mut values, count, field.value);
+        count += 1;
         at = end + 1;
     }
-    read
+    WordsRead {
+        good: true,
+        count,
+        values,
+    }
 }
 
 fn refuse() -> Request

@@ -105,3 +105,16 @@ digits-more s r t w i h e p = rw (p, add-one) (rw (drop-cons w i 0 h) at e)
 pub digits-done : (s t : DigitsRead) (w : List ℕ) (i : ℕ) → length w ≤ i → withDigits s (drop i w) ≡ t → s ≡ t
 unfolding withDigits
 digits-done s t w i h e = rw (drop-of-length-le w h) at e
+
+-- a byte with which this is no number decides: the bytes behind it change nothing
+number-bad : (d : DigitsRead) → d .good ≡ false → numberRead d ≡ unfit
+unfolding numberRead
+number-bad d e = rw e refl
+
+still-bad : (d : DigitsRead) (w : List ℕ) → d .good ≡ false → withDigits d w .good ≡ false
+unfolding withDigits withDigit
+still-bad d [] e = e
+still-bad d (b ∷ w) e = rw e (ap (λ (r : DigitsRead). r .good) (bad-stays w))
+
+pub bad-decides : (d t : DigitsRead) (w : List ℕ) → d .good ≡ false → withDigits d w ≡ t → numberRead d ≡ numberRead t
+bad-decides d t w e f = number-bad d e ∙ sym (ap numberRead (sym f) ∙ number-bad (withDigits d w) (still-bad d w e))

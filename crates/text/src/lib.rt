@@ -105,6 +105,7 @@ fn end_digits(read: DigitsRead) -> ReadNumber
     }
 }
 
+// The number of a word. The first byte with which it is none decides.
 pub fn number_in(word: &[u8]) -> ReadNumber
     ensures { λ r. ⌜ r ≡ numberIn (now (word .entry)) ⌝ }
 {
@@ -112,6 +113,9 @@ pub fn number_in(word: &[u8]) -> ReadNumber
     let mut i = 0;
     while i < word.len() {
         read = add_digit(read, word[i]);
+        if !read.good {
+            return end_digits(read);
+        }
         i += 1;
     }
     end_digits(read)

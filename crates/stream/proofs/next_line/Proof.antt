@@ -14,7 +14,7 @@ returns : tie.Need-returns
 returns c =
     let a = c .before .before .before .before .before .before .before .before .before .before .args in
     let line = c .before .before .before .before .before .before .before .at-line in
-    let n = c .before .before .before .before .before .before .length-before in
+    let n = c .before .before .before .before .before .before .length-before-by-blocks in
     let hold = c .before .before .before .hold in (
       line-ended (a .stream) (line .result) (a .kept .now) (a .bytes .now) (n .result) (hold .result)
           (line .ensures) (n .ensures .0) (hold .ensures .0) (c .if1 .taken),
@@ -26,7 +26,7 @@ returns-2 : tie.Need-returns-2
 returns-2 c =
     let a = c .before .before .before .before .before .before .before .before .before .before .args in
     let line = c .before .before .before .before .before .before .before .at-line in
-    let n = c .before .before .before .before .before .before .length-before in
+    let n = c .before .before .before .before .before .before .length-before-by-blocks in
     let hold = c .before .before .before .hold in (
       line-open (a .stream) (line .result) (a .kept .now) (a .bytes .now) (n .result) (hold .result)
           (line .ensures) (n .ensures .0) (hold .ensures .0) (c .if1 .left),

@@ -2,48 +2,52 @@
 use Rattle.syntax.specs.Line.{words}
 use Rattle.syntax.specs.Reading.{withWords, startWords, finish}
 use Rattle.syntax.proofs.Words.{rest, rest-all}
-use Rattle.syntax.proofs.Readings.{words-more, words-done, counted, bad-decides}
+use Rattle.syntax.proofs.Readings.{reading, words-more, words-stop, words-done}
 use Prim.Native.Nat.{_≤_, _-_, _+_}
-use mathlib.Core.Path.{_≡_, ap}
+use mathlib.Core.Path.{_≡_, refl, ap, _∙_}
+use mathlib.Core.Bool.{true}
 use native.Mathlib.Omega.{arith}
-use borrow.Author.Tests.{not-true}
-use lib.ListN.{length}
+use borrow.Author.Needs.{needs}
+use borrow.Author.Tests.{not-true, not-false}
+use lib.ListN.{length, length-set}
 use Rattle.syntax.proofs.read_words.Statement.{statement}
 use Rattle.syntax.proofs.read_words.Tie as tie
 
 abbrev Inv-loop : tie.InvT-loop
-Inv-loop line read₀ at₀ read at =
-    (at ≤ length line + 1) × (read .count ≤ at) × (withWords read (rest line at) ≡ withWords startWords (words line))
+Inv-loop line values₀ count₀ at₀ values count at =
+    (at ≤ length line + 1) × (count ≤ at) × (length values ≡ 11) × (withWords (reading true count values) (rest line at) ≡ withWords startWords (words line))
 
 abbrev μ-loop : tie.MeasureT-loop
-μ-loop line read₀ at₀ read at = length line + 1 - at
+μ-loop line values₀ count₀ at₀ values count at = length line + 1 - at
 
 loop-holds : tie.Need-loop-holds Inv-loop μ-loop
-loop-holds c = (omega arith, omega arith, ap (withWords startWords) (rest-all _))
-
-length-before-requires : tie.Need-length-before-requires Inv-loop μ-loop
-length-before-requires c κs = tt
+loop-holds c = (omega arith, omega arith, refl, ap (withWords startWords) (rest-all _))
 
 returns : tie.Need-returns Inv-loop μ-loop
 returns c =
+    let field = c .before .before .field-at in
+    let n = c .before .before .before .before .length-before in
     let loop = c .before .before .before .before .before .before .before .loop in
     let line = c .before .before .before .before .before .before .before .before .before .args .line .now in
-    let more = words-more (loop .read) _ _ line (loop .at) (c .before .before .before .before .length-before .result) (omega arith)
-    (c .before .before .before .before .length-before .ensures .0) (loop .inv .2) (c .before .before .take-word .ensures) in
-    (bad-decides _ _ _ (not-true _ (c .if1 .taken)) more, omega (arith, counted _ _ _ (c .before .before .take-word .ensures)))
+    (words-stop line (loop .values) (loop .count) (loop .at) (n .result) (field .result) _ (omega arith) (n .ensures .0) (loop .inv .3) (field .ensures) (not-true _ (c .if1 .taken)), omega arith)
 
 loop-again : tie.Need-loop-again Inv-loop μ-loop
 loop-again c =
-    let loop = c .before .before .before .before .before .before .before .loop in
-    let line = c .before .before .before .before .before .before .before .before .before .args .line .now in (
+    let field = c .before .before .before .before .before .field-at in
+    let n = c .before .before .before .before .before .before .before .length-before in
+    let loop = c .before .before .before .before .before .before .before .before .before .before .loop in
+    let line = c .before .before .before .before .before .before .before .before .before .before .before .before .args .line .now in (
       omega arith,
-      omega (arith, counted _ _ _ (c .before .before .take-word .ensures)),
-      words-more (loop .read) _ _ line (loop .at) (c .before .before .before .before .length-before .result) (omega arith)
-          (c .before .before .before .before .length-before .ensures .0) (loop .inv .2) (c .before .before .take-word .ensures),
+      omega arith,
+      ap length (c .before .place .ensures) ∙ simp length-set (omega arith),
+      words-more line (loop .values) (loop .count) (loop .at) (n .result) (field .result) _ (omega arith) (n .ensures .0) (loop .inv .3) (field .ensures)
+          _ (not-false _ (c .before .before .before .if1 .left)) (c .before .place .ensures),
     )
 
 returns-2 : tie.Need-returns-2 Inv-loop μ-loop
-returns-2 c = (ap finish (words-done (c .before .loop .read) _ (c .before .before .before .args .line .now) (c .before .loop .at) (omega arith) (c .before .loop .inv .2)), omega arith)
+returns-2 c =
+    let loop = c .before .loop in
+    (ap finish (words-done (reading true (loop .count) (loop .values)) _ (c .before .before .before .args .line .now) (loop .at) (omega arith) (loop .inv .3)), omega arith)
 
 pub read-words-spec : {M : Type 1} → statement M
 read-words-spec =
@@ -55,13 +59,16 @@ read-words-spec =
     (λ c. omega arith)
     (λ c. omega arith)
     (λ c. omega arith)
-    length-before-requires
+    (λ c κs. tt)
     (λ c. omega arith)
     (λ c. omega arith)
     (λ c. omega arith)
     (λ c. omega arith)
-    (λ c κs. omega arith)
+    (λ c κs. tt)
     returns
+    (λ c. search needs)
+    (λ c κs. tt)
+    (λ c. omega arith)
     (λ c. omega arith)
     (λ c. omega arith)
     loop-again
