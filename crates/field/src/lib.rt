@@ -9,6 +9,9 @@ pub const Q: u32 = 8380417;
 
 pub const Q64: u64 = 8380417;
 
+// The least multiple of q above every u32: with it added, a difference of two of them is not below 0, and is the same modulo q.
+const ABOVE: u64 = 513 * Q64;
+
 // a + b modulo q.
 pub fn add_mod(a: u32, b: u32) -> u32
     ensures { λ r. ⌜ r ≡ add q a b ⌝ }
@@ -20,7 +23,7 @@ pub fn add_mod(a: u32, b: u32) -> u32
 pub fn sub_mod(a: u32, b: u32) -> u32
     ensures { λ r. ⌜ r ≡ sub q a b ⌝ }
 {
-    ((a as u64 + (Q - b % Q) as u64) % Q64) as u32
+    ((a as u64 + ABOVE - b as u64) % Q64) as u32
 }
 
 // a × b modulo q.

@@ -4,7 +4,7 @@ use mathlib.Core.List.{List, _∷_, _++_, []}
 use Prim.Native.Nat.{ℕ, zero, suc, _+_, _≤_, _<_}
 use native.Mathlib.Omega.{arith}
 use native.Mathlib.Numerals.{add-one}
-use lib.ListN.{length, getD, set, drop, length-set, take, List·getD-eq-default}
+use lib.ListN.{length, getD, set, drop, length-set, take}
 use native.Mathlib.Nat.{zero-add, add-zero, add-suc, add-assoc, suc-add}
 use lib.Seq.{getD-set-same, getD-set-other, ext-getD, drop-set-lt, take-at}
 use native.Mathlib.Decide.{decLt}
@@ -85,6 +85,11 @@ fill-join s i n zero f g e = rw (add-zero n)
 fill-join s i n (suc m) f g e =
     rw (add-suc n m, fill-join s i n m f g (λ k h. e k (omega arith)), e m (omega arith), add-assoc i n m)
 
+-- the same for slices that are written one after the other, with the places as the code has them
+pub fill-next : (s s₁ s₂ : List ℕ) (a b n m l : ℕ) (f g : ℕ → ℕ) → s₁ ≡ fill s a n f → s₂ ≡ fill s₁ b m g → b ≡ a + n → n + m ≡ l
+    → ((k : ℕ) → k < m → g k ≡ f (n + k)) → s₂ ≡ fill s a l f
+fill-next s s₁ s₂ a b n m l f g e₁ e₂ p t h = e₂ ∙ rw (e₁, p, ← t) (fill-join s a n m f g h)
+
 pub fill-same : (s : List ℕ) (i n : ℕ) (f g : ℕ → ℕ) → ((k : ℕ) → k < n → f k ≡ g k) → fill s i n f ≡ fill s i n g
 unfolding fill
 fill-same s i zero f g e = refl
@@ -127,14 +132,6 @@ fill-count s t a n m f e h = e ∙ ap (λ (k : ℕ). fill s a k f) h
 -- the first numbers of a list that is filled in front
 pub take-filled : (l z : List ℕ) (n : ℕ) (f : ℕ → ℕ) → l ≡ fill z 0 n f → n ≤ length z → take n l ≡ listTo n f
 take-filled l z n f e h = rw (e, front-is z n f h) (take-at (listTo n f) _ n (length-listFrom 0 n f))
-
--- a list filled with zeros
-pub cleared-at : (s : List ℕ) (j : ℕ) → getD (fill s 0 (length s) (λ (i : ℕ). 0)) j 0 ≡ 0
-cleared-at s j = go (decLt j (length s))
-  where
-    go : Dec (j < length s) → getD (fill s 0 (length s) (λ (i : ℕ). 0)) j 0 ≡ 0
-    go (yes h) = front-at s (length s) (λ (i : ℕ). 0) j (omega arith) h
-    go (no h) = List·getD-eq-default (fill s 0 (length s) (λ (i : ℕ). 0)) 0 (omega (arith, length-fill s 0 (length s) (λ (i : ℕ). 0)))
 
 -- a run behind the first place
 pub fill-tail : (x : ℕ) (s : List ℕ) (i n : ℕ) (f : ℕ → ℕ) → fill (x ∷ s) (suc i) n f ≡ x ∷ fill s i n f

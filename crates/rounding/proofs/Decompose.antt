@@ -1,12 +1,10 @@
 -- Plain high and low part are those of FIPS 204's Decompose, for every lawful scale.
-use mathlib.Core.Path.{_≡_, refl, sym, _∙_, ap, ap₂}
-use mathlib.Core.Bool.{cond}
+use mathlib.Core.Path.{_≡_, refl, sym, _∙_, ap}
 use Prim.Native.Nat.{ℕ, zero, suc, _+_, _-_, _*_, _/_, _%_, _≤_, _<_}
 use native.Mathlib.Nat.{mod-lt, mod-eq-of-lt, mod-eq-sub-mod, div-add-mod', suc-mul, one-mul, zero-mul, mul-le-mul-right, div-eq-of-lt, mul-div-cancel}
 use native.Mathlib.Decide.{decLe}
 use native.Mathlib.Omega.{arith}
 use lib.Arith.{digits-div, digits-mod}
-use lib.Dec.{eqb}
 use lib.IntN.{ℤ, pos, negsuc, subℕ, _+ℤ_, _-ℤ_, _*ℤ_}
 use borrow.Author.Tests.{le-leb, lt-leb, eq-eqb, ne-eqb}
 use Rattle.settings.specs.Sets.{Scale}
@@ -14,11 +12,6 @@ use Rattle.rounding.specs.Plain.{shifted, highOfShifted, highPart, lowPa
 use Rattle.settings.specs.Theorems.{Lawful}
 use Rattle.rounding.specs.Theorems.{residue}
 use Rattle.rounding.proofs.Differences.{sub-pos, sub-neg, take, give, less-one}
-
--- the low part worked out from w′, as the code does
-unfoldable pub lowByShift : Scale → ℕ → ℤ
-lowByShift p w =
-    cond (eqb (shifted p w) (p .modulus - 1)) (subℕ 0 (p .alpha / 2)) (subℕ (shifted p w % p .alpha) (p .alpha / 2 - 1))
 
 -- w mod± α is ((w + α/2 − 1) mod α) − (α/2 − 1)
 pub centre : (α w : ℕ) → α ≡ 2 * (α / 2) → 1 ≤ α → centredBy α w ≡ subℕ ((w + (α / 2 - 1)) % α) (α / 2 - 1)
@@ -40,23 +33,15 @@ centre α w even some = go (decLe (w % α) (α / 2)) (mod-lt w (omega arith))
 abbrev parts : ℤ → ℤ → Decomposed
 parts h l = record { high = h; low = l }
 
--- the two cases of each definition
+-- the two cases of the high part
 module _ (p : Scale) (w t : ℕ) (e : shifted p w ≡ t) where
   high-top : t ≡ p .modulus - 1 → highPart p w ≡ 0
   unfolding highOfShifted
   high-top h = rw (e, eq-eqb t (p .modulus - 1) h)
 
-  low-top : t ≡ p .modulus - 1 → lowByShift p w ≡ subℕ 0 (p .alpha / 2)
-  unfolding lowByShift
-  low-top h = rw (e, eq-eqb t (p .modulus - 1) h)
-
   high-in : (t ≡ p .modulus - 1 → ⊥) → highPart p w ≡ t / p .alpha
   unfolding highOfShifted
   high-in h = rw (e, ne-eqb t (p .modulus - 1) h)
-
-  low-in : (t ≡ p .modulus - 1 → ⊥) → lowByShift p w ≡ subℕ (t % p .alpha) (p .alpha / 2 - 1)
-  unfolding lowByShift
-  low-in h = rw (e, ne-eqb t (p .modulus - 1) h)
 
 by-top : (p : Scale) (d : ℕ) (r0 : ℤ) → d ≡ p .modulus - 1 → decomposeBy p (pos d) r0 ≡ parts (pos 0) (r0 -ℤ pos 1)
 by-top p d r0 h = rw (eq-eqb d (p .modulus - 1) h)
@@ -83,19 +68,19 @@ module _ (p : Scale) (k : Lawful p) (w : ℕ) (hw : w < p .modulus) where
       ∙ ap (λ (d : ℤ). decomposeBy p d (subℕ (a % α) (α / 2 - 1)))
       (take w (a / α * α) (a % α) (α / 2 - 1) (omega (arith, div-add-mod' a α)))
 
-  -- a < q − 1: both are a / α and r0
+  -- a < q − 1: the parts are a / α and r0
   inner-fips : (a : ℕ) → a ≡ w + (α / 2 - 1) → suc a < m → decompose p w ≡ parts (pos (a / α)) (subℕ (a % α) (α / 2 - 1))
   inner-fips a e h =
       from a e
       ∙ by-in p (a / α * α) (subℕ (a % α) (α / 2 - 1)) (λ z. omega (arith, div-add-mod' a α))
       ∙ ap (λ (n : ℕ). parts (pos n) (subℕ (a % α) (α / 2 - 1))) (mul-div-cancel (a / α) (omega (arith, k)))
 
-  inner-plain : (a : ℕ) → a ≡ w + (α / 2 - 1) → suc a < m → parts (pos (highPart p w)) (lowByShift p w) ≡ parts (pos (a / α)) (subℕ (a % α) (α / 2 - 1))
-  inner-plain a e h =
+  pub high-inner : (a : ℕ) → a ≡ w + (α / 2 - 1) → suc a < m → highPart p w ≡ a / α
+  high-inner a e h =
       let t : shifted p w ≡ a = ap (λ (n : ℕ). n % m) (sym e) ∙ mod-eq-of-lt (omega arith) in
-      ap₂ parts (ap pos (high-in p w a t (λ z. omega arith))) (low-in p w a t (λ z. omega arith))
+      high-in p w a t (λ z. omega arith)
 
-  -- a = q − 1 + b: both are 0 and −(α/2 − b)
+  -- a = q − 1 + b: the parts are 0 and −(α/2 − b), which is w − q
   outer-fips : (a b : ℕ) → a ≡ w + (α / 2 - 1) → suc a ≡ m + b → decompose p w ≡ parts (pos 0) (negsuc (α / 2 - 1 - b))
   outer-fips a b e h =
       let quo : a / α ≡ s = ap (λ (n : ℕ). n / α) (omega (arith, k)) ∙ digits-div s {r = b} (omega (arith, k)) in
@@ -106,41 +91,42 @@ module _ (p : Scale) (k : Lawful p) (w : ℕ) (hw : w < p .modulus) where
       ∙ ap (parts (pos 0))
       (ap (λ (n : ℕ). subℕ n (α / 2 - 1) -ℤ pos 1) rem ∙ less-one b (α / 2 - 1) (α / 2 - 1 - b) (omega arith))
 
-  outer-plain : (a b : ℕ) → a ≡ w + (α / 2 - 1) → suc a ≡ m + b → parts (pos (highPart p w)) (lowByShift p w) ≡ parts (pos 0) (negsuc (α / 2 - 1 - b))
-  outer-plain a zero e h =
+  outer-high : (a b : ℕ) → a ≡ w + (α / 2 - 1) → suc a ≡ m + b → highPart p w ≡ 0
+  outer-high a zero e h =
       let t : shifted p w ≡ a = ap (λ (n : ℕ). n % m) (sym e) ∙ mod-eq-of-lt (omega arith) in
-      ap₂ parts
-      (ap pos (high-top p w a t (omega arith)))
-      (low-top p w a t (omega arith) ∙ sub-neg 0 (α / 2) (α / 2 - 1 - 0) (omega (arith, k)))
-  outer-plain a (suc b) e h =
+      high-top p w a t (omega arith)
+  outer-high a (suc b) e h =
       let step : 1 * α ≤ s * α = mul-le-mul-right α (k .some-parts) in
       let t : shifted p w ≡ b =
       ap (λ (n : ℕ). n % m) (sym e) ∙ mod-eq-sub-mod (omega arith)
       ∙ ap (λ (n : ℕ). n % m) (omega arith) ∙ mod-eq-of-lt (omega (arith, one-mul α, k)) in
       let small : b < α = omega (arith, k) in
-      ap₂ parts
-      (ap pos (high-in p w b t (λ z. omega (arith, one-mul α, k)) ∙ div-eq-of-lt small))
-      (low-in p w b t (λ z. omega (arith, one-mul α, k))
-      ∙ ap (λ (n : ℕ). subℕ n (α / 2 - 1)) (mod-eq-of-lt small)
-      ∙ sub-neg b (α / 2 - 1) (α / 2 - 1 - suc b) (omega arith))
+      high-in p w b t (λ z. omega (arith, one-mul α, k)) ∙ div-eq-of-lt small
 
-  -- Decompose gives the plain high part and the low part worked out from w′
-  pub same : decompose p w ≡ parts (pos (highPart p w)) (lowByShift p w)
-  same = go (decLe m (suc (w + (α / 2 - 1))))
-    where
-      go : Dec (m ≤ suc (w + (α / 2 - 1))) → decompose p w ≡ parts (pos (highPart p w)) (lowByShift p w)
-      go (yes h) =
-          outer-fips (w + (α / 2 - 1)) (suc (w + (α / 2 - 1)) - m) refl (omega arith)
-          ∙ sym (outer-plain (w + (α / 2 - 1)) (suc (w + (α / 2 - 1)) - m) refl (omega arith))
-      go (no h) =
-          inner-fips (w + (α / 2 - 1)) refl (omega arith) ∙ sym (inner-plain (w + (α / 2 - 1)) refl (omega arith))
+  pub high-outer : (a : ℕ) → a ≡ w + (α / 2 - 1) → m ≤ suc a → highPart p w ≡ 0
+  high-outer a e h = outer-high a (suc a - m) e (omega arith)
 
-  pub high-is : pos (highPart p w) ≡ decompose p w .high
-  high-is = ap (λ (d : Decomposed). d .high) (sym same)
-
-  pub low-is : lowPart p w ≡ lowByShift p w
+  pub low-inner : (a : ℕ) → a ≡ w + (α / 2 - 1) → suc a < m → lowPart p w ≡ subℕ (a % α) (α / 2 - 1)
   unfolding lowPart
-  low-is = ap (λ (d : Decomposed). d .low) same
+  low-inner a e h = ap (λ (d : Decomposed). d .low) (inner-fips a e h)
+
+  pub low-outer : (a : ℕ) → a ≡ w + (α / 2 - 1) → m ≤ suc a → lowPart p w ≡ subℕ w m
+  unfolding lowPart
+  low-outer a e h =
+      let b : ℕ = suc a - m in
+      ap (λ (d : Decomposed). d .low) (outer-fips a b e (omega arith)) ∙ sym (sub-neg w m (α / 2 - 1 - b) (omega (arith, k)))
+
+  -- Decompose gives the plain high part
+  pub high-is : pos (highPart p w) ≡ decompose p w .high
+  high-is = go (decLe m (suc (w + (α / 2 - 1))))
+    where
+      go : Dec (m ≤ suc (w + (α / 2 - 1))) → pos (highPart p w) ≡ decompose p w .high
+      go (yes h) =
+          ap pos (high-outer (w + (α / 2 - 1)) refl h)
+          ∙ sym (ap (λ (d : Decomposed). d .high) (outer-fips (w + (α / 2 - 1)) (suc (w + (α / 2 - 1)) - m) refl (omega arith)))
+      go (no h) =
+          ap pos (high-inner (w + (α / 2 - 1)) refl (omega arith))
+          ∙ sym (ap (λ (d : Decomposed). d .high) (inner-fips (w + (α / 2 - 1)) refl (omega arith)))
 
   -- high × α + low is w modulo q
   pub join-is : residue m (pos (highPart p w) *ℤ pos α +ℤ lowPart p w) ≡ w

@@ -89,25 +89,18 @@ fn part_no(set: u32, w: u32) -> u32
     0
 }
 
-// w′ for a step.
-fn shift(alpha: u32, w: u32) -> u32
-    requires { ⌜ (2 ≤ alpha) × (alpha ≤ 523776) × (w < q) ⌝ }
-    ensures { λ r. ⌜ r ≡ (w + (alpha / 2 - 1)) % q ⌝ }
-{
-    (w + (alpha / 2 - 1)) % Q
-}
-
-// The high part of a number below q, by the table's step for the set.
+// The high part of a number below q, by the table's step for the set. A sum below q − 1 is w′; for any other w′ is q − 1, or it is
+// below the step.
 fn high_by(set: usize, w: u32) -> u32
     requires { ⌜ (set < 2) × (w < q) ⌝ }
     ensures { λ r. ⌜ r ≡ highPart (scaleOf set) w ⌝ }
 {
     let alpha = alpha_of(set);
-    let shifted = shift(alpha, w);
-    if shifted == Q - 1 {
+    let sum = w + (alpha / 2 - 1);
+    if sum >= Q - 1 {
         return 0;
     }
-    shifted / alpha
+    sum / alpha
 }
 
 // The high part of a number below q; each branch has a constant step.
@@ -129,18 +122,18 @@ fn difference(a: u32, b: u32) -> i32
     (a as i32) - (b as i32)
 }
 
-// The low part of a number below q, by the table's step for the set.
+// The low part of a number below q, by the table's step for the set. Where the high part is 0 again it is w − q.
 fn low_by(set: usize, w: u32) -> i32
     requires { ⌜ (set < 2) × (w < q) ⌝ }
     ensures { λ r. ⌜ r ≡ lowPart (scaleOf set) w ⌝ }
 {
     let alpha = alpha_of(set);
     let half = alpha / 2;
-    let shifted = shift(alpha, w);
-    if shifted == Q - 1 {
-        return difference(0, half);
+    let sum = w + (half - 1);
+    if sum >= Q - 1 {
+        return difference(w, Q);
     }
-    difference(shifted % alpha, half - 1)
+    difference(sum % alpha, half - 1)
 }
 
 // The low part of a number below q; each branch has a constant step.

@@ -1,5 +1,4 @@
 -- Laws of the slice at the begin, of its columns and kept numbers, and of the sums.
 pub mod Begun
-pub mod Loading
 pub mod Kept
 pub mod Ranges

@@ -15,8 +15,7 @@ ghost use Rattle.rounding.specs.Rounds.{top};
 ghost use Rattle.settings.specs.Questions.{ShapeReady};
 ghost use Rattle.settings.specs.Settings.{paramsOf};
 ghost use Rattle.settings.specs.Sizes.{keyCount, width, mostOpenings, shared, places, workLength};
-ghost use Rattle.slice.specs.Layout.{ownAt, column, ownIn, maskedIn, begunWork, weights};
-ghost use Rattle.slice.specs.Loading.{loaded};
+ghost use Rattle.slice.specs.Layout.{ownAt, column, ownIn, maskedIn, begunPlace, begunWork, weights};
 ghost use Rattle.slice.specs.Weights.{weigh};
 ghost use Rattle.slice.specs.declared.Rule.the-variants.{Zero};
 use field::Q;
@@ -64,14 +63,32 @@ pub struct Weighted {
 
 // ---- Begin
 
-// Sets the whole slice to 0.
-fn clear(work: &mut [u32])
-    ensures { λ _. ⌜ now (work .exit) ≡ fill (now (work .entry)) 0 (length (now (work .entry))) (λ (i : ℕ). 0) ⌝ }
+// How many numbers one block of zeros has. The compiler makes the loop over a block a call of memset. Up to these 2,048 bytes memset
+// stores many bytes at a time; for more it uses one instruction that is counted once for each byte, and takes as long.
+const BLOCK: usize = 512;
+
+// Sets a run of places to 0.
+fn clear_block(work: &mut [u32], at: usize, count: usize)
+    requires { ⌜ at + count ≤ length (now work) ⌝ }
+    ensures { λ _. ⌜ now (work .exit) ≡ fill (now (work .entry)) at count (λ (i : ℕ). 0) ⌝ }
 {
     let mut i = 0;
-    while i < work.len() {
-        work[i] = 0;
+    while i < count {
+        work[at + i] = 0;
         i += 1;
+    }
+}
+
+// The same in blocks.
+fn clear(work: &mut [u32], at: usize, count: usize)
+    requires { ⌜ at + count ≤ length (now work) ⌝ }
+    ensures { λ _. ⌜ now (work .exit) ≡ fill (now (work .entry)) at count (λ (i : ℕ). 0) ⌝ }
+{
+    let mut done = 0;
+    while done < count {
+        let more = least(BLOCK, count - done);
+        clear_block(work, at + done, more);
+        done += more;
     }
 }
 
@@ -87,17 +104,23 @@ fn load(work: &mut [u32], at: usize, from: &[u32], column: usize, count: usize)
     }
 }
 
-// Book and inputs into the columns of a cleared slice.
-fn load_columns(work: &mut [u32], book: &[u32], count: usize, inputs: &[u32], n: usize)
-    requires { ⌜ (length (now work) ≡ workLength keyCount) × (count ≤ 1320) × (n ≤ 8) × (count * width ≤ length (now book)) × (n * width ≤ length (now inputs)) ⌝ }
-    ensures { λ _. ⌜ now (work .exit) ≡ loaded count n width (now (inputs .entry)) (now (book .entry)) (now (work .entry)) width ⌝ }
+// A column: the book's numbers, zeros, the inputs, zeros. Each place is written once.
+fn begin_column(
+    work: &mut [u32],
+    column: usize,
+    book: &[u32],
+    count: usize,
+    inputs: &[u32],
+    n: usize,
+)
+    requires { ⌜ (column < width) × (length (now work) ≡ workLength keyCount) × (count ≤ 1320) × (n ≤ 8) × (count * width ≤ length (now book)) × (n * width ≤ length (now inputs)) ⌝ }
+    ensures { λ _. ⌜ now (work .exit) ≡ fill (now (work .entry)) (column * places) places (begunPlace count n width (now (inputs .entry)) (now (book .entry)) column) ⌝ }
 {
-    let mut c = 0;
-    while c < WIDTH {
-        load(work, c * PLACES, book, c, count);
-        load(work, c * PLACES + INPUT, inputs, c, n);
-        c += 1;
-    }
+    let at = column * PLACES;
+    load(work, at, book, column, count);
+    clear(work, at + count, INPUT - count);
+    load(work, at + INPUT, inputs, column, n);
+    clear(work, at + INPUT + n, PLACES - INPUT - n);
 }
 
 // Sets the whole slice for a run: book and inputs column by column, 0 elsewhere.
@@ -107,8 +130,12 @@ pub fn begin_work(work: &mut [u32], shape: Shape, inputs: &[u32], book: &[u32])
     ensures { λ _. ⌜ now (work .exit) ≡ begunWork (paramsOf shape) width (now (inputs .entry)) (now (book .entry)) ⌝ }
 {
     let count = shared_of(shape);
-    clear(work);
-    load_columns(work, book, count, inputs, shape.n as usize);
+    let n = shape.n as usize;
+    let mut c = 0;
+    while c < WIDTH {
+        begin_column(work, c, book, count, inputs, n);
+        c += 1;
+    }
 }
 
 // ---- Columns and kept numbers

@@ -1,43 +1,40 @@
 -- `slice::begin_work` meets its contract.
 use borrow.Author.Needs.{needs}
-use mathlib.Core.Path.{_≡_, ap, ap₂, _∙_}
-use mathlib.Core.List.{List}
-use Prim.Native.Nat.{ℕ}
+use mathlib.Core.Path.{_≡_, refl, sym, ap, _∙_}
+use Prim.Native.Nat.{_≤_, _-_, _*_}
 use native.Mathlib.Omega.{arith}
 use lib.ListN.{length}
-use Rattle.lists.proofs.Fill.{length-fill, cleared-at}
+use Rattle.lists.specs.Lists.{fill}
+use Rattle.lists.proofs.Fill.{fill-none, length-fill}
 use Rattle.settings.specs.Settings.{paramsOf}
-use Rattle.settings.specs.Sizes.{keyCount, width, workLength}
-use Rattle.slice.specs.Loading.{loaded}
-use Rattle.slice.proofs.Loading.{loaded-begun}
+use Rattle.settings.specs.Sizes.{width, places}
+use Rattle.slice.proofs.Begun.{begunAt, columns-more, columns-all}
 use Rattle.slice.proofs.begin_work.Statement.{statement}
 use Rattle.slice.proofs.begin_work.Tie as tie
 
-load-columns-requires : tie.Need-load-columns-requires
-load-columns-requires c κs =
-    let clear = c .before .before .before .before .clear in
-    let p = c .before .before .before .before .before .before .before .before .before .before .pre in
-    let shared-of = c .before .before .before .before .before .before .shared-of in
-    let long : length (clear .last .0) ≡ workLength keyCount = ap length (clear .ensures) ∙ length-fill _ _ _ _ ∙ p .1 .2 in
-    (long, shared-of .ensures .1, p .0 .most, omega (arith, shared-of .ensures .0), omega arith)
+abbrev Inv-loop : tie.InvT-loop
+Inv-loop work₀ inputs book count n c₀ work c = (c ≤ width) × (work ≡ fill work₀ 0 (c * places) (begunAt count n width inputs book)) × (length work ≡ length work₀)
 
-returns : tie.Need-returns
+abbrev μ-loop : tie.MeasureT-loop
+μ-loop work₀ inputs book count n c₀ work c = width - c
+
+loop-again : tie.Need-loop-again Inv-loop μ-loop
+loop-again c =
+    let column = c .before .before .begin-column .ensures in (
+      omega arith,
+      columns-more _ _ _ _ _ _ _ _ _ (c .before .before .before .before .before .loop .inv .1) column,
+      ap length column ∙ length-fill _ _ _ _ ∙ c .before .before .before .before .before .loop .inv .2,
+    )
+
+returns : tie.Need-returns Inv-loop μ-loop
 returns c =
-    let p = c .before .before .before .before .before .before .before .before .before .before .before .before .before .pre in
-    let a = c .before .before .before .before .before .before .before .before .before .before .before .before .before .args in
-    let few = c .before .before .before .before .before .before .before .before .before .shared-of .ensures in
-    c .before .before .load-columns .ensures
-    ∙ ap₂ (λ (m : ℕ) (s : List ℕ). loaded m (a .shape .n) width (a .inputs .now) (a .book .now) s width) (few .0) (c .before .before .before .before .before .before .before .clear .ensures)
-    ∙ loaded-begun (paramsOf (a .shape)) width (a .inputs .now) (a .book .now) _ (omega arith) (p .0 .most)
-    (length-fill _ _ _ _ ∙ p .1 .2) (cleared-at (a .work .now))
+    let a = c .before .before .before .before .before .before .before .args in
+    let e : c .before .loop .c ≡ width = omega arith in
+    let all = rw (e, c .before .before .before .shared-of .ensures .0) at (c .before .loop .inv .1) in
+    all ∙ columns-all (paramsOf (a .shape)) width (a .inputs .now) (a .book .now) (a .work .now) (c .before .before .before .before .before .before .before .pre .1 .2)
 
 pub begin-work-spec : {M : Type 1} → statement M
 begin-work-spec =
     tie.close
-    (tie.spec
-    (λ c κs. search needs)
-    (λ c κs. search needs)
-    (λ c. search needs)
-    load-columns-requires
-    (λ c. search needs)
-    returns)
+    (tie.spec Inv-loop μ-loop (λ c κs. search needs) (λ c. search needs) (λ c. (omega arith, sym (fill-none _ _ _), refl)) (λ c κs. search needs) (λ c. omega arith) (λ c. omega arith)
+    loop-again (λ c. search needs) returns)
