@@ -40,12 +40,8 @@ settled {s} {round} {masked} {known} made =
     subst (λ (t : Settings). ContextOf t (known .round) masked known) (sym (made .settings-kept))
     (subst (λ (r : ℕ). ContextOf s r masked known) (sym (made .round-kept)) made)
 
--- of the masked numbers that the slice holds, copied
-module _ (settings : Settings) (round : ℕ) (work ys : List ℕ) (known : Context) (below : allBelow q work ≡ true) (same : (j : ℕ) → getD ys j 0 ≡ maskedIn work j)
-    (made : ContextOf settings round (λ (j : ℕ). getD ys j 0) known) where
-  pub held-context : ContextOf settings round (maskedIn work) known
-  held-context = subst (λ (m : ℕ → ℕ). ContextOf settings round m known) (fun-ext same) made
-
+-- of the masked numbers that the slice holds: its digits are below their bases
+module _ (work : List ℕ) (below : allBelow q work ≡ true) where
   masked-below : (j : ℕ) → maskedIn work j < q
   unfolding maskedIn
   masked-below j = go (ltb j 8)
@@ -54,8 +50,8 @@ module _ (settings : Settings) (round : ℕ) (work ys : List ℕ) (known : Conte
       go true = below-at q work (maskedAt j) (lit< tt) below
       go false = lit< tt
 
-  pub held-below : settings .shape .set < 2 → SplitsBelow known
-  held-below h = splits-below settings round (maskedIn work) known h masked-below held-context
+  pub held-below : (settings : Settings) (round : ℕ) (known : Context) → settings .shape .set < 2 → ContextOf settings round (maskedIn work) known → SplitsBelow known
+  held-below settings round known h made = splits-below settings round (maskedIn work) known h masked-below made
 
 -- ---- Round 6
 

@@ -13,7 +13,6 @@ ghost use Rattle.settings.specs.Settings.{paramsOf, termsOf};
 ghost use Rattle.settings.specs.Sizes.{openings, mostOpenings, places, width};
 ghost use Rattle.settings.specs.Questions.{Ready};
 ghost use Rattle.slice.specs.Layout.{ownAt, runningAt, column, maskedIn};
-ghost use Rattle.steps.specs.Steps.{publicOf};
 ghost use Rattle.steps.specs.Work.{openingOn, runningOn, takenColumns, takenWork};
 ghost use Rattle.steps.specs.Context.{publicBy, ContextOf, SplitsBelow};
 ghost use Rattle.steps.specs.Gates.{GateFits, TermsFit, sumForm, openU, openV, resultForm};
@@ -29,7 +28,6 @@ use slice::MASKED;
 use slice::OWN;
 use slice::SECOND;
 use slice::Weighted;
-use slice::masked_in;
 use slice::register;
 use steps::Column;
 use steps::Context;
@@ -203,44 +201,39 @@ fn prepare_gates(out: &mut [u32], work: &[u32], columns: ColumnChoice, known: Co
     }
 }
 
-// A side's numbers for the openings of a round, in a choice of columns: 32 places of `out` for each. Crate opening asks for round 1 to 7.
+// A side's numbers for the openings of a round, in a choice of columns: 32 places of `out` for each. Crate opening asks for round 1 to 7,
+// with the context of the masked numbers that the slice holds.
 pub fn prepare(
     out: &mut [u32],
     work: &[u32],
     weights: &[u32],
     columns: ColumnChoice,
-    settings: Settings,
-    round: u32,
+    known: Context,
 )
-    requires { ⌜ Ready settings ⌝ }
+    requires { ⌜ Ready (known .settings) ⌝ }
     requires { ⌜ Room columns (now weights) (now work) (now out) ⌝ }
-    requires { ⌜ (1 ≤ round) × (1 ≤ length (now weights)) × (allBelow q (now work) ≡ true) ⌝ }
-    ensures { λ _. ⌜ Holds (publicOf (termsOf settings) (maskedIn (now (work .entry)))) round (now (weights .entry)) (now (work .entry)) columns
-        (openings (paramsOf (settings .shape)) round) (now (out .exit)) ⌝ }
+    requires { ⌜ (1 ≤ known .round) × (1 ≤ length (now weights)) × (allBelow q (now work) ≡ true) ⌝ }
+    requires { ⌜ ContextOf (known .settings) (known .round) (maskedIn (now work)) known ⌝ }
+    ensures { λ _. ⌜ Holds (publicBy (known .settings) (maskedIn (now (work .entry)))) (known .round) (now (weights .entry)) (now (work .entry)) columns
+        (openings (paramsOf (known .settings .shape)) (known .round)) (now (out .exit)) ⌝ }
 {
-    let kind = settings.shape.kind;
+    let settings = known.settings;
+    let round = known.round;
     if round == 1 {
         prepare_plain(out, work, weights, columns, settings, round);
         return;
     }
     if round <= 5 {
-        let masked = masked_in(work);
-        prepare_gates(out, work, columns, context_of(settings, round, &masked));
+        prepare_gates(out, work, columns, known);
         return;
     }
+    let kind = settings.shape.kind;
     if kind == 0 {
         prepare_plain(out, work, weights, columns, settings, round);
         return;
     }
     if round == 6 {
-        let masked = masked_in(work);
-        prepare_insides(
-            out,
-            work,
-            weights,
-            columns,
-            context_of(settings, round, &masked),
-        );
+        prepare_insides(out, work, weights, columns, known);
         return;
     }
     prepare_plain(out, work, weights, columns, settings, round);
@@ -470,24 +463,27 @@ fn put_columns(
     }
 }
 
-// The registers after a round, for all columns.
+// The registers after a round, for all columns. Round 1 looks at the digits of the numbers just opened, the other rounds at those of the
+// context.
 fn registers_into(
     next: &mut [u32],
     work: &[u32],
     weights: &[u32],
-    settings: Settings,
-    round: u32,
+    known: Context,
     own: &[u32],
     opened: &[u32],
 )
-    requires { ⌜ Ready settings ⌝ }
-    requires { ⌜ (1 ≤ round) × (1 ≤ length (now weights)) × (length (now work) ≡ length (now weights) * places) × (allBelow q (now work) ≡ true) ⌝ }
+    requires { ⌜ Ready (known .settings) ⌝ }
+    requires { ⌜ (1 ≤ known .round) × (length (now work) ≡ length (now weights) * places) × (allBelow q (now work) ≡ true) ⌝ }
     requires { ⌜ (mostOpenings * length (now weights) ≤ length (now own)) × (16 * length (now weights) ≤ length (now next)) ⌝ }
-    requires { ⌜ (openings (paramsOf (settings .shape)) round ≤ length (now opened)) × ((o : ℕ) → getD (now opened) o 0 < q) ⌝ }
-    requires { ⌜ HeldAll (publicOf (termsOf settings) (maskedIn (now work))) round (now weights) (now work) (now own) ⌝ }
-    ensures { λ _. ⌜ RegistersHeld (publicOf (termsOf settings) (maskedAfter round (λ (o : ℕ). getD (now (opened .entry)) o 0) (now (work .entry)))) round (λ (o : ℕ). getD (now (opened .entry)) o 0)
-        (now (weights .entry)) (now (work .entry)) (2 * settings .shape .n) (now (next .exit)) ⌝ }
+    requires { ⌜ (openings (paramsOf (known .settings .shape)) (known .round) ≤ length (now opened)) × ((o : ℕ) → getD (now opened) o 0 < q) ⌝ }
+    requires { ⌜ ContextOf (known .settings) (known .round) (maskedIn (now work)) known ⌝ }
+    requires { ⌜ HeldAll (publicBy (known .settings) (maskedIn (now work))) (known .round) (now weights) (now work) (now own) ⌝ }
+    ensures { λ _. ⌜ RegistersHeld (publicBy (known .settings) (maskedAfter (known .round) (λ (o : ℕ). getD (now (opened .entry)) o 0) (now (work .entry)))) (known .round)
+        (λ (o : ℕ). getD (now (opened .entry)) o 0) (now (weights .entry)) (now (work .entry)) (2 * known .settings .shape .n) (now (next .exit)) ⌝ }
 {
+    let settings = known.settings;
+    let round = known.round;
     if round == 1 {
         first_registers(
             next,
@@ -498,33 +494,27 @@ fn registers_into(
         return;
     }
     if round <= 5 {
-        let masked = masked_in(work);
-        let known = context_of(settings, round, &masked);
         gate_registers(next, work, weights, known, own, opened);
         return;
     }
     late_registers(next, work, weights.len(), settings, round, opened);
 }
 
-// The working slice after a round: `opened` are the joined numbers, `own` holds this side's own for each column. The round
-// 1 to 7, the lengths and the opened numbers are as `take` of crate side has asked, and it has prepared `own`. All registers are worked out
-// before any is written: each reads the slice as it was.
-pub fn take_work(
-    work: &mut [u32],
-    settings: Settings,
-    round: u32,
-    opened: &[u32],
-    own: &[u32],
-    weights: &[u32],
-)
-    requires { ⌜ Ready settings ⌝ }
-    requires { ⌜ (1 ≤ round) × (1 ≤ length (now weights)) × (length (now weights) ≤ width) × (length (now work) ≡ length (now weights) * places) × (allBelow q (now work) ≡ true) ⌝ }
-    requires { ⌜ (mostOpenings * length (now weights) ≤ length (now own)) × (openings (paramsOf (settings .shape)) round ≤ length (now opened)) × ((o : ℕ) → getD (now opened) o 0 < q) ⌝ }
-    requires { ⌜ HeldAll (publicOf (termsOf settings) (maskedIn (now work))) round (now weights) (now work) (now own) ⌝ }
-    ensures { λ _. ⌜ now (work .exit) ≡ takenWork (termsOf settings) round (λ (o : ℕ). getD (now (opened .entry)) o 0) (now (weights .entry)) (now (work .entry)) ⌝ }
+// The working slice after a round: `opened` are the joined numbers, `own` holds this side's own for each column, and the context is that of
+// the masked numbers which the slice holds. The round 1 to 7, the lengths and the opened numbers are as `take` of crate side has asked, and
+// it has prepared `own`. All registers are worked out before any is written: each reads the slice as it was.
+pub fn take_work(work: &mut [u32], known: Context, opened: &[u32], own: &[u32], weights: &[u32])
+    requires { ⌜ Ready (known .settings) ⌝ }
+    requires { ⌜ (1 ≤ known .round) × (1 ≤ length (now weights)) × (length (now weights) ≤ width) × (length (now work) ≡ length (now weights) * places) × (allBelow q (now work) ≡ true) ⌝ }
+    requires { ⌜ (mostOpenings * length (now weights) ≤ length (now own)) × (openings (paramsOf (known .settings .shape)) (known .round) ≤ length (now opened)) × ((o : ℕ) → getD (now opened) o 0 < q) ⌝ }
+    requires { ⌜ ContextOf (known .settings) (known .round) (maskedIn (now work)) known ⌝ }
+    requires { ⌜ HeldAll (publicBy (known .settings) (maskedIn (now work))) (known .round) (now weights) (now work) (now own) ⌝ }
+    ensures { λ _. ⌜ now (work .exit) ≡ takenWork (termsOf (known .settings)) (known .round) (λ (o : ℕ). getD (now (opened .entry)) o 0) (now (weights .entry)) (now (work .entry)) ⌝ }
 {
+    let settings = known.settings;
+    let round = known.round;
     let mut next = [0u32; 16 * WIDTH];
-    registers_into(&mut next, work, weights, settings, round, own, opened);
+    registers_into(&mut next, work, weights, known, own, opened);
     put_columns(work, weights, settings, round, own, &next);
     if round == 1 {
         copy_numbers(work, MASKED, opened, 0, settings.shape.n as usize);

@@ -17,7 +17,8 @@ use Rattle.field.specs.Field.{q}
 use Rattle.settings.specs.Sizes.{bytesFor, messageBits}
 use Rattle.message.specs.Bits.{padding, numberOf}
 use Rattle.message.specs.Message.{headerIn, fieldIn, fieldsOk, askParts}
-use Rattle.message.specs.Fields.{firstBits, bitsAt, fieldAt}
+use Rattle.message.specs.Fields.{firstBits, bitsAt, fieldAt, endsAt}
+use Rattle.message.specs.declared.Ends.{Ends}
 use Rattle.message.proofs.Numbers.{Bytes, first-all, first-lt, first-less}
 
 -- two fields side by side are one
@@ -26,7 +27,7 @@ unfolding bitsAt
 halves s h = rw (first-less s 32 32 h) (sym (mod-pow-add (firstBits s 64) 32 32))
 
 module _ (fields : ℕ) (message : List ℕ) (exact : length message ≡ bytesFor (messageBits fields)) where
-  pub field-at : (f : ℕ) → f < fields → bitsAt message (64 + 23 * f) 23 ≡ fieldIn fields message f
+  field-at : (f : ℕ) → f < fields → bitsAt message (64 + 23 * f) 23 ≡ fieldIn fields message f
   unfolding bitsAt firstBits fieldIn
   field-at f h =
       let e : 8 * length message - (64 + 23 * f + 23) ≡ padding (messageBits fields) + 23 * (fields - 1 - f) = omega arith in
@@ -74,16 +75,17 @@ ask-both false y z = refl
 ask-both true false z = refl
 ask-both true true z = refl
 
--- the questions in the order in which they are asked of the numbers read
-pub parts-is : (due : ℕ) (message ys zs : List ℕ) (h width pad : ℕ) → Bytes message → length message ≡ bytesFor (messageBits (length ys))
-    → zs ≡ fill ys 0 (length ys) (fieldAt message) → h ≡ bitsAt message 0 32 * 2 ^ 32 + bitsAt message 32 32
-    → width ≡ 8 * length message - messageBits (length ys) → pad ≡ bitsAt message (messageBits (length ys)) width
-    → (r : ℕ) → r ≡ ask (eqb h due) 11 (ask (allBelow q zs) 12 (ask (eqb pad 0) 12 0)) → r ≡ askParts due (length ys) message 0
+-- the questions in the order in which they are asked of the numbers read, and the fields among these
+pub parts-is : (due : ℕ) (message ys zs : List ℕ) (ends : Ends) (h width : ℕ) → Bytes message → length message ≡ bytesFor (messageBits (length ys))
+    → width ≡ 8 * length message - messageBits (length ys) → ends ≡ endsAt (length ys) message width → zs ≡ fill ys 0 (length ys) (fieldAt message)
+    → h ≡ ends .high * 2 ^ 32 + ends .low → (r : ℕ) → r ≡ ask (eqb h due) 11 (ask (allBelow q zs) 12 (ask (eqb (ends .padding) 0) 12 0))
+    → (r ≡ askParts due (length ys) message 0) × (zs ≡ fill ys 0 (length ys) (fieldIn (length ys) message))
 unfolding fieldsOk
-parts-is due message ys zs h width pad bytes exact filled head wide behind r e =
+parts-is due message ys zs ends h width bytes exact wide is filled head r e =
     let n = length ys in
-    let a : h ≡ headerIn n message = head ∙ halves-at n message exact bytes in
-    let b : allBelow q zs ≡ allTo n (λ (f : ℕ). ltb (fieldIn n message f) q) =
-    ap (allBelow q) (filled ∙ fill-same ys 0 n _ _ (λ f l. field-at n message exact f l)) ∙ below-filled q n ys (fieldIn n message) refl in
-    let d : pad ≡ numberOf message % 2 ^ padding (messageBits n) = behind ∙ ap (bitsAt message (messageBits n)) wide ∙ padding-at n message exact in
-    e ∙ rw (a, b, d) (ask-both (eqb (headerIn n message) due) (allTo n (λ (f : ℕ). ltb (fieldIn n message f) q)) (eqb (numberOf message % 2 ^ padding (messageBits n)) 0))
+    let a : h ≡ headerIn n message = head ∙ ap (λ (x : Ends). x .high * 2 ^ 32 + x .low) is ∙ halves-at n message exact bytes in
+    let fs : zs ≡ fill ys 0 n (fieldIn n message) = filled ∙ fill-same ys 0 n _ _ (λ f l. field-at n message exact f l) in
+    let b : allBelow q zs ≡ allTo n (λ (f : ℕ). ltb (fieldIn n message f) q) = ap (allBelow q) fs ∙ below-filled q n ys (fieldIn n message) refl in
+    let d : ends .padding ≡ numberOf message % 2 ^ padding (messageBits n) =
+    ap (λ (x : Ends). x .padding) is ∙ ap (bitsAt message (messageBits n)) wide ∙ padding-at n message exact in
+    (e ∙ rw (a, b, d) (ask-both (eqb (headerIn n message) due) (allTo n (λ (f : ℕ). ltb (fieldIn n message f) q)) (eqb (numberOf message % 2 ^ padding (messageBits n)) 0)), fs)

@@ -1,11 +1,14 @@
 -- Bit fields in bytes, and the header: what the functions over them are promised with.
 use Prim.Native.Nat.{ℕ, _+_, _*_, _-_, _/_, _%_, _^_, _<_}
+use mathlib.Core.Bool.{cond}
 use mathlib.Core.List.{List}
+use lib.Dec.{eqb}
 use lib.ListN.{length}
-use Rattle.lists.specs.Lists.{inFront}
+use Rattle.lists.specs.Lists.{fill, inFront}
 use Rattle.message.specs.Bits.{packed, numberOf}
-use Rattle.settings.specs.Sizes.{headerBits, fieldBits, messageBits}
-use Rattle.message.specs.Message.{fieldsBehind}
+use Rattle.settings.specs.Settings.{paramsOf}
+use Rattle.settings.specs.Sizes.{headerBits, fieldBits, fieldCount, messageBits, messageLength}
+use Rattle.message.specs.Message.{fieldsBehind, fieldIn}
 use Rattle.settings.specs.Questions.{Ready}
 use Rattle.message.specs.declared.Header.{Header}
 use Rattle.message.specs.declared.Ends.{Ends}
@@ -25,6 +28,13 @@ fieldAt bytes f = bitsAt bytes (headerBits + fieldBits * f) fieldBits
 abbrev pub endsAt : ℕ → List ℕ → ℕ → Ends
 endsAt fields bytes width =
     record { high = bitsAt bytes 0 32; low = bitsAt bytes 32 32; padding = bitsAt bytes (messageBits fields) width }
+
+-- a list of numbers with a message's fields in front, where the message has the due length
+unfoldable pub fieldsRead : ℕ → Header → List ℕ → List ℕ → List ℕ
+fieldsRead k due message numbers =
+    let p = paramsOf (due .settings .shape) in
+    let fields = fieldCount k p (due .round) in
+    cond (eqb (length message) (messageLength k p (due .round))) (fill numbers 0 fields (fieldIn fields message)) numbers
 
 -- the first `at` bits and then a field; zero bits fill its last byte, and what stands behind stays
 unfoldable pub putBits : List ℕ → ℕ → ℕ → ℕ → List ℕ

@@ -6,7 +6,7 @@ ghost use lib.ListN.{length};
 ghost use Rattle.lists.specs.Lists.{fill, inFront, allBelow};
 ghost use Rattle.settings.specs.Sizes.{keyCount, mostFields, bytesFor, fieldBits, messageBits};
 ghost use Rattle.message.specs.Message.{headerNumber, headerWith, messageOf, fieldIn, askParts, askForm, formNo};
-ghost use Rattle.message.specs.Fields.{bitsAt, fieldAt, endsAt, putBits, putFields, byteOf, HeaderFits};
+ghost use Rattle.message.specs.Fields.{bitsAt, fieldAt, endsAt, fieldsRead, putBits, putFields, byteOf, HeaderFits};
 use field::all_below_q;
 use settings::FIELD_BITS;
 use settings::FIELDS;
@@ -194,33 +194,6 @@ impl<'a> Reader<'a> {
             },
         }
     }
-
-    // Moved on by some bits. Called by `read_field` below, which stays inside the message.
-    pub fn skip(self, bits: usize) -> Reader<'a>
-        requires { ⌜ self .at + bits < 2 ^ 64 ⌝ }
-        ensures { λ r. ⌜ (r .bytes ≡ self .entry .bytes) × (r .at ≡ self .entry .at + bits) ⌝ }
-    {
-        Reader {
-            bytes: self.bytes,
-            at: self.at + bits,
-        }
-    }
-
-    // That field alone. Called by `read_field` too.
-    pub fn next(self, width: usize) -> u32
-        requires { ⌜ (width ≤ 32) × (self .at + width ≤ 8 * length (now (self .bytes))) ⌝ }
-        ensures { λ r. ⌜ r ≡ bitsAt (now (self .entry .bytes)) (self .entry .at) width ⌝ }
-    {
-        get_bits(self.bytes, self.at, width)
-    }
-}
-
-// One field, wherever it stands, by a reader of its own.
-fn read_field(bytes: &[u8], at: usize, width: usize) -> u32
-    requires { ⌜ (width ≤ 32) × (at + width ≤ 8 * length (now bytes)) ⌝ }
-    ensures { λ r. ⌜ r ≡ bitsAt (now (bytes .entry)) at width ⌝ }
-{
-    Reader::new(bytes).skip(at).next(width)
 }
 
 // ---- Writing a message
@@ -251,7 +224,7 @@ pub fn put_message(out: &mut [u8], header: Header, fields: &[u32]) -> usize
     length_of(fields.len())
 }
 
-// ---- Reading a message of so many fields. `form_no` asks its length first; `take` of crate side calls `form_no` first.
+// ---- Reading a message of so many fields. `form_no` asks its length first.
 
 // What stands before and behind the fields: the header's two halves, and the padding.
 pub struct Ends {
@@ -284,14 +257,6 @@ fn read_message(message: &[u8], fields: &mut [u32], padding: usize) -> Ends
     }
 }
 
-// Field f. (The count of fields is for the promise: it fixes where the bits end.)
-pub fn field_of(message: &[u8], fields: usize, f: usize) -> u32
-    requires { ⌜ (length (now message) ≡ bytesFor (messageBits fields)) × (f < fields) × (fields ≤ mostFields keyCount) ⌝ }
-    ensures { λ r. ⌜ r ≡ fieldIn fields (now (message .entry)) f ⌝ }
-{
-    read_field(message, Header::BITS + FIELD_BITS * f, FIELD_BITS)
-}
-
 // The number of a header's two halves.
 fn header_of(ends: Ends) -> u64
     ensures { λ r. ⌜ r ≡ ends .high * 2 ^ 32 + ends .low ⌝ }
@@ -299,10 +264,12 @@ fn header_of(ends: Ends) -> u64
     ends.high as u64 * Header::HALVES + ends.low as u64
 }
 
-// Questions 11 and 12 of a message with as many fields as `fields` has: the first no, or 0. The message is read front to back, once.
+// Questions 11 and 12 of a message with as many fields as `fields` has: the first no, or 0. The message is read front to back, once,
+// and its fields are left in `fields`.
 fn parts_no(due: u64, message: &[u8], fields: &mut [u32]) -> u32
     requires { ⌜ (length (now message) ≡ bytesFor (messageBits (length (now fields)))) × (length (now fields) ≤ mostFields keyCount) ⌝ }
-    ensures { λ r. ⌜ r ≡ askParts due (length (now (fields .entry))) (now (message .entry)) 0 ⌝ }
+    ensures { λ r. ⌜ (r ≡ askParts due (length (now (fields .entry))) (now (message .entry)) 0)
+        × (now (fields .exit) ≡ fill (now (fields .entry)) 0 (length (now (fields .entry))) (fieldIn (length (now (fields .entry))) (now (message .entry)))) ⌝ }
 {
     let padding = 8 * message.len() - (Header::BITS + FIELD_BITS * fields.len());
     let ends = read_message(message, fields, padding);
@@ -318,11 +285,13 @@ fn parts_no(due: u64, message: &[u8], fields: &mut [u32]) -> u32
     0
 }
 
-// Questions 10 to 12 of a message that is to have the header `due`: the first no, or 0. `message_form` and `take` of crate side have asked
-// questions 1 to 3 and the round.
-pub fn form_no(due: Header, message: &[u8]) -> u32
+// Questions 10 to 12 of a message that is to have the header `due`: the first no, or 0. A message of the due length leaves its fields in
+// `fields`. `message_form` and `take` of crate side lend it, and have asked questions 1 to 3 and the round.
+pub fn form_no(due: Header, message: &[u8], fields: &mut [u32]) -> u32
     requires { ⌜ HeaderFits due ⌝ }
-    ensures { λ r. ⌜ r ≡ askForm keyCount due (now (message .entry)) 0 ⌝ }
+    requires { ⌜ length (now fields) ≡ mostFields keyCount ⌝ }
+    ensures { λ r. ⌜ (r ≡ askForm keyCount due (now (message .entry)) 0)
+        × (now (fields .exit) ≡ fieldsRead keyCount due (now (message .entry)) (now (fields .entry))) ⌝ }
 {
     let settings = due.settings;
     let shape = settings.shape;
@@ -330,7 +299,6 @@ pub fn form_no(due: Header, message: &[u8]) -> u32
     if message.len() != length_of(count) {
         return MESSAGE_LENGTH;
     }
-    let mut fields = [0u32; MOST_FIELDS];
     parts_no(due.number(), message, &mut fields[..count])
 }
 
@@ -357,5 +325,7 @@ pub fn message_form(
     if serial < 1 {
         return NOT_DUE;
     }
-    form_no(Header::new(1 - receiver, settings, round, serial), message)
+    let due = Header::new(1 - receiver, settings, round, serial);
+    let mut fields = [0u32; MOST_FIELDS];
+    form_no(due, message, &mut fields)
 }

@@ -24,7 +24,10 @@ use Rattle.steps.specs.Steps.{publicOf, opening}
 use Rattle.state.specs.declared.Side.{Side}
 use Rattle.state.specs.State.{Whole}
 use Rattle.opening.specs.Opening.{ownHeader, prepared, outgoing, partColumn, message}
-use Rattle.opening.specs.Work.{columnsTo, fieldColumn, outgoingIn, outgoingField, inTurn}
+use Rattle.column.specs.Held.{columnAt, Holds}
+use Rattle.settings.proofs.Sizes.{openings-most}
+use native.Mathlib.Decide.{decLt}
+use Rattle.opening.specs.Work.{columnsTo, fieldColumn, OutgoingHeld, outgoingField, inTurn}
 use Rattle.opening.proofs.Columns.{columns-at}
 
 -- ---- numbers below q
@@ -60,32 +63,51 @@ module _ (work : List ℕ) (small : allBelow q work ≡ true) where
   unfolding allBelow
   fields-small s n = every-listTo (λ (x : ℕ). ltb x (2 ^ fieldBits)) n (outgoingField s work) (λ x h. lt-ltb (outgoingField s work x) (2 ^ fieldBits) (omega (arith, field-below s x)))
 
--- ---- one column of outgoing numbers
+-- ---- the columns of outgoing numbers
 
-pub outgoing-server : (s : Side) (work out : List ℕ) (c n : ℕ) → s .number ≡ 0 → fill out 0 n (prepared keyCount s work c) ≡ fill out 0 n (outgoing keyCount s work c)
-unfolding outgoing
-outgoing-server s work out c n e = fill-same out 0 n _ _ (λ o h. rw (eq-eqb (s .number) 0 e))
+-- the server works its numbers out: the share's column, and those of the parts under the phone's keys
+server-column : (s : Side) (f : ℕ) → s .number ≡ 0 → columnAt keyCount f ≡ fieldColumn s f
+unfolding columnAt
+server-column s f e = go (decLt 0 f)
+  where
+    go : Dec (0 < f) → cond (eqb f 0) 0 (f + keyCount) ≡ cond (eqb f 0) 0 (partColumn keyCount (1 - s .number) (f - 1))
+    go (yes h) = rw (ne-eqb f 0 (omega arith), e) (omega arith)
+    go (no h) = let z : f ≡ 0 = omega arith in rw (eq-eqb f 0 z)
 
-pub outgoing-phone : (s : Side) (work out : List ℕ) (c m n : ℕ) → (s .number ≡ 0 → ⊥) → m ≡ n → fill out 0 m (ownIn work c) ≡ fill out 0 n (outgoing keyCount s work c)
+pub server-held : (s : Side) (work ws sent : List ℕ) → s .number ≡ 0 → ws ≡ weights keyCount (s .number) (s .keys)
+    → Holds (publicOf (termsOf (s .settings)) (maskedIn work)) (s .round) ws work (record { count = 1 + keyCount; skip = keyCount })
+    (openings (paramsIn (s .settings)) (s .round)) sent
+    → OutgoingHeld s work sent
+unfolding outgoing prepared
+server-held s work ws sent e f held d o h l =
+    held d o h l
+    ∙ rw (f, server-column s d e, eq-eqb (s .number) 0 e)
+
+-- the phone kept its own when it took the round
+pub phone-held : (s : Side) (work z sent : List ℕ) (m : ℕ) → s .number < 2 → (s .number ≡ 0 → ⊥) → s .settings .shape .n ≤ 8 → m ≡ openings (paramsIn (s .settings)) (s .round)
+    → length z ≡ mostFields keyCount → sent ≡ columnsTo m (ownIn work) z (1 + keyCount) → OutgoingHeld s work sent
 unfolding outgoing
-outgoing-phone s work out c m n e f = rw f (fill-same out 0 n _ _ (λ o h. rw (ne-eqb (s .number) 0 e)))
+phone-held s work z sent m two e few k long is f o h l =
+    let one : s .number ≡ 1 = omega arith in
+    let most = openings-most (paramsIn (s .settings)) (s .round) few in
+    ap (λ (x : List ℕ). getD x (mostOpenings * f + o) 0) is ∙ columns-at m (ownIn work) z (omega (arith, most)) (1 + keyCount) f o (omega arith) h (omega arith)
+    ∙ rw (ne-eqb (s .number) 0 e) (ap (λ (c : ℕ). ownIn work c o) (phone-column one))
+  where
+    phone-column : s .number ≡ 1 → f ≡ fieldColumn s f
+    phone-column one = go (decLt 0 f)
+      where
+        go : Dec (0 < f) → f ≡ cond (eqb f 0) 0 (partColumn keyCount (1 - s .number) (f - 1))
+        go (yes b) = rw (ne-eqb f 0 (omega arith), one) (omega arith)
+        go (no b) = let z : f ≡ 0 = omega arith in rw (eq-eqb f 0 z) z
 
 -- ---- the fields in turn
 
-pub share-column : (s : Side) (f : ℕ) → f ≡ 0 → 0 ≡ fieldColumn s f
-share-column s f e = rw (eq-eqb f 0 e)
-
-pub part-column : (s : Side) (f : ℕ) → (f ≡ 0 → ⊥) → partColumn keyCount (1 - s .number) (f - 1) ≡ fieldColumn s f
-part-column s f e = rw (ne-eqb f 0 e)
-
 -- from the columns of outgoing numbers
-pub turns-are : (s : Side) (work fields sent z : List ℕ) (n m : ℕ) → n ≡ m → m ≤ mostOpenings → length z ≡ mostFields keyCount
-    → sent ≡ columnsTo m (outgoingIn s work) z (1 + keyCount)
+pub turns-are : (s : Side) (work fields sent : List ℕ) (n : ℕ) → n ≡ openings (paramsIn (s .settings)) (s .round) → OutgoingHeld s work sent
     → fill fields 0 ((1 + keyCount) * n) (inTurn sent) ≡ fill fields 0 ((1 + keyCount) * n) (outgoingField s work)
 unfolding outgoingField
-turns-are s work fields sent z n m k few long e =
-    fill-same fields 0 ((1 + keyCount) * n) _ _
-    (λ x h. rw e (columns-at m (outgoingIn s work) z few (1 + keyCount) (x % (1 + keyCount)) (x / (1 + keyCount)) (omega arith) (omega arith) (omega arith)))
+turns-are s work fields sent n k held =
+    fill-same fields 0 ((1 + keyCount) * n) _ _ (λ x h. held (x % (1 + keyCount)) (x / (1 + keyCount)) (omega arith) (omega arith))
 
 -- ---- the message
 

@@ -10,7 +10,7 @@ use Rattle.field.specs.Field.{q, add, mul}
 use Rattle.settings.specs.Sizes.{keyCount, width, openings, mostOpenings}
 use Rattle.settings.specs.Settings.{paramsIn}
 use Rattle.state.specs.declared.Side.{Side}
-use Rattle.opening.specs.Opening.{partColumn, prepared, outgoing, incoming}
+use Rattle.opening.specs.Opening.{partColumn, prepared, outgoing}
 
 -- a list with `count` numbers of f in each of its first columns, column c from place 32 × c on
 unfoldable pub columnsTo : ℕ → (ℕ → ℕ → ℕ) → List ℕ → ℕ → List ℕ
@@ -47,16 +47,16 @@ abbrev pub PreparedHeld : Side → List ℕ → List ℕ → Type 0
 PreparedHeld s work own =
     (c o : ℕ) → c < width → o < openings (paramsIn (s .settings)) (s .round) → getD own (mostOpenings * c + o) 0 ≡ prepared keyCount s work c o
 
--- opening o, joined from a list of columns and a message
-unfoldable pub joinedAt : Side → List ℕ → List ℕ → ℕ → ℕ
-joinedAt s own msg o = add q (getD own o 0) (incoming keyCount s msg o 0)
+-- opening o, joined from a list of columns and a message's fields
+unfoldable pub joinedAt : List ℕ → List ℕ → ℕ → ℕ
+joinedAt own fields o = add q (getD own o 0) (getD fields (o * (1 + keyCount)) 0)
 
 -- its check under one key, and under all keys
 unfoldable pub partAt : Side → List ℕ → List ℕ → List ℕ → ℕ → ℕ → Bool
-partAt s own msg numbers o key =
+partAt s own fields numbers o key =
     eqb
-    (add q (getD own (mostOpenings * partColumn keyCount (s .number) key + o) 0) (incoming keyCount s msg o (1 + key)))
+    (add q (getD own (mostOpenings * partColumn keyCount (s .number) key + o) 0) (getD fields (o * (1 + keyCount) + 1 + key) 0))
     (mul q (getD (s .keys) key 0) (getD numbers o 0))
 
 unfoldable pub checkedAt : Side → List ℕ → List ℕ → List ℕ → ℕ → Bool
-checkedAt s own msg numbers o = allTo keyCount (partAt s own msg numbers o)
+checkedAt s own fields numbers o = allTo keyCount (partAt s own fields numbers o)

@@ -1,5 +1,5 @@
 // What a side gives to a round's openings: its numbers, its message, and the check of the other side's.
-// What its functions require of the side, the lent slices and the message, crate side has found out by its questions
+// What its functions require of the side and the lent slices, crate side has found out by its questions
 // before it calls them.
 ghost use mathlib.Core.Path.{_≡_};
 ghost use mathlib.Core.Bool.{true};
@@ -12,20 +12,18 @@ ghost use Rattle.settings.specs.Sizes.{keyCount, width, openings, mostOpenings,
 ghost use Rattle.state.specs.State.{Whole};
 ghost use Rattle.slice.specs.Layout.{ownIn};
 ghost use Rattle.opening.specs.Work.{columnsTo, PreparedHeld, OutgoingHeld, outgoingField, inTurn, joinedAt, partAt, checkedAt};
-ghost use Rattle.opening.specs.Opening.{message, incoming};
+ghost use Rattle.opening.specs.Opening.{message};
 use column::ColumnChoice;
 use column::prepare;
 use field::add_mod;
 use field::mul_mod;
 use message::Header;
-use message::field_of;
 use message::put_message;
 use settings::FIELDS_PER_OPENING;
 use settings::KEYS;
 use settings::MOST_FIELDS;
 use settings::MOST_OPENINGS;
 use settings::WIDTH;
-use settings::field_count;
 use settings::openings_in;
 use slice::own_column;
 use slice::weights_of;
@@ -129,53 +127,41 @@ pub fn prepare_columns(own: &mut [u32], work: &[u32], side: Side)
     prepare(own, work, &weights, columns, settings, side.round);
 }
 
-// Field f of opening o of a message: 0 is the share, 1 + i the check part under the receiver's key i.
-fn field_in(message: &[u8], side: Side, o: usize, f: usize) -> u32
-    requires { ⌜ length (now message) ≡ messageLength keyCount (paramsIn (side .settings)) (side .round) ⌝ }
-    requires { ⌜ (side .settings .shape .n ≤ 8) × (o < openings (paramsIn (side .settings)) (side .round)) × (f < 1 + keyCount) ⌝ }
-    ensures { λ r. ⌜ r ≡ incoming keyCount side (now (message .entry)) o f ⌝ }
-{
-    let fields = field_count(side.settings.shape, side.round);
-    field_of(message, fields, o * FIELDS_PER_OPENING + f)
-}
-
-// Joins the side's shares with the message's, in front of `opened`.
-pub fn join_shares(opened: &mut [u32], own: &[u32], side: Side, message: &[u8])
-    requires { ⌜ length (now message) ≡ messageLength keyCount (paramsIn (side .settings)) (side .round) ⌝ }
-    requires { ⌜ (side .settings .shape .n ≤ 8) × (length (now own) ≡ mostOpenings * width) × (length (now opened) ≡ mostOpenings) ⌝ }
-    ensures { λ _. ⌜ now (opened .exit) ≡ fill (now (opened .entry)) 0 (openings (paramsIn (side .settings)) (side .round)) (joinedAt side (now (own .entry)) (now (message .entry))) ⌝ }
+// Joins the side's shares with the message's, the first of each opening's fields, in front of `opened`.
+pub fn join_shares(opened: &mut [u32], own: &[u32], side: Side, fields: &[u32])
+    requires { ⌜ (side .settings .shape .n ≤ 8) × (length (now fields) ≡ mostFields keyCount) ⌝ }
+    requires { ⌜ (length (now own) ≡ mostOpenings * width) × (length (now opened) ≡ mostOpenings) ⌝ }
+    ensures { λ _. ⌜ now (opened .exit) ≡ fill (now (opened .entry)) 0 (openings (paramsIn (side .settings)) (side .round)) (joinedAt (now (own .entry)) (now (fields .entry))) ⌝ }
 {
     let count = openings_in(side.settings.shape, side.round) as usize;
     let mut o = 0;
     while o < count {
-        opened[o] = add_mod(own[o], field_in(message, side, o, 0));
+        opened[o] = add_mod(own[o], fields[o * FIELDS_PER_OPENING]);
         o += 1;
     }
 }
 
-// The check of one opening under one key: the two parts add to key × opened number.
-fn part_passes(opened: &[u32], own: &[u32], side: Side, message: &[u8], o: usize, i: usize) -> bool
-    requires { ⌜ length (now message) ≡ messageLength keyCount (paramsIn (side .settings)) (side .round) ⌝ }
-    requires { ⌜ (side .number < 2) × (side .settings .shape .n ≤ 8) × (o < openings (paramsIn (side .settings)) (side .round)) × (i < keyCount) ⌝ }
-    requires { ⌜ (o < mostOpenings) × (length (now own) ≡ mostOpenings * width) × (length (now opened) ≡ mostOpenings) ⌝ }
-    ensures { λ r. ⌜ r ≡ partAt side (now (own .entry)) (now (message .entry)) (now (opened .entry)) o i ⌝ }
+// The check of one opening under one key: the two parts add to key × opened number. The message's part under key i is field 1 + i of the opening.
+fn part_passes(opened: &[u32], own: &[u32], side: Side, fields: &[u32], o: usize, i: usize) -> bool
+    requires { ⌜ (side .number < 2) × (o < mostOpenings) × (i < keyCount) × (length (now fields) ≡ mostFields keyCount) ⌝ }
+    requires { ⌜ (length (now own) ≡ mostOpenings * width) × (length (now opened) ≡ mostOpenings) ⌝ }
+    ensures { λ r. ⌜ r ≡ partAt side (now (own .entry)) (now (fields .entry)) (now (opened .entry)) o i ⌝ }
 {
     let keys = side.keys;
     let part = own[MOST_OPENINGS * (1 + side.number as usize * KEYS + i) + o];
-    let sum = add_mod(part, field_in(message, side, o, 1 + i));
+    let sum = add_mod(part, fields[o * FIELDS_PER_OPENING + 1 + i]);
     sum == mul_mod(keys[i], opened[o])
 }
 
 // The check of one opening: under each of this side's keys.
-fn check_passes(opened: &[u32], own: &[u32], side: Side, message: &[u8], o: usize) -> bool
-    requires { ⌜ length (now message) ≡ messageLength keyCount (paramsIn (side .settings)) (side .round) ⌝ }
-    requires { ⌜ (side .number < 2) × (side .settings .shape .n ≤ 8) × (o < openings (paramsIn (side .settings)) (side .round)) ⌝ }
-    requires { ⌜ (o < mostOpenings) × (length (now own) ≡ mostOpenings * width) × (length (now opened) ≡ mostOpenings) ⌝ }
-    ensures { λ r. ⌜ r ≡ checkedAt side (now (own .entry)) (now (message .entry)) (now (opened .entry)) o ⌝ }
+fn check_passes(opened: &[u32], own: &[u32], side: Side, fields: &[u32], o: usize) -> bool
+    requires { ⌜ (side .number < 2) × (o < mostOpenings) × (length (now fields) ≡ mostFields keyCount) ⌝ }
+    requires { ⌜ (length (now own) ≡ mostOpenings * width) × (length (now opened) ≡ mostOpenings) ⌝ }
+    ensures { λ r. ⌜ r ≡ checkedAt side (now (own .entry)) (now (fields .entry)) (now (opened .entry)) o ⌝ }
 {
     let mut i = 0;
     while i < KEYS {
-        if !part_passes(opened, own, side, message, o, i) {
+        if !part_passes(opened, own, side, fields, o, i) {
             return false;
         }
         i += 1;
@@ -184,15 +170,15 @@ fn check_passes(opened: &[u32], own: &[u32], side: Side, message: &[u8], o: usiz
 }
 
 // Does every opening pass its check?
-pub fn checks_pass(opened: &[u32], own: &[u32], side: Side, message: &[u8]) -> bool
-    requires { ⌜ length (now message) ≡ messageLength keyCount (paramsIn (side .settings)) (side .round) ⌝ }
-    requires { ⌜ (side .number < 2) × (side .settings .shape .n ≤ 8) × (length (now own) ≡ mostOpenings * width) × (length (now opened) ≡ mostOpenings) ⌝ }
-    ensures { λ r. ⌜ r ≡ allTo (openings (paramsIn (side .settings)) (side .round)) (checkedAt side (now (own .entry)) (now (message .entry)) (now (opened .entry))) ⌝ }
+pub fn checks_pass(opened: &[u32], own: &[u32], side: Side, fields: &[u32]) -> bool
+    requires { ⌜ (side .number < 2) × (side .settings .shape .n ≤ 8) × (length (now fields) ≡ mostFields keyCount) ⌝ }
+    requires { ⌜ (length (now own) ≡ mostOpenings * width) × (length (now opened) ≡ mostOpenings) ⌝ }
+    ensures { λ r. ⌜ r ≡ allTo (openings (paramsIn (side .settings)) (side .round)) (checkedAt side (now (own .entry)) (now (fields .entry)) (now (opened .entry))) ⌝ }
 {
     let count = openings_in(side.settings.shape, side.round) as usize;
     let mut o = 0;
     while o < count {
-        if !check_passes(opened, own, side, message, o) {
+        if !check_passes(opened, own, side, fields, o) {
             return false;
         }
         o += 1;

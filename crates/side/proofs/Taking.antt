@@ -10,11 +10,11 @@ use lib.Dec.{eqb}
 use lib.ListN.{length, getD, List·getD-eq-default}
 use borrow.Author.Tests.{eqb-true, ne-eqb}
 use Rattle.lists.specs.Answers.{ask}
-use Rattle.lists.specs.Lists.{fill, listTo, allBelow, allTo}
+use Rattle.lists.specs.Lists.{listTo, allBelow, allTo}
 use Rattle.lists.proofs.Lists.{length-listFrom, getD-listTo, listTo-cong}
 use Rattle.lists.proofs.Questions.{passed}
 use Rattle.field.specs.Field.{q}
-use Rattle.settings.specs.Sizes.{keyCount, mostOpenings, openings, fieldCount, messageLength, workLength}
+use Rattle.settings.specs.Sizes.{keyCount, openings, fieldCount, messageLength, workLength}
 use Rattle.message.specs.Message.{headerNumber, headerIn, fieldsOk, askForm}
 use Rattle.message.specs.Fields.{HeaderFits}
 use Rattle.settings.specs.Settings.{paramsIn, termsOf}
@@ -25,8 +25,7 @@ use Rattle.state.specs.declared.Phase.the-variants.{Stopped}
 use Rattle.state.specs.State.{takeDue, inPhase, Whole}
 use Rattle.state.proofs.States.{due-whole}
 use Rattle.opening.specs.Opening.{dueHeader, opened, passes}
-use Rattle.opening.specs.Work.{joinedAt}
-use Rattle.opening.proofs.Taking.{Holds, joined-at, behind-at, joined-is}
+use Rattle.opening.proofs.Taking.{Joins, opened-is}
 use Rattle.side.specs.Side.{after, takeNo, openedList, takenSide, takeCall}
 use Rattle.side.specs.Work.{takeDoor, frontOf}
 
@@ -114,28 +113,23 @@ module _ (k : ℕ) (s : Side) (work msg : List ℕ) where
 
 -- ---- The opened numbers
 
--- `numbers` holds the joined shares in front of zeros
-module _ (s : Side) (work own msg z numbers : List ℕ) (fields : Whole s) (holds : Holds s work own)
-    (room : length z ≡ mostOpenings) (none : (o : ℕ) → getD z o 0 ≡ 0) (e : numbers ≡ fill z 0 (openings (paramsIn (s .settings)) (s .round)) (joinedAt s own msg)) where
+module _ {s : Side} {work own msg fields numbers : List ℕ} (j : Joins s work own msg fields numbers) where
   abbrev count : ℕ
   count = openings (paramsIn (s .settings)) (s .round)
 
-  opened-is : (o : ℕ) → o < count → getD numbers o 0 ≡ opened keyCount s work msg o
-  opened-is o h = joined-at s work own msg z numbers fields holds room none e o h ∙ joined-is s work own msg z numbers fields holds room none e o h
-
-  pub opened-at : (o : ℕ) → getD numbers o 0 ≡ getD (openedList keyCount s work msg) o 0
+  opened-at : (o : ℕ) → getD numbers o 0 ≡ getD (openedList keyCount s work msg) o 0
   unfolding openedList
   opened-at o = go (decLt o count)
     where
       go : Dec (o < count) → getD numbers o 0 ≡ getD (listTo count (opened keyCount s work msg)) o 0
-      go (yes h) = opened-is o h ∙ sym (getD-listTo count (opened keyCount s work msg) o 0 h)
+      go (yes h) = opened-is j o h ∙ sym (getD-listTo count (opened keyCount s work msg) o 0 h)
       go (no h) =
-          behind-at s work own msg z numbers fields holds room none e o (omega arith)
+          j .behind o (omega arith)
           ∙ sym (List·getD-eq-default (listTo count (opened keyCount s work msg)) 0 (omega (arith, length-listFrom 0 count (opened keyCount s work msg))))
 
   pub front-same : frontOf s numbers ≡ openedList keyCount s work msg
   unfolding openedList
-  front-same = listTo-cong count _ _ opened-is
+  front-same = listTo-cong count _ _ (opened-is j)
 
   -- the slice that `take_work` leaves
   pub work-same : (ws later : List ℕ) → ws ≡ weights keyCount (s .number) (s .keys)

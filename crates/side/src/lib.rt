@@ -2,8 +2,9 @@
 ghost use mathlib.Core.Path.{_≡_};
 ghost use Prim.Native.Nat.{_≤_, _<_};
 ghost use lib.ListN.{length};
-ghost use Rattle.settings.specs.Sizes.{keyCount, mostOpenings};
+ghost use Rattle.settings.specs.Sizes.{keyCount, mostOpenings, mostFields};
 ghost use Rattle.settings.specs.Questions.{Ready};
+ghost use Rattle.message.specs.Fields.{fieldsRead};
 ghost use Rattle.opening.specs.Opening.{dueHeader};
 ghost use Rattle.state.specs.State.{Whole};
 ghost use Rattle.side.specs.Work.{takeDoor, frontOf};
@@ -22,6 +23,7 @@ use settings::FAILED_CHECK;
 use settings::KEY;
 use settings::KEYS;
 use settings::LENGTH;
+use settings::MOST_FIELDS;
 use settings::MOST_OPENINGS;
 use settings::NO_ROOM;
 use settings::NOT_BELOW_Q;
@@ -211,9 +213,11 @@ fn due_header(side: Side) -> Header
     Header::new(1 - side.number, side.settings, side.round, side.serial)
 }
 
-// Questions 8, 5, 6 and 10 to 12 of take: the first no, or 0.
-fn take_no(side: Side, work: &[u32], message: &[u8]) -> u32
-    ensures { λ r. ⌜ r ≡ takeDoor keyCount side (now (work .entry)) (now (message .entry)) ⌝ }
+// Questions 8, 5, 6 and 10 to 12 of take: the first no, or 0. A message that passes leaves its fields in `fields`, which `take` lends.
+fn take_no(side: Side, work: &[u32], message: &[u8], fields: &mut [u32]) -> u32
+    requires { ⌜ length (now fields) ≡ mostFields keyCount ⌝ }
+    ensures { λ r. ⌜ (r ≡ takeDoor keyCount side (now (work .entry)) (now (message .entry)))
+        × (r ≡ 0 → now (fields .exit) ≡ fieldsRead keyCount (dueHeader side) (now (message .entry)) (now (fields .entry))) ⌝ }
 {
     if !take_due(side) {
         return NOT_DUE;
@@ -224,7 +228,7 @@ fn take_no(side: Side, work: &[u32], message: &[u8]) -> u32
     if !all_below_q(work) {
         return NOT_BELOW_Q;
     }
-    form_no(due_header(side), message)
+    form_no(due_header(side), message, fields)
 }
 
 // The answer that a side keeps: the last round opens it.
@@ -255,15 +259,16 @@ fn taken_side(side: Side, opened: &[u32]) -> Side
 pub fn take(side: Side, work: &mut [u32], message: &[u8]) -> Done
     ensures { λ r. ⌜ record { done = r; work = now (work .exit) } ≡ takeCall keyCount side (now (work .entry)) (now (message .entry)) ⌝ }
 {
-    let refused = take_no(side, work, message);
+    let mut fields = [0u32; MOST_FIELDS];
+    let refused = take_no(side, work, message, &mut fields);
     if refused != 0 {
         return Done { refused, side };
     }
     let mut own = [0u32; OWN_LENGTH];
     prepare_columns(&mut own, work, side);
     let mut opened = [0u32; MOST_OPENINGS];
-    join_shares(&mut opened, &own, side, message);
-    if !checks_pass(&opened, &own, side, message) {
+    join_shares(&mut opened, &own, side, &fields);
+    if !checks_pass(&opened, &own, side, &fields) {
         return Done {
             refused: FAILED_CHECK,
             side: in_phase(side, Phase::Stopped),

@@ -33,13 +33,13 @@ sender c =
 
 form-no-requires : tie.Need-form-no-requires
 form-no-requires c κs =
-    let a = c .before .before .before .before .before .before .before .args in
-    let no = sym (c .before .before .before .before .before .settings-no .ensures) ∙ c .before .before .before .before .if1 .left in
-    rw (c .new .ensures) (other-fits (a .receiver) (a .settings) (a .round) (a .serial) (settings-ready (a .receiver) (a .settings) 0 no .1) (omega arith))
+    let a = c .before .before .before .before .before .before .before .before .args in
+    let no = sym (c .before .before .before .before .before .before .settings-no .ensures) ∙ c .before .before .before .before .before .if1 .left in
+    (rw (c .before .new .ensures) (other-fits (a .receiver) (a .settings) (a .round) (a .serial) (settings-ready (a .receiver) (a .settings) 0 no .1) (omega arith)), search needs)
 
 returns-5 : tie.Need-returns-5
 unfolding formNo
-returns-5 c = rw (← c .before .new .ensures) (search (walk, settings-skip) depth 20)
+returns-5 c = rw (← c .before .before .before .new .ensures) (search (walk, settings-skip) depth 20)
 
 pub message-form-spec : {M : Type 1} → statement M
 message-form-spec =
@@ -52,5 +52,6 @@ message-form-spec =
     returns-4
     sender
     (λ c κs. search needs)
+    (λ c. search needs)
     form-no-requires
     returns-5)

@@ -13,10 +13,10 @@ use Rattle.opening.proofs.check_passes.Statement.{statement}
 use Rattle.opening.proofs.check_passes.Tie as tie
 
 abbrev Inv-loop : tie.InvT-loop
-Inv-loop opened own side message o i₀ i = (i ≤ keyCount) × (allTo i (partAt side own message opened o) ≡ true)
+Inv-loop opened own side fields o i₀ i = (i ≤ keyCount) × (allTo i (partAt side own fields opened o) ≡ true)
 
 abbrev μ-loop : tie.MeasureT-loop
-μ-loop opened own side message o i₀ i = keyCount - i
+μ-loop opened own side fields o i₀ i = keyCount - i
 
 loop-holds : tie.Need-loop-holds Inv-loop μ-loop
 unfolding allTo

@@ -15,10 +15,10 @@ use Rattle.opening.proofs.checks_pass.Statement.{statement}
 use Rattle.opening.proofs.checks_pass.Tie as tie
 
 abbrev Inv-loop : tie.InvT-loop
-Inv-loop opened own side message count o₀ o = (o ≤ count) × (allTo o (checkedAt side own message opened) ≡ true)
+Inv-loop opened own side fields count o₀ o = (o ≤ count) × (allTo o (checkedAt side own fields opened) ≡ true)
 
 abbrev μ-loop : tie.MeasureT-loop
-μ-loop opened own side message count o₀ o = count - o
+μ-loop opened own side fields count o₀ o = count - o
 
 loop-holds : tie.Need-loop-holds Inv-loop μ-loop
 unfolding allTo

@@ -13,10 +13,10 @@ use Rattle.opening.proofs.join_shares.Statement.{statement}
 use Rattle.opening.proofs.join_shares.Tie as tie
 
 abbrev Inv-loop : tie.InvT-loop
-Inv-loop opened₀ own side message count o₀ opened o = (o ≤ count) × (opened ≡ fill opened₀ 0 o (joinedAt side own message)) × (length opened ≡ length opened₀)
+Inv-loop opened₀ own fields count o₀ opened o = (o ≤ count) × (opened ≡ fill opened₀ 0 o (joinedAt own fields)) × (length opened ≡ length opened₀)
 
 abbrev μ-loop : tie.MeasureT-loop
-μ-loop opened₀ own side message count o₀ opened o = count - o
+μ-loop opened₀ own fields count o₀ opened o = count - o
 
 loop-holds : tie.Need-loop-holds Inv-loop μ-loop
 loop-holds c = (omega arith, sym (fill-none _ _ _), refl)
@@ -42,7 +42,9 @@ join-shares-spec =
     loop-holds
     (λ c. omega arith)
     (λ c. omega arith)
-    (λ c κs. omega arith)
+    (λ c. omega arith)
+    (λ c. omega arith)
+    (λ c. omega arith)
     (λ c κs. omega arith)
     (λ c. omega arith)
     (λ c. omega arith)

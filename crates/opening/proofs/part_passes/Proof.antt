@@ -8,7 +8,7 @@ use Rattle.opening.proofs.part_passes.Tie as tie
 
 returns : tie.Need-returns
 unfolding partAt
-returns c = rw (← c .before .before .before .field-in .ensures) (ap₂ eqb (c .before .before .add-mod .ensures) (c .mul-mod .ensures))
+returns c = ap₂ eqb (c .before .before .add-mod .ensures) (c .mul-mod .ensures)
 
 pub part-passes-spec : {M : Type 1} → statement M
 part-passes-spec =
@@ -23,7 +23,10 @@ part-passes-spec =
     (λ c. search needs)
     (λ c. search needs)
     (λ c. search needs)
-    (λ c κs. search needs)
+    (λ c. search needs)
+    (λ c. search needs)
+    (λ c. search needs)
+    (λ c. search needs)
     (λ c κs. search needs)
     (λ c. search needs)
     (λ c. search needs)
