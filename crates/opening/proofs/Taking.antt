@@ -16,9 +16,12 @@ use Rattle.message.specs.Message.{fieldIn}
 use Rattle.message.specs.Fields.{fieldsRead}
 use Rattle.slice.specs.Layout.{maskedIn, weights}
 use Rattle.steps.specs.Steps.{publicOf}
-use Rattle.column.specs.Held.{HeldAll}
+use Rattle.steps.specs.declared.Context.{Context}
+use Rattle.steps.specs.Context.{publicBy, ContextOf}
+use Rattle.column.specs.Held.{Holds, HeldAll}
+use Rattle.column.proofs.Tables.{column-all}
 use Rattle.settings.proofs.Sizes.{openings-most}
-use Rattle.settings.specs.Settings.{paramsIn, termsOf}
+use Rattle.settings.specs.Settings.{paramsOf, paramsIn, termsOf}
 use Rattle.state.specs.declared.Side.{Side}
 use Rattle.state.specs.State.{Whole}
 use Rattle.opening.specs.Check.{accepts}
@@ -26,6 +29,16 @@ use Rattle.opening.specs.Opening.{partColumn, prepared, dueHeader, incom
 use Rattle.opening.specs.Work.{PreparedHeld, joinedAt, partAt, checkedAt}
 
 -- ---- The numbers that the side has
+
+-- worked out by columns, with the round's context
+pub prepared-held : (s : Side) (work ws own : List ℕ) (known : Context) → ContextOf (s .settings) (s .round) (maskedIn work) known
+    → ws ≡ weights keyCount (s .number) (s .keys)
+    → Holds (publicBy (known .settings) (maskedIn work)) (known .round) ws work (record { count = width; skip = 0 })
+    (openings (paramsOf (known .settings .shape)) (known .round)) own
+    → PreparedHeld s work own
+unfolding prepared
+prepared-held s work ws own known made f held c o h l =
+    (rw (made .settings-kept, made .round-kept) at held) c o h l ∙ rw (f, column-all c)
 
 -- as `take_work` asks for them
 pub holds-all : (s : Side) (work own ws : List ℕ) → ws ≡ weights keyCount (s .number) (s .keys)

@@ -10,7 +10,8 @@ ghost use Rattle.field.specs.Field.{q};
 ghost use Rattle.settings.specs.Settings.{paramsIn};
 ghost use Rattle.settings.specs.Sizes.{keyCount, width, openings, mostOpenings, mostFields, messageLength, workLength};
 ghost use Rattle.state.specs.State.{Whole};
-ghost use Rattle.slice.specs.Layout.{ownIn};
+ghost use Rattle.slice.specs.Layout.{ownIn, maskedIn};
+ghost use Rattle.steps.specs.Context.{ContextOf};
 ghost use Rattle.opening.specs.Work.{columnsTo, PreparedHeld, OutgoingHeld, outgoingField, inTurn, joinedAt, partAt, checkedAt};
 ghost use Rattle.opening.specs.Opening.{message};
 use column::ColumnChoice;
@@ -25,12 +26,28 @@ use settings::MOST_FIELDS;
 use settings::MOST_OPENINGS;
 use settings::WIDTH;
 use settings::openings_in;
+use slice::masked_in;
 use slice::own_column;
 use slice::weights_of;
 use state::Side;
+use steps::Context;
+use steps::context_of;
 
 // The numbers of a side for a round's openings, in all columns.
 pub const OWN_LENGTH: usize = WIDTH * MOST_OPENINGS;
+
+// ---- The context of a side's round
+
+// What both sides know in the round, from the masked numbers that the slice holds. A call makes it once.
+pub fn context_in(side: Side, work: &[u32]) -> Context
+    requires { ⌜ Whole side ⌝ }
+    requires { ⌜ length (now work) ≡ workLength keyCount ⌝ }
+    ensures { λ r. ⌜ ContextOf (side .settings) (side .round) (maskedIn (now (work .entry))) r ⌝ }
+{
+    let masked = masked_in(work);
+    let settings = side.settings;
+    context_of(settings, side.round, &masked)
+}
 
 // ---- Send
 
@@ -58,7 +75,6 @@ fn outgoing_columns(sent: &mut [u32], work: &[u32], side: Side)
     requires { ⌜ (length (now work) ≡ workLength keyCount) × (allBelow q (now work) ≡ true) × (length (now sent) ≡ mostFields keyCount) ⌝ }
     ensures { λ _. ⌜ OutgoingHeld side (now (work .entry)) (now (sent .exit)) ⌝ }
 {
-    let settings = side.settings;
     if side.number == 0 {
         let keys = side.keys;
         let weights = weights_of(side.number, keys);
@@ -66,9 +82,10 @@ fn outgoing_columns(sent: &mut [u32], work: &[u32], side: Side)
             count: FIELDS_PER_OPENING,
             skip: KEYS,
         };
-        prepare(sent, work, &weights, columns, settings, side.round);
+        prepare(sent, work, &weights, columns, context_in(side, work));
     } else {
-        kept_columns(sent, work, openings_in(settings.shape, side.round) as usize);
+        let count = openings_in(side.settings.shape, side.round) as usize;
+        kept_columns(sent, work, count);
     }
 }
 
@@ -112,19 +129,19 @@ pub fn write_message(side: Side, work: &[u32], out: &mut [u8]) -> usize
 // ---- Take
 
 // The side's numbers for the openings in all columns, 32 places for each.
-pub fn prepare_columns(own: &mut [u32], work: &[u32], side: Side)
+pub fn prepare_columns(own: &mut [u32], work: &[u32], side: Side, known: Context)
     requires { ⌜ Whole side ⌝ }
+    requires { ⌜ ContextOf (side .settings) (side .round) (maskedIn (now work)) known ⌝ }
     requires { ⌜ (length (now work) ≡ workLength keyCount) × (allBelow q (now work) ≡ true) × (length (now own) ≡ mostOpenings * width) ⌝ }
     ensures { λ _. ⌜ PreparedHeld side (now (work .entry)) (now (own .exit)) ⌝ }
 {
     let keys = side.keys;
     let weights = weights_of(side.number, keys);
-    let settings = side.settings;
     let columns = ColumnChoice {
         count: WIDTH,
         skip: 0,
     };
-    prepare(own, work, &weights, columns, settings, side.round);
+    prepare(own, work, &weights, columns, known);
 }
 
 // Joins the side's shares with the message's, the first of each opening's fields, in front of `opened`.

@@ -16,6 +16,7 @@ use message::Header;
 use message::form_no;
 use opening::OWN_LENGTH;
 use opening::checks_pass;
+use opening::context_in;
 use opening::join_shares;
 use opening::prepare_columns;
 use opening::write_message;
@@ -265,7 +266,8 @@ pub fn take(side: Side, work: &mut [u32], message: &[u8]) -> Done
         return Done { refused, side };
     }
     let mut own = [0u32; OWN_LENGTH];
-    prepare_columns(&mut own, work, side);
+    let known = context_in(side, work);
+    prepare_columns(&mut own, work, side, known);
     let mut opened = [0u32; MOST_OPENINGS];
     join_shares(&mut opened, &own, side, &fields);
     if !checks_pass(&opened, &own, side, &fields) {
@@ -274,10 +276,9 @@ pub fn take(side: Side, work: &mut [u32], message: &[u8]) -> Done
             side: in_phase(side, Phase::Stopped),
         };
     }
-    let settings = side.settings;
     let keys = side.keys;
     let weights = weights_of(side.number, keys);
-    take_work(work, settings, side.round, &opened, &own, &weights);
+    take_work(work, known, &opened, &own, &weights);
     Done {
         refused: 0,
         side: taken_side(side, &opened),

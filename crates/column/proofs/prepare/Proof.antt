@@ -27,9 +27,10 @@ returns c = c .before .before .prepare-plain .ensures (maskedIn (c .before .befo
 -- src/lib.rt:227:9
 prepare-gates-requires : tie.Need-prepare-gates-requires
 prepare-gates-requires c κs = let a = c .before .before .before .before .before .before .before .args in
-    let known = a .known in
-    ((c .before .before .before .before .before .before .before .pre .0, held-below (a .work .now) (c .before .before .before .before .before .before .before .pre .1 .1 .0 .2) (known .settings) (known .round) known (c .before .before .before .before .before .before .before .pre .0 .shape .sets) (c .before .before .before .before .before .before .before .pre .1 .1 .1)),
-      ((omega (arith, c .before .before .if1 .left, c .before .before .before .before .before .before .before .pre .1 .1 .0), c .before .if2 .taken), omega (arith, c .before .before .before .before .before .before .before .pre .1 .0 .out-long, c .before .before .before .before .before .before .before .pre .1 .0 .chosen, c .before .before .before .before .before .before .before .pre .1 .0 .columns-long, c .before .before .before .before .before .before .before .pre .1 .0 .few)))
+    let known = a .known in (
+      (c .before .before .before .before .before .before .before .pre .0, held-below (a .work .now) (c .before .before .before .before .before .before .before .pre .1 .1 .0 .2) (known .settings) (known .round) known (c .before .before .before .before .before .before .before .pre .0 .shape .sets) (c .before .before .before .before .before .before .before .pre .1 .1 .1)),
+      ((omega (arith, c .before .before .if1 .left, c .before .before .before .before .before .before .before .pre .1 .1 .0), c .before .if2 .taken), omega (arith, c .before .before .before .before .before .before .before .pre .1 .0 .out-long, c .before .before .before .before .before .before .before .pre .1 .0 .chosen, c .before .before .before .before .before .before .before .pre .1 .0 .columns-long, c .before .before .before .before .before .before .before .pre .1 .0 .few)),
+    )
 
 -- src/lib.rt:228:9
 same-length-2 : tie.Need-same-length-2
