@@ -62,6 +62,7 @@ door-pass true true true true true true rest h = refl
 pub record TakeReady (k : ℕ) (s : Side) (work msg : List ℕ) : Type 0 where
   pub fields : Whole s
   pub work-long : length work ≡ workLength k
+  pub work-below : allBelow q work ≡ true
   pub message-long : length msg ≡ messageLength k (paramsIn (s .settings)) (s .round)
 
 module _ (k : ℕ) (s : Side) (work msg : List ℕ) where
@@ -92,7 +93,7 @@ module _ (k : ℕ) (s : Side) (work msg : List ℕ) where
       let five = passed (eqb (length work) (workLength k)) 4 _ (eight .1) in
       let six = passed (allBelow q work) 5 _ (five .1) in
       let ten = passed long 9 _ (six .1) in
-      record { fields = due-whole s (eight .0); work-long = eqb-true _ _ (five .0); message-long = eqb-true _ _ (ten .0) }
+      record { fields = due-whole s (eight .0); work-long = eqb-true _ _ (five .0); work-below = six .0; message-long = eqb-true _ _ (ten .0) }
 
   -- the three ends of take
   pub take-refused : (r : ℕ) → r ≡ takeDoor k s work msg → r ≢ 0 → after r s work ≡ takeCall k s work msg
