@@ -435,8 +435,8 @@ fn put_column(
 {
     let start = col * PLACES;
     let n = settings.shape.n as usize;
-    let count = openings_in(settings.shape, round) as usize;
-    copy_numbers(work, start + OWN, own, MOST_OPENINGS * col, count);
+    let openings = openings_in(settings.shape, round) as usize;
+    copy_numbers(work, start + OWN, own, MOST_OPENINGS * col, openings);
     copy_numbers(work, start + FIRST, next, 16 * col, n);
     copy_numbers(work, start + SECOND, next, 16 * col + 8, n);
 }
