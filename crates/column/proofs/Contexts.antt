@@ -66,7 +66,8 @@ module _ (w : Public) (round o : ℕ) (six : round ≡ 6) where
   check-high high = sym (opening-check ∙ high-is)
     where
       high-is : openCheck w o ≡ reg (groupAt (w .params) o) ⊞ groupGap (w .params) ⊠ (num (groupK (w .params)) ⊟ reg (runningAt 1 o))
-      high-is = ap (λ (f : Form). reg (groupAt (w .params) o) ⊞ groupGap (w .params) ⊠ (num (groupK (w .params)) ⊟ f)) (ap (λ (b : Bool). cond b (reg (runningAt 1 o)) (insides w (w .params .n))) (eq-eqb (w .params .kind) 0 high))
+      high-is = ap (λ (f : Form). reg (groupAt (w .params) o) ⊞ groupGap (w .params) ⊠ (num (groupK (w .params)) ⊟ f))
+          (ap (λ (b : Bool). cond b (reg (runningAt 1 o)) (insides w (w .params .n))) (eq-eqb (w .params .kind) 0 high))
 
   pub check-bound : w .params .kind ≢ 0
       → reg (groupAt (w .params) o) ⊞ groupGap (w .params) ⊠ (num (groupK (w .params)) ⊟ insides w (w .params .n)) ≡ opening w round o
@@ -137,7 +138,8 @@ module _ (known : Context) (masked : ℕ → ℕ) (made : ContextOf (known .sett
 
     -- its register in n columns
     pub gate-register : (n : ℕ) (κ : ℕ → ℕ) (r : ℕ → Registers) (opened : ℕ → ℕ) (next after : List ℕ)
-        → after ≡ fillBy 16 next (8 * gate .which + gate .j) n (λ (c : ℕ). value q (κ c) (r c) (resultForm gate (opened (4 * gate .j + 2 * gate .which)) (opened (4 * gate .j + 2 * gate .which + 1))))
+        → after ≡ fillBy 16 next (8 * gate .which + gate .j) n (λ (c : ℕ). value q (κ c) (r c)
+        (resultForm gate (opened (4 * gate .j + 2 * gate .which)) (opened (4 * gate .j + 2 * gate .which + 1))))
         → after ≡ fillBy 16 next (slot g) n (λ (c : ℕ). value q (κ c) (r c) (running (publicBy (known .settings) masked) (known .round) opened (g % 2) (g / 2)))
     gate-register n κ r opened next after filled =
         let result : resultForm (gateAt (known .settings .shape) (splitIn known x) g (known .round - 1)) (opened (4 * (g / 2) + 2 * (g % 2))) (opened (4 * (g / 2) + 2 * (g % 2) + 1))
@@ -150,7 +152,8 @@ module _ (known : Context) (g x : ℕ) (place : x ≡ splitPlace (known .setting
   pub gate-held : (κ : ℕ) (r : Registers) (own : List ℕ) (c : ℕ)
       → (getD own (mostOpenings * c + 2 * g) 0 ≡ value q κ r (openU (gateAt (known .settings .shape) (splitIn known (splitPlace (known .settings .shape .kind) g)) g (known .round - 1))))
       × (getD own (mostOpenings * c + (2 * g + 1)) 0 ≡ value q κ r (openV (gateAt (known .settings .shape) (splitIn known (splitPlace (known .settings .shape .kind) g)) g (known .round - 1))))
-      → (getD own (mostOpenings * c + (4 * gate .j + 2 * gate .which)) 0 ≡ value q κ r (openU gate)) × (getD own (mostOpenings * c + (4 * gate .j + 2 * gate .which + 1)) 0 ≡ value q κ r (openV gate))
+      → (getD own (mostOpenings * c + (4 * gate .j + 2 * gate .which)) 0 ≡ value q κ r (openU gate)) ×
+      (getD own (mostOpenings * c + (4 * gate .j + 2 * gate .which + 1)) 0 ≡ value q κ r (openV gate))
   gate-held κ r own c held =
       let at : 4 * (g / 2) + 2 * (g % 2) ≡ 2 * g = omega arith in
       rw (e, place, at) held

@@ -1,121 +1,107 @@
+-- `column::gate_registers` meets its contract. Assumes nothing.
 use Rattle.column.proofs.Contexts.{gate-held, gate-register}
 use Rattle.steps.specs.Work.{runningOn}
 use mathlib.Core.Logic.{_≢_}
 use Rattle.column.proofs.Tables.{slots-more}
 use Rattle.column.specs.Held.{slot, RegistersHeld}
 use Rattle.steps.specs.Context.{publicBy, ContextOf}
-use mathlib.Core.List.{List}
 use Rattle.slice.specs.Layout.{column}
-use Rattle.field.specs.Forms.{Form, value}
 use Rattle.field.specs.Field.{q}
 use Rattle.lists.proofs.Strides.{length-stride}
-use Rattle.lists.specs.Lists.{fillBy}
 use Rattle.steps.proofs.Contexts.{place-in, count-most}
-use Prim.Native.Nat.{ℕ, _≤_, _<_, _-_, _+_, _*_, _%_, _/_}
-use mathlib.Core.Path.{_≡_, refl, sym, ap, _∙_}
+use Prim.Native.Nat.{ℕ, _≤_, _-_, _*_, _%_, _/_}
+use mathlib.Core.Path.{_≡_, refl, ap, _∙_}
 use native.Mathlib.Omega.{arith}
 use borrow.Author.Needs.{needs}
-use lib.ListN.{length, set, getD, length-set}
+use lib.ListN.{length, set, getD}
 use Rattle.column.proofs.gate_registers.Statement.{statement}
 use Rattle.column.proofs.gate_registers.Tie as tie
-use Rattle.column.proofs.gate_registers.Reads as reads
-use Rattle.column.proofs.gate_registers.Lts as lts
-use Rattle.column.proofs.results_into.Reads as results-into-reads
-use Rattle.steps.proofs.gate_of.Reads as gate-of-reads
-use Rattle.steps.proofs.split_place.Reads as split-place-reads
 
 abbrev Inv-loop : tie.InvT-loop
-Inv-loop next₀ work weights own opened known shape i g₀ next g = (g ≤ 2 * known .settings .shape .n) × ((masked : ℕ → ℕ) → ContextOf (known .settings) (known .round) masked known → RegistersHeld (publicBy (known .settings) masked) (known .round) (λ (o : ℕ). getD opened o 0) weights work g next) × (length next ≡ length next₀)
+Inv-loop next₀ work weights own opened known shape i g₀ next g = (g ≤ 2 * known .settings .shape .n) ×
+    ((masked : ℕ → ℕ) → ContextOf (known .settings) (known .round) masked known → RegistersHeld (publicBy (known .settings) masked) (known .round)
+    (λ (o : ℕ). getD opened o 0) weights work g next) × (length next ≡ length next₀)
 
 abbrev μ-loop : tie.MeasureT-loop
 μ-loop next₀ work weights own opened known shape i g₀ next g = 2 * known .settings .shape .n - g
 
--- src/lib.rt:335:14
-sub-i : tie.Need-sub-i Inv-loop μ-loop
-sub-i c = omega arith
-
--- src/lib.rt:335:13
-cast-i : tie.Need-cast-i Inv-loop μ-loop
-cast-i c = omega arith
-
--- src/lib.rt:337:5
 loop-holds : tie.Need-loop-holds Inv-loop μ-loop
 loop-holds c = (omega arith, λ masked made d o h l. absurd (omega arith), refl)
 
--- src/lib.rt:337:19
-cast-if1 : tie.Need-cast-if1 Inv-loop μ-loop
-cast-if1 c = omega arith
-
--- src/lib.rt:337:15
-mul-if1 : tie.Need-mul-if1 Inv-loop μ-loop
-mul-if1 c = omega arith
-
--- src/lib.rt:338:13
-split-place-requires : tie.Need-split-place-requires Inv-loop μ-loop
-split-place-requires c κs = omega arith
-
--- src/lib.rt:339:21
 mul-split : tie.Need-mul-split Inv-loop μ-loop
-mul-split c = omega (arith, place-in (c .before .before .before .before .before .before .before .before .before .before .args .t4 .settings .shape) (c .before .before .before .loop .g) (omega arith), count-most (c .before .before .before .before .before .before .before .before .before .before .args .t4 .settings .shape) (c .before .before .before .before .before .before .before .before .before .before .pre .0 .0 .shape .most), c .split-place .ensures)
+mul-split c =
+    let a = c .before .before .before .before .before .before .before .before .before .before .args in
+    let at = c .before .before .before .loop in
+    let p = c .before .before .before .before .before .before .before .before .before .before .pre in
+    omega (arith, place-in (a .t4 .settings .shape) (at .g) (omega arith), count-most (a .t4 .settings .shape) (p .0 .0 .shape .most), c .split-place .ensures)
 
--- src/lib.rt:339:21
 element-copy-out-split : tie.Need-element-copy-out-split Inv-loop μ-loop
-element-copy-out-split c = omega (arith, place-in (c .before .before .before .before .before .before .before .before .before .before .args .t4 .settings .shape) (c .before .before .before .loop .g) (omega arith), count-most (c .before .before .before .before .before .before .before .before .before .before .args .t4 .settings .shape) (c .before .before .before .before .before .before .before .before .before .before .pre .0 .0 .shape .most), c .split-place .ensures)
+element-copy-out-split c =
+    let a = c .before .before .before .before .before .before .before .before .before .before .args in
+    let at = c .before .before .before .loop in
+    let p = c .before .before .before .before .before .before .before .before .before .before .pre in
+    omega (arith, place-in (a .t4 .settings .shape) (at .g) (omega arith), count-most (a .t4 .settings .shape) (p .0 .0 .shape .most), c .split-place .ensures)
 
--- src/lib.rt:340:13
 gate-of-requires : tie.Need-gate-of-requires Inv-loop μ-loop
-gate-of-requires c κs = let known = c .before .before .before .before .before .before .before .before .before .before .before .args .t4 in
-    let in-count = place-in (known .settings .shape) (c .before .before .before .before .loop .g) (omega arith) in
-    (c .before .before .before .before .before .before .before .before .before .before .before .pre .0 .0 .shape, (omega arith, omega (arith, c .before .before .before .before .before .before .before .before .before .before .before .pre .1 .0), omega (arith, c .before .before .before .before .before .before .before .before .before .before .before .pre .1 .0), c .before .before .before .before .before .before .before .before .before .before .before .pre .0 .1 (c .before .split-place .result) _ (rw (c .before .split-place .ensures) in-count) (omega (arith, c .before .before .before .before .before .before .before .before .before .before .before .pre .1 .0))))
-
--- src/lib.rt:341:9
-results-into-requires : tie.Need-results-into-requires Inv-loop μ-loop
-results-into-requires c κs = let a = c .before .before .before .before .before .before .before .before .before .before .before .before .before .args in
+gate-of-requires c κs =
+    let a = c .before .before .before .before .before .before .before .before .before .before .before .args in
+    let at = c .before .before .before .before .loop in
+    let p = c .before .before .before .before .before .before .before .before .before .before .before .pre in
     let known = a .t4 in
-    let g = c .before .before .before .before .before .before .loop .g in (
+    let in-count = place-in (known .settings .shape) (at .g) (omega arith) in (
+      p .0 .0 .shape,
+      (
+        omega arith,
+        omega (arith, p .1 .0),
+        omega (arith, p .1 .0),
+        p .0 .1 (c .before .split-place .result) _ (rw (c .before .split-place .ensures) in-count)
+            (omega (arith, p .1 .0)),
+      ),
+    )
+
+results-into-requires : tie.Need-results-into-requires Inv-loop μ-loop
+results-into-requires c κs =
+    let at = c .before .before .before .before .before .before .loop in
+    let p = c .before .before .before .before .before .before .before .before .before .before .before .before .before .pre in
+    let split-place = c .before .before .before .split-place in
+    let a = c .before .before .before .before .before .before .before .before .before .before .before .before .before .args in
+    let known = a .t4 in
+    let g = at .g in (
       c .before .gate-of .ensures .1,
       (
-        omega (arith, c .before .before .before .before .before .before .before .before .before .before .before .before .before .pre .1, c .before .before .before .before .before .before .loop .inv .2),
+        omega (arith, p .1, at .inv .2),
         (
-          (rw (c .before .gate-of .ensures .0) (omega (arith, c .before .before .before .before .before .before .before .before .before .before .before .before .before .pre .1 .1)), c .before .before .before .before .before .before .before .before .before .before .before .before .before .pre .1 .1 .0 .2),
+          (rw (c .before .gate-of .ensures .0) (omega (arith, p .1 .1)), p .1 .1 .0 .2),
           λ d h.
-              gate-held known g (c .before .before .before .split-place .result) (c .before .before .before .split-place .ensures) (c .before .gate-of .result) (c .before .gate-of .ensures .0) _ _ (a .own .now) d
-              (c .before .before .before .before .before .before .before .before .before .before .before .before .before .pre .1 .1 .1 d g h (omega arith)),
+              gate-held known g (split-place .result) (split-place .ensures) (c .before .gate-of .result) (c .before .gate-of .ensures .0) _ _ (a .own .now) d
+              (p .1 .1 .1 d g h (omega arith)),
         ),
       ),
     )
 
--- src/lib.rt:342:9
-add-g : tie.Need-add-g Inv-loop μ-loop
-add-g c = omega arith
-
--- src/lib.rt:337:5
-loop-less : tie.Need-loop-less Inv-loop μ-loop
-loop-less c = omega arith
-
--- src/lib.rt:337:5
 loop-again : tie.Need-loop-again Inv-loop μ-loop
-loop-again c = let a = c .before .before .before .before .before .before .before .before .before .before .before .before .before .before .before .before .args in
+loop-again c =
+    let at = c .before .before .before .before .before .before .before .before .before .loop in
+    let p = c .before .before .before .before .before .before .before .before .before .before .before .before .before .before .before .before .pre in
+    let split-place = c .before .before .before .before .before .before .split-place in
+    let gate-of = c .before .before .before .before .gate-of in
+    let results-into = c .before .before .results-into in
+    let a = c .before .before .before .before .before .before .before .before .before .before .before .before .before .before .before .before .args in
     let known = a .t4 in
-    let g = c .before .before .before .before .before .before .before .before .before .loop .g in
+    let g = at .g in
     let opened : ℕ → ℕ = λ (o : ℕ). getD (a .opened .now) o 0 in
-    let later : known .round ≢ 1 = omega (arith, c .before .before .before .before .before .before .before .before .before .before .before .before .before .before .before .before .pre .1 .0) in (
+    let later : known .round ≢ 1 = omega (arith, p .1 .0) in (
       omega arith,
       λ masked made.
-          slots-more (λ (d k : ℕ). runningOn (publicBy (known .settings) masked) (known .round) opened (getD (a .weights .now) d 0) (column (a .work .now) d) (k % 2) (k / 2)) (c .before .before .before .before .before .before .before .before .before .loop .next)
+          slots-more (λ (d k : ℕ). runningOn (publicBy (known .settings) masked) (known .round) opened (getD (a .weights .now) d 0) (column (a .work .now) d) (k % 2) (k / 2)) (at .next)
           (length (a .weights .now)) g _
-          (omega (arith, c .before .before .before .before .before .before .before .before .before .before .before .before .before .before .before .before .pre .0 .0 .shape .most)) (omega (arith, c .before .before .before .before .before .before .before .before .before .before .before .before .before .before .before .before .pre .1, c .before .before .before .before .before .before .before .before .before .loop .inv .2))
-          (gate-register known masked made g (c .before .before .before .before .before .before .split-place .result) (omega arith) (c .before .before .before .before .before .before .split-place .ensures) (c .before .before .before .before .gate-of .result) (c .before .before .before .before .gate-of .ensures .0) later (c .before .before .before .before .before .before .before .before .before .before .before .before .before .before .before .before .pre .1 .0 .1)
-          (length (a .weights .now)) (λ (d : ℕ). getD (a .weights .now) d 0) (λ (d : ℕ). column (a .work .now) d) opened (c .before .before .before .before .before .before .before .before .before .loop .next) _ (c .before .before .results-into .ensures))
-          (c .before .before .before .before .before .before .before .before .before .loop .inv .1 masked made),
-      ap length (c .before .before .results-into .ensures) ∙ length-stride 16 _ _ _ _ ∙ c .before .before .before .before .before .before .before .before .before .loop .inv .2,
+          (omega (arith, p .0 .0 .shape .most)) (omega (arith, p .1, at .inv .2))
+          (gate-register known masked made g (split-place .result) (omega arith) (split-place .ensures) (gate-of .result) (gate-of .ensures .0) later (p .1 .0 .1)
+          (length (a .weights .now)) (λ (d : ℕ). getD (a .weights .now) d 0) (λ (d : ℕ). column (a .work .now) d) opened (at .next) _ (results-into .ensures))
+          (at .inv .1 masked made),
+      ap length (results-into .ensures) ∙ length-stride 16 _ _ _ _ ∙ at .inv .2,
     )
 
--- src/lib.rt:319:1
-same-length : tie.Need-same-length Inv-loop μ-loop
-same-length c = search needs
-
--- src/lib.rt:319:1
 returns : tie.Need-returns Inv-loop μ-loop
 returns c = λ masked made d k h l. c .before .before .loop .inv .1 masked made d k h (omega arith)
 
@@ -125,18 +111,18 @@ gate-registers-spec =
     (tie.spec
     Inv-loop
     μ-loop
-    sub-i
-    cast-i
+    (λ c. omega arith)
+    (λ c. omega arith)
     loop-holds
-    cast-if1
-    mul-if1
-    split-place-requires
+    (λ c. omega arith)
+    (λ c. omega arith)
+    (λ c κs. omega arith)
     mul-split
     element-copy-out-split
     gate-of-requires
     results-into-requires
-    add-g
-    loop-less
+    (λ c. omega arith)
+    (λ c. omega arith)
     loop-again
-    same-length
+    (λ c. search needs)
     returns)

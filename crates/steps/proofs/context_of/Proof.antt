@@ -3,12 +3,11 @@ use Prim.Native.Nat.{ℕ, _≤_, _<_, _-_}
 use mathlib.Core.Path.{_≡_, refl}
 use mathlib.Core.List.{[]}
 use native.Mathlib.Omega.{arith}
-use borrow.Author.Needs.{needs}
 use lib.ListN.{length, getD, length-set}
 use Rattle.settings.specs.Sets.{scaleOf}
 use Rattle.rounding.specs.declared.Split.{Split}
 use Rattle.rounding.specs.Digits.{splitOf}
-use Rattle.steps.specs.Context.{splitCount, numberAt}
+use Rattle.steps.specs.Context.{numberAt}
 use Rattle.steps.proofs.Contexts.{split-more}
 use Rattle.steps.proofs.context_of.Statement.{statement}
 use Rattle.steps.proofs.context_of.Tie as tie
@@ -26,12 +25,14 @@ loop-holds c = (omega arith, refl, λ y h. absurd (omega arith))
 
 loop-again : tie.Need-loop-again Inv-loop μ-loop
 loop-again c =
-    let settings = c .before .before .before .before .before .before .before .args .settings in
-    let split : ℕ → Split = λ (y : ℕ). splitOf (scaleOf (settings .shape .set)) (numberAt settings (λ (j : ℕ). getD (c .before .before .before .before .before .before .before .args .masked .now) j 0) y) in (
+    let a = c .before .before .before .before .before .before .before .args in
+    let at = c .before .before .before .loop in
+    let settings = a .settings in
+    let split : ℕ → Split = λ (y : ℕ). splitOf (scaleOf (settings .shape .set)) (numberAt settings (λ (j : ℕ). getD (a .masked .now) j 0) y) in (
       omega arith,
-      simp length-set (c .before .before .before .loop .inv .1),
-      split-more (c .before .before .before .loop .splits) split (c .before .before .before .loop .x) (c .split-number .result) (record { number = 0; digits = [] }) (omega arith)
-          (rw (c .split-number .ensures, c .before .number-at .ensures)) (c .before .before .before .loop .inv .2),
+      simp length-set (at .inv .1),
+      split-more (at .splits) split (at .x) (c .split-number .result) (record { number = 0; digits = [] }) (omega arith)
+          (rw (c .split-number .ensures, c .before .number-at .ensures)) (at .inv .2),
     )
 
 returns : tie.Need-returns Inv-loop μ-loop

@@ -1,16 +1,13 @@
+-- `steps::split_place` meets its contract. Assumes nothing.
 use Rattle.steps.specs.Context.{splitPlace}
 use borrow.Author.Tests.{eq-eqb, ne-eqb}
 use Rattle.steps.proofs.split_place.Statement.{statement}
 use Rattle.steps.proofs.split_place.Tie as tie
-use Rattle.steps.proofs.split_place.Reads as reads
-use Rattle.steps.proofs.split_place.Lts as lts
 
--- src/lib.rt:150:9
 returns : tie.Need-returns
 unfolding splitPlace
 returns c = rw (eq-eqb _ _ (c .if1 .taken))
 
--- src/lib.rt:146:1
 returns-2 : tie.Need-returns-2
 unfolding splitPlace
 returns-2 c = rw (ne-eqb _ _ (c .if1 .left))

@@ -1,20 +1,17 @@
+-- `steps::times` meets its contract. Assumes nothing.
 use native.Mathlib.Nat.{mul-le-mul}
-use Prim.Native.Nat.{_*_, _≤_}
+use Prim.Native.Nat.{_≤_}
 use mathlib.Core.Path.{refl}
 use native.Mathlib.Omega.{arith}
 use Rattle.steps.proofs.times.Statement.{statement}
 use Rattle.steps.proofs.times.Tie as tie
-use Rattle.steps.proofs.times.Reads as reads
-use Rattle.steps.proofs.times.Lts as lts
 
--- src/lib.rt:291:5
 mul-result : tie.Need-mul-result
 mul-result c = let h : c .args .a ≤ 8380416 = omega arith in
     let k : c .args .b ≤ 8589934591 = omega arith in
     let m = mul-le-mul h k in
     omega arith
 
--- src/lib.rt:287:1
 returns : tie.Need-returns
 returns c = let h : c .args .a ≤ 8380416 = omega arith in
     let k : c .args .b ≤ 8589934591 = omega arith in
