@@ -6,7 +6,7 @@ use native.Mathlib.Omega.{arith}
 use native.Mathlib.Numerals.{add-one}
 use lib.ListN.{length, getD, set, drop, length-set, take}
 use native.Mathlib.Nat.{zero-add, add-zero, add-suc, add-assoc, suc-add}
-use lib.Seq.{getD-set-same, getD-set-other, ext-getD, drop-set-lt, take-at}
+use lib.Seq.{getD-set-same, getD-set-other, ext-getD, drop-set-lt, set-comm, take-at}
 use native.Mathlib.Decide.{decLt}
 use Rattle.lists.specs.Lists.{fill, listTo, inFront}
 use Rattle.lists.proofs.Lists.{length-listFrom, getD-listTo, prefix-is, listTo-getD}
@@ -47,6 +47,14 @@ fill-at s i (suc n) f k r h = go (decLt k n) (λ p. fill-at s i n f k (omega ari
     go (no p) ih =
         let e : n ≡ k = omega arith in
         rw e (getD-set-same (fill s i k f) (i + k) (f k) 0 (omega (arith, length-fill s i k f)))
+
+-- a turn of a loop that stores f 0 last: one place in front of the run
+pub fill-first : (s : List ℕ) (i n : ℕ) (f g : ℕ → ℕ) → ((k : ℕ) → k < n → g k ≡ f (suc k)) → set (fill s (suc i) n g) i (f 0) ≡ fill s i (suc n) f
+unfolding fill
+fill-first s i zero f g e = rw (add-zero i)
+fill-first s i (suc n) f g e =
+    set-comm (fill s (suc i) n g) (suc i + n) i (g n) (f 0) (omega arith)
+    ∙ rw (fill-first s i n f g (λ k h. e k (omega arith)), e n (omega arith), suc-add i n, add-suc i n)
 
 -- ---- a run from place 0, with no `0 +` before an index
 

@@ -19,7 +19,7 @@ Bytes s = (j : ℕ) → getD s j 0 < 256
 
 -- ---- the number of a list in parts
 
-pow-byte : (n : ℕ) → 2 ^ (8 * suc n) ≡ 256 * 2 ^ (8 * n)
+pub pow-byte : (n : ℕ) → 2 ^ (8 * suc n) ≡ 256 * 2 ^ (8 * n)
 pow-byte n = rw (mul-suc 8 n, pow-add 2 (8 * n) 8) (mul-comm (2 ^ (8 * n)) 256)
 
 on-is : (x : ℕ) (s : List ℕ) → numberOn x s ≡ x * 2 ^ (8 * length s) + numberOf s

@@ -122,15 +122,17 @@ fn get_number(bytes: &[u8], first: usize, count: usize) -> u64
     x
 }
 
-// The `count` bytes of x, from place `first` on.
+// The `count` bytes of x, from place `first` on: the last first, so that each is what is left of x modulo 256.
 fn write_number(out: &mut [u8], first: usize, count: usize, x: u64)
     requires { ⌜ (first + count ≤ length (now out)) × (count ≤ 8) ⌝ }
     ensures { λ _. ⌜ now (out .exit) ≡ fill (now (out .entry)) first count (byteOf count x) ⌝ }
 {
-    let mut k = 0;
-    while k < count {
-        out[first + k] = ((x >> (8 * (count - 1 - k))) % 256) as u8;
-        k += 1;
+    let mut rest = x;
+    let mut k = count;
+    while k > 0 {
+        k -= 1;
+        out[first + k] = (rest % 256) as u8;
+        rest = rest / 256;
     }
 }
 
