@@ -127,17 +127,17 @@ pub fn context_of(settings: Settings, round: u32, masked: &[u32]) -> Context
         number: 0,
         digits: [0; 5],
     };
-    let mut splits = [none; 16];
-    let mut x = 0;
-    while x < count {
-        splits[x] = split_number(set, number_at(settings, masked, x));
-        x += 1;
-    }
-    Context {
+    let mut known = Context {
         settings,
         round,
-        splits,
+        splits: [none; 16],
+    };
+    let mut x = 0;
+    while x < count {
+        known.splits[x] = split_number(set, number_at(settings, masked, x));
+        x += 1;
     }
+    known
 }
 
 // ---- Gates. Who calls asks for a gate that there is, 0 to 2 N − 1, with its split number.

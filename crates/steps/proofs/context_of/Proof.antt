@@ -13,30 +13,33 @@ use Rattle.steps.proofs.context_of.Statement.{statement}
 use Rattle.steps.proofs.context_of.Tie as tie
 
 abbrev Inv-loop : tie.InvT-loop
-Inv-loop settings round masked set count splits₀ x₀ splits x =
-    (x ≤ count) × (length splits ≡ 16)
-    × ((y : ℕ) → y < x → getD splits y (record { number = 0; digits = [] }) ≡ splitOf (scaleOf (settings .shape .set)) (numberAt settings (λ (j : ℕ). getD masked j 0) y))
+Inv-loop settings round masked set count known₀ x₀ known x =
+    (x ≤ count) × (known .settings ≡ settings) × (known .round ≡ round) × (length (known .splits) ≡ 16)
+    × ((y : ℕ) → y < x → getD (known .splits) y (record { number = 0; digits = [] }) ≡ splitOf (scaleOf (settings .shape .set)) (numberAt settings (λ (j : ℕ). getD masked j 0) y))
 
 abbrev μ-loop : tie.MeasureT-loop
-μ-loop settings round masked set count splits₀ x₀ splits x = count - x
+μ-loop settings round masked set count known₀ x₀ known x = count - x
 
 loop-holds : tie.Need-loop-holds Inv-loop μ-loop
-loop-holds c = (omega arith, refl, λ y h. absurd (omega arith))
+loop-holds c = (omega arith, refl, refl, refl, λ y h. absurd (omega arith))
+
+number-at-requires : tie.Need-number-at-requires Inv-loop μ-loop
+number-at-requires c κs = (c .before .before .before .before .before .pre .0, omega arith)
 
 loop-again : tie.Need-loop-again Inv-loop μ-loop
 loop-again c =
-    let a = c .before .before .before .before .before .before .before .args in
-    let at = c .before .before .before .loop in
-    let settings = a .settings in
-    let split : ℕ → Split = λ (y : ℕ). splitOf (scaleOf (settings .shape .set)) (numberAt settings (λ (j : ℕ). getD (a .masked .now) j 0) y) in (
+    let settings = c .before .before .before .before .before .before .before .args .settings in
+    let split : ℕ → Split = λ (y : ℕ). splitOf (scaleOf (settings .shape .set)) (numberAt settings (λ (j : ℕ). getD (c .before .before .before .before .before .before .before .args .masked .now) j 0) y) in (
       omega arith,
-      simp length-set (at .inv .1),
-      split-more (at .splits) split (at .x) (c .split-number .result) (record { number = 0; digits = [] }) (omega arith)
-          (rw (c .split-number .ensures, c .before .number-at .ensures)) (at .inv .2),
+      c .before .before .before .loop .inv .1,
+      c .before .before .before .loop .inv .2,
+      simp length-set (c .before .before .before .loop .inv .3),
+      split-more (c .before .before .before .loop .known .splits) split (c .before .before .before .loop .x) (c .split-number .result) (record { number = 0; digits = [] }) (omega arith)
+          (rw (c .split-number .ensures, c .before .number-at .ensures)) (c .before .before .before .loop .inv .4),
     )
 
 returns : tie.Need-returns Inv-loop μ-loop
-returns c = record { settings-kept = refl; round-kept = refl; split = λ x h. c .before .loop .inv .2 x (omega arith) }
+returns c = record { settings-kept = c .before .loop .inv .1; round-kept = c .before .loop .inv .2; split = λ x h. c .before .loop .inv .4 x (omega arith) }
 
 pub context-of-spec : {M : Type 1} → statement M
 context-of-spec =
@@ -47,7 +50,7 @@ context-of-spec =
     (λ c. omega arith)
     (λ c κs. omega arith)
     loop-holds
-    (λ c κs. (c .before .before .before .before .before .pre .0, omega arith))
+    number-at-requires
     (λ c κs. omega arith)
     (λ c. omega arith)
     (λ c. omega arith)
