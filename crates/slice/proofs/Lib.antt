@@ -2,3 +2,4 @@
 pub mod Begun
 pub mod Kept
 pub mod Ranges
+pub mod Totals
