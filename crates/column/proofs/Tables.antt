@@ -3,7 +3,7 @@ use mathlib.Core.Path.{_≡_, refl, sym, ap, _∙_}
 use mathlib.Core.Logic.{_≢_}
 use mathlib.Core.Bool.{Bool, true, false, cond}
 use mathlib.Core.List.{List}
-use Prim.Native.Nat.{ℕ, zero, suc, _+_, _*_, _/_, _%_, _≤_, _<_}
+use Prim.Native.Nat.{ℕ, _+_, _*_, _/_, _%_, _≤_, _<_}
 use native.Mathlib.Decide.{decLt}
 use native.Mathlib.Nat.{add-comm}
 use native.Mathlib.Omega.{arith}
@@ -15,12 +15,6 @@ use Rattle.lists.specs.Lists.{fill, fillBy}
 use Rattle.lists.proofs.Fill.{fill-at, fill-before}
 use Rattle.lists.proofs.Strides.{stride-at, stride-other, length-stride}
 use Rattle.column.specs.Held.{columnAt, slot}
-
--- numbers that are the same, at equal distances
-pub stride-same : (step : ℕ) (s : List ℕ) (i n : ℕ) (f g : ℕ → ℕ) → ((k : ℕ) → k < n → f k ≡ g k) → fillBy step s i n f ≡ fillBy step s i n g
-unfolding fillBy
-stride-same step s i zero f g e = refl
-stride-same step s i (suc n) f g e = rw (stride-same step s i n f g (λ k h. e k (omega arith)), e n (omega arith))
 
 -- ---- A choice of columns
 

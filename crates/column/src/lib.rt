@@ -43,7 +43,7 @@ use steps::open_input;
 use steps::open_u;
 use steps::open_v;
 use steps::split_place;
-use steps::sum_values;
+use steps::sum_value;
 use steps::terms_of;
 
 // Columns of a working slice: the share's, and behind it those of parts from column 1 + skip on; `count` in all.
@@ -244,13 +244,12 @@ pub fn prepare(
 // The sum of a gate in all columns, at a place of each: what round 1 makes of digit 0.
 fn sums_into(next: &mut [u32], at: usize, work: &[u32], columns: usize, terms: Weighted)
     requires { ⌜ TermsFit terms ⌝ }
-    requires { ⌜ (at < 16) × (16 * columns ≤ length (now next)) × (columns ≡ width) × (columns * places ≤ length (now work)) ⌝ }
+    requires { ⌜ (at < 16) × (16 * columns ≤ length (now next)) × (columns * places ≤ length (now work)) ⌝ }
     ensures { λ _. ⌜ ((κ : ℕ → ℕ) → now (next .exit) ≡ fillBy 16 (now (next .entry)) at columns (λ (c : ℕ). value q (κ c) (column (now (work .entry)) c) (sumForm terms 0))) ⌝ }
 {
-    let sums = sum_values(work, terms);
     let mut c = 0;
     while c < columns {
-        next[at + 16 * c] = sums[c];
+        next[at + 16 * c] = sum_value(work, c, terms);
         c += 1;
     }
 }
@@ -265,7 +264,7 @@ fn results_into(
     opened: &[u32],
 )
     requires { ⌜ GateFits gate ⌝ }
-    requires { ⌜ (16 * length (now weights) ≤ length (now next)) × (length (now work) ≡ length (now weights) * places) × (mostOpenings * length (now weights) ≤ length (now own)) × (length (now weights) ≡ width) ⌝ }
+    requires { ⌜ (16 * length (now weights) ≤ length (now next)) × (length (now work) ≡ length (now weights) * places) × (mostOpenings * length (now weights) ≤ length (now own)) ⌝ }
     requires { ⌜ (4 * gate .j + 2 * gate .which + 1 < length (now opened)) × ((o : ℕ) → getD (now opened) o 0 < q) ⌝ }
     requires { ⌜ ((c : ℕ) → c < length (now weights)
         → (getD (now own) (mostOpenings * c + (4 * gate .j + 2 * gate .which)) 0 ≡ value q (getD (now weights) c 0) (column (now work) c) (openU gate))
@@ -280,8 +279,6 @@ fn results_into(
         u: opened[o],
         v: opened[o + 1],
     };
-    let terms = gate.terms;
-    let sums = sum_values(work, terms);
     let mut c = 0;
     while c < weights.len() {
         let col = Column {
@@ -292,7 +289,7 @@ fn results_into(
             u: own[MOST_OPENINGS * c + o],
             v: own[MOST_OPENINGS * c + (o + 1)],
         };
-        next[at + 16 * c] = gate_value(work, col, gate, sums[c], mine, joined);
+        next[at + 16 * c] = gate_value(work, col, gate, mine, joined);
         c += 1;
     }
 }
@@ -300,7 +297,7 @@ fn results_into(
 // Round 1.
 fn first_registers(next: &mut [u32], work: &[u32], columns: usize, known: Context)
     requires { ⌜ Ready (known .settings) × SplitsBelow known ⌝ }
-    requires { ⌜ (known .round ≡ 1) × (16 * columns ≤ length (now next)) × (columns * places ≤ length (now work)) × (columns ≡ width) ⌝ }
+    requires { ⌜ (known .round ≡ 1) × (16 * columns ≤ length (now next)) × (columns * places ≤ length (now work)) ⌝ }
     ensures { λ _. ⌜ ((masked opened : ℕ → ℕ) (κs : List ℕ) → length κs ≡ columns → ContextOf (known .settings) (known .round) masked known
         → RegistersHeld (publicBy (known .settings) masked) (known .round) opened κs (now (work .entry)) (2 * known .settings .shape .n) (now (next .exit))) ⌝ }
 {
@@ -325,7 +322,7 @@ fn gate_registers(
     opened: &[u32],
 )
     requires { ⌜ Ready (known .settings) × SplitsBelow known ⌝ }
-    requires { ⌜ (2 ≤ known .round) × (known .round ≤ 5) × (16 * length (now weights) ≤ length (now next)) × (length (now work) ≡ length (now weights) * places) × (length (now weights) ≡ width) ⌝ }
+    requires { ⌜ (2 ≤ known .round) × (known .round ≤ 5) × (16 * length (now weights) ≤ length (now next)) × (length (now work) ≡ length (now weights) * places) ⌝ }
     requires { ⌜ (mostOpenings * length (now weights) ≤ length (now own)) × (4 * known .settings .shape .n ≤ length (now opened)) × ((o : ℕ) → getD (now opened) o 0 < q) ⌝ }
     requires { ⌜ GatesHeld known (now weights) (now work) (now own) ⌝ }
     ensures { λ _. ⌜ ((masked : ℕ → ℕ) → ContextOf (known .settings) (known .round) masked known
@@ -477,7 +474,7 @@ fn registers_into(
     opened: &[u32],
 )
     requires { ⌜ Ready (known .settings) ⌝ }
-    requires { ⌜ (1 ≤ known .round) × (length (now work) ≡ length (now weights) * places) × (allBelow q (now work) ≡ true) × (length (now weights) ≡ width) ⌝ }
+    requires { ⌜ (1 ≤ known .round) × (length (now work) ≡ length (now weights) * places) × (allBelow q (now work) ≡ true) ⌝ }
     requires { ⌜ (mostOpenings * length (now weights) ≤ length (now own)) × (16 * length (now weights) ≤ length (now next)) ⌝ }
     requires { ⌜ (openings (paramsOf (known .settings .shape)) (known .round) ≤ length (now opened)) × ((o : ℕ) → getD (now opened) o 0 < q) ⌝ }
     requires { ⌜ ContextOf (known .settings) (known .round) (maskedIn (now work)) known ⌝ }
@@ -508,7 +505,7 @@ fn registers_into(
 // it has prepared `own`. All registers are worked out before any is written: each reads the slice as it was.
 pub fn take_work(work: &mut [u32], known: Context, opened: &[u32], own: &[u32], weights: &[u32])
     requires { ⌜ Ready (known .settings) ⌝ }
-    requires { ⌜ (1 ≤ known .round) × (1 ≤ length (now weights)) × (length (now weights) ≡ width) × (length (now work) ≡ length (now weights) * places) × (allBelow q (now work) ≡ true) ⌝ }
+    requires { ⌜ (1 ≤ known .round) × (1 ≤ length (now weights)) × (length (now weights) ≤ width) × (length (now work) ≡ length (now weights) * places) × (allBelow q (now work) ≡ true) ⌝ }
     requires { ⌜ (mostOpenings * length (now weights) ≤ length (now own)) × (openings (paramsOf (known .settings .shape)) (known .round) ≤ length (now opened)) × ((o : ℕ) → getD (now opened) o 0 < q) ⌝ }
     requires { ⌜ ContextOf (known .settings) (known .round) (maskedIn (now work)) known ⌝ }
     requires { ⌜ HeldAll (publicBy (known .settings) (maskedIn (now work))) (known .round) (now weights) (now work) (now own) ⌝ }

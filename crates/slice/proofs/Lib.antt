@@ -2,4 +2,3 @@
 pub mod Begun
 pub mod Kept
 pub mod Ranges
-pub mod Totals

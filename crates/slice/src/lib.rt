@@ -242,69 +242,12 @@ fn zero_entry(b: u32, d: u32) -> usize
     (b - d) as usize
 }
 
-// ---- The same sums in all columns, by one loop over the entries: how many it goes through depends on a digit
-
-// Register i of each column added to the column's total.
-fn add_registers(totals: &mut [u64], work: &[u32], i: usize)
-    requires { ⌜ (length (now totals) ≡ width) × (width * places ≤ length (now work)) × (i < ownAt 0) × ((c : ℕ) → c < width → getD (now totals) c 0 ≤ 274877906944) ⌝ }
-    ensures { λ _. ⌜ ((c : ℕ) → c < width → (getD (now (totals .exit)) c 0 ≡ getD (now (totals .entry)) c 0 + column (now (work .entry)) c i)
-        × (getD (now (totals .exit)) c 0 ≤ getD (now (totals .entry)) c 0 + 4294967295)) ⌝ }
-{
-    let mut c = 0;
-    while c < WIDTH {
-        totals[c] = totals[c] + register(work, c, i) as u64;
-        c += 1;
-    }
-}
-
-// The totals modulo q.
-fn reduce_totals(totals: &[u64]) -> [u32; WIDTH]
-    requires { ⌜ length (now totals) ≡ width ⌝ }
-    ensures { λ r. ⌜ ((c : ℕ) → c < width → getD r c 0 ≡ getD (now (totals .entry)) c 0 % q) ⌝ }
-{
-    let mut reduced = [0u32; WIDTH];
-    let mut c = 0;
-    while c < WIDTH {
-        reduced[c] = (totals[c] % Q64) as u32;
-        c += 1;
-    }
-    reduced
-}
-
-// Entries `from` to `to` of the vector at a place, each once.
-fn part_sums(work: &[u32], place: usize, from: usize, to: usize) -> [u32; WIDTH]
-    requires { ⌜ (width * places ≤ length (now work)) × (place + to ≤ ownAt 0) × (to ≤ 64) × (from ≤ 64) ⌝ }
-    ensures { λ r. ⌜ ((c : ℕ) → c < width → getD r c 0 ≡ sumTo (to - from) (λ (x : ℕ). column (now (work .entry)) c (place + (from + x))) % q) ⌝ }
-{
-    let mut totals = [0u64; WIDTH];
-    let mut j = from;
-    while j < to {
-        add_registers(&mut totals, work, place + j);
-        j += 1;
-    }
-    reduce_totals(&totals)
-}
-
-// The n entries of the vector at a place, entry x times t(x + d).
-fn top_sums(work: &[u32], place: usize, n: usize, s: u32, d: u32) -> [u32; WIDTH]
-    requires { ⌜ (width * places ≤ length (now work)) × (place + n ≤ ownAt 0) × (n ≤ 64) × (d ≤ 65536) ⌝ }
-    ensures { λ r. ⌜ ((c : ℕ) → c < width → getD r c 0 ≡ sumTo n (λ (x : ℕ). top s (x + d) * column (now (work .entry)) c (place + x)) % q) ⌝ }
-{
-    let mut sums = [0u32; WIDTH];
-    let mut c = 0;
-    while c < WIDTH {
-        sums[c] = top_sum(work, c, place, n, s, d);
-        c += 1;
-    }
-    sums
-}
-
-// The entries of the vector, each times its weight by the rule. But for Top's, weights are 0 or 1: the sums go through the entries
+// The entries of the vector, each times its weight by the rule. But for Top's, weights are 0 or 1: the sum goes through the entries
 // of weight 1 alone.
-pub fn weighted_sums(work: &[u32], terms: Weighted) -> [u32; WIDTH]
-    requires { ⌜ (width * places ≤ length (now work)) × (terms .place + terms .n ≤ ownAt 0) × (terms .n ≤ 64) × (1 ≤ terms .limit) × (terms .limit ≤ 45) × (terms .digit ≤ 65536) ⌝ }
+pub fn weighted_sum(work: &[u32], col: usize, terms: Weighted) -> u32
+    requires { ⌜ ((col + 1) * places ≤ length (now work)) × (terms .place + terms .n ≤ ownAt 0) × (terms .n ≤ 64) × (1 ≤ terms .limit) × (terms .limit ≤ 45) × (terms .digit ≤ 65536) ⌝ }
     requires { ⌜ (terms .rule ≡ Zero → (terms .n ≡ terms .limit) × (terms .digit ≤ terms .limit)) ⌝ }
-    ensures { λ r. ⌜ ((c : ℕ) → c < width → (κ : ℕ) → getD r c 0 ≡ value q κ (column (now (work .entry)) c) (sum (terms .n) (terms .place) (weigh (terms .rule) (terms .limit) (terms .digit)))) ⌝ }
+    ensures { λ r. ⌜ ((κ : ℕ) → r ≡ value q κ (column (now (work .entry)) col) (sum (terms .n) (terms .place) (weigh (terms .rule) (terms .limit) (terms .digit)))) ⌝ }
 {
     let rule = terms.rule;
     let place = terms.place;
@@ -312,18 +255,13 @@ pub fn weighted_sums(work: &[u32], terms: Weighted) -> [u32; WIDTH]
     let b = terms.limit;
     let d = terms.digit;
     match rule {
-        Rule::Carry => part_sums(work, place, less_by(b, d) as usize, n),
-        Rule::Zero => {
-            let entry = zero_entry(b, d);
-            part_sums(work, place, entry, entry + 1)
-        }
-        Rule::Top => top_sums(work, place, n, b, d),
-        Rule::Over => part_sums(work, place, less_by(b + 1, d) as usize, n),
-        Rule::Below => part_sums(work, place, 0, least(d as usize, n)),
+        Rule::Carry => part_sum(work, col, place, less_by(b, d) as usize, n),
+        Rule::Zero => register(work, col, place + zero_entry(b, d)) % Q,
+        Rule::Top => top_sum(work, col, place, n, b, d),
+        Rule::Over => part_sum(work, col, place, less_by(b + 1, d) as usize, n),
+        Rule::Below => part_sum(work, col, place, 0, least(d as usize, n)),
     }
 }
-
-// ---- Differences of sums
 
 // An entry of the vector of n at a place, or 0 behind its end.
 fn entry_at(work: &[u32], col: usize, place: usize, n: usize, x: usize) -> u32

@@ -12,7 +12,7 @@ ghost use Rattle.field.specs.Forms.{value, Form, reg, num, _⊟_, _⊞_, _⊠_}
 ghost use Rattle.settings.specs.Sets.{scaleOf, base};
 ghost use Rattle.settings.specs.Settings.{paramsOf, termsOf};
 ghost use Rattle.settings.specs.Questions.{Ready, ShapeReady};
-ghost use Rattle.settings.specs.Sizes.{width, places};
+ghost use Rattle.settings.specs.Sizes.{places};
 ghost use Rattle.rounding.specs.Rounds.{threshold};
 ghost use Rattle.book.specs.Book.{groupK, groupGap, groupAt};
 ghost use Rattle.slice.specs.Layout.{runningAt, column};
@@ -34,7 +34,6 @@ use rounding::Split;
 use rounding::split_number;
 use settings::Settings;
 use settings::Shape;
-use settings::WIDTH;
 use settings::alpha_of;
 use settings::base_of;
 use settings::parts_of;
@@ -45,7 +44,7 @@ use slice::SECOND;
 use slice::Weighted;
 use slice::raised_by;
 use slice::register;
-use slice::weighted_sums;
+use slice::weighted_sum;
 
 // What both sides know in a round: the settings, the round's number, and the numbers whose digits its gates look at, each split in its
 // five digits: HIGH, y of each coefficient; BOUND, hi and lo of each coefficient in turn. All of it follows from the settings and from what
@@ -216,28 +215,29 @@ pub fn gate_of(shape: Shape, split: Split, g: usize, i: usize) -> Gate
 
 // ---- A gate on one column. No public number is added to addend, u and v: the weight does not matter.
 
-// The gate's sum in all columns: in round 1 what digit 0 gives, later part of the addend.
-pub fn sum_values(work: &[u32], terms: Weighted) -> [u32; WIDTH]
+// The gate's sum alone: what round 1 makes of digit 0.
+pub fn sum_value(work: &[u32], col: usize, terms: Weighted) -> u32
     requires { ⌜ TermsFit terms ⌝ }
-    requires { ⌜ width * places ≤ length (now work) ⌝ }
-    ensures { λ r. ⌜ ((c : ℕ) → c < width → (κ : ℕ) → getD r c 0 ≡ value q κ (column (now (work .entry)) c) (sumForm terms 0)) ⌝ }
+    requires { ⌜ (col + 1) * places ≤ length (now work) ⌝ }
+    ensures { λ r. ⌜ ((κ : ℕ) → r ≡ value q κ (column (now (work .entry)) col) (sumForm terms 0)) ⌝ }
 {
-    weighted_sums(work, terms)
+    weighted_sum(work, col, terms)
 }
 
-// The addend, by the gate's sum.
-fn addend_value(work: &[u32], col: usize, gate: Gate, sum: u32) -> u32
+fn addend_value(work: &[u32], col: usize, gate: Gate) -> u32
     requires { ⌜ GateFits gate ⌝ }
     requires { ⌜ (col + 1) * places ≤ length (now work) ⌝ }
-    ensures { λ r. ⌜ ((κ : ℕ) → sum ≡ value q κ (column (now (work .entry)) col) (sumForm (gate .terms) 0) → r ≡ value q κ (column (now (work .entry)) col) (addendForm gate)) ⌝ }
+    ensures { λ r. ⌜ ((κ : ℕ) → r ≡ value q κ (column (now (work .entry)) col) (addendForm gate)) ⌝ }
 {
+    let terms = gate.terms;
+    let a = sum_value(work, col, terms);
     if gate.kind == 0 {
         if gate.which == 1 {
-            return add_mod(register(work, col, SECOND + gate.j), sum);
+            return add_mod(register(work, col, SECOND + gate.j), a);
         }
-        return sum;
+        return a;
     }
-    sum
+    a
 }
 
 fn u_value(work: &[u32], col: usize, gate: Gate) -> u32
@@ -299,27 +299,19 @@ pub struct Factors {
 
 // addend + e × v + f × u + third − e × f, e and f the opened numbers. u and v are not worked out again: they are this side's own numbers for
 // the two openings, with a and b added. Only the end is reduced.
-pub fn gate_value(
-    work: &[u32],
-    col: Column,
-    gate: Gate,
-    sum: u32,
-    own: Factors,
-    opened: Factors,
-) -> u32
+pub fn gate_value(work: &[u32], col: Column, gate: Gate, own: Factors, opened: Factors) -> u32
     requires { ⌜ GateFits gate ⌝ }
     requires { ⌜ ((col .index + 1) * places ≤ length (now work)) × (opened .u < q) × (opened .v < q) ⌝ }
-    requires { ⌜ sum ≡ value q (col .weight) (column (now work) (col .index)) (sumForm (gate .terms) 0) ⌝ }
     requires { ⌜ (own .u ≡ value q (col .weight) (column (now work) (col .index)) (openU gate)) × (own .v ≡ value q (col .weight) (column (now work) (col .index)) (openV gate)) ⌝ }
     ensures { λ r. ⌜ r ≡ value q (col .weight) (column (now (work .entry)) (col .index)) (resultForm gate (opened .u) (opened .v)) ⌝ }
 {
-    let addend = addend_value(work, col.index, gate, sum);
+    let addend = addend_value(work, col.index, gate);
     let u = own.u as u64 + register(work, col.index, gate.triple) as u64;
     let v = own.v as u64 + register(work, col.index, gate.triple + 1) as u64;
     let third = register(work, col.index, gate.triple + 2);
-    let total = addend as u64 + times(opened.u, v) + times(opened.v, u) + third as u64;
+    let sum = addend as u64 + times(opened.u, v) + times(opened.v, u) + third as u64;
     let product = mul_mod(col.weight, mul_mod(opened.u, opened.v));
-    ((total + (Q64 - product as u64)) % Q64) as u32
+    ((sum + (Q64 - product as u64)) % Q64) as u32
 }
 
 // ---- What else is opened

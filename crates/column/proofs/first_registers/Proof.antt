@@ -56,7 +56,7 @@ sums-into-requires : tie.Need-sums-into-requires Inv-loop μ-loop
 sums-into-requires c κs =
     let p = c .before .before .before .before .before .before .before .before .before .before .pre in
     let at = c .before .before .before .before .before .before .loop in
-    (c .before .terms-of .ensures .1, (omega (arith, p .0 .0 .shape .most), omega (arith, p .1, at .inv .2), p .1 .3, omega (arith, p .1)))
+    (c .before .terms-of .ensures .1, (omega (arith, p .0 .0 .shape .most), omega (arith, p .1, at .inv .2), omega (arith, p .1)))
 
 loop-again : tie.Need-loop-again Inv-loop μ-loop
 loop-again c =

@@ -29,7 +29,7 @@ first-registers-requires c κs =
         rw (made .settings-kept) (p .0),
         splits-below (a .known .settings) (a .known .round) (λ (j : ℕ). getD (a .opened .now) j 0) (c .context-of .result) (p .0 .shape .sets) (p .1 .1 .1 .0 .1) made,
       ),
-      (rw (made .round-kept) (if1 .taken), omega (arith, p .1 .1 .0), omega (arith, p .1 .0), p .1 .0 .3),
+      (rw (made .round-kept) (if1 .taken), omega (arith, p .1 .1 .0), omega (arith, p .1 .0)),
     )
 
 returns : tie.Need-returns
@@ -48,7 +48,7 @@ gate-registers-requires c κs =
     let made = p .1 .1 .1 .1 .0 in (
       (p .0, held-below (a .work .now) (p .1 .0 .2) (known .settings) (known .round) known (p .0 .shape .sets) made),
       (
-        (omega (arith, if1 .left, p .1 .0), c .before .if2 .taken, omega (arith, p .1 .1 .0), p .1 .0 .1, p .1 .0 .3),
+        (omega (arith, if1 .left, p .1 .0), c .before .if2 .taken, omega (arith, p .1 .1 .0), p .1 .0 .1),
         (
           (p .1 .1 .0 .0, omega (arith, open-middle (paramsOf (known .settings .shape)) (known .round) (if1 .left) (c .before .if2 .taken), p .1 .1 .1 .0 .0), p .1 .1 .1 .0 .1),
           gates-held known (maskedIn (a .work .now)) (a .weights .now) (a .work .now) (a .own .now) made (if1 .left) (c .before .if2 .taken) (p .1 .1 .1 .1 .1),

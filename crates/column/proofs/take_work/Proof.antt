@@ -13,7 +13,7 @@ use Rattle.column.proofs.take_work.Tie as tie
 
 registers-into-requires : tie.Need-registers-into-requires
 registers-into-requires c κs = let p = c .before .before .before .before .before .before .before .pre in
-    (p .0, ((p .1 .0 .0, p .1 .0 .3, p .1 .0 .4, p .1 .0 .2), ((p .1 .1 .0 .0, omega arith), ((p .1 .1 .0 .1, p .1 .1 .0 .2), (p .1 .1 .1 .0, p .1 .1 .1 .1)))))
+    (p .0, ((p .1 .0 .0, p .1 .0 .3, p .1 .0 .4), ((p .1 .1 .0 .0, omega arith), ((p .1 .1 .0 .1, p .1 .1 .0 .2), (p .1 .1 .1 .0, p .1 .1 .1 .1)))))
 
 copy-numbers-requires : tie.Need-copy-numbers-requires
 copy-numbers-requires c κs =

@@ -21,18 +21,9 @@ returns c =
     let a = c .before .before .before .before .before .before .before .before .before .before .before .before .before .args in
     let κ = a .col .weight in
     let r = column (a .work .now) (a .col .index) in
-    rw (
-      c .mul-mod2 .ensures,
-      c .before .mul-mod .ensures,
-      times .ensures .0,
-      times2 .ensures .0,
-      register .ensures,
-      register2 .ensures,
-      register3 .ensures,
-      addend-value .ensures κ (p .1 .1 .0),
-    )
+    rw (c .mul-mod2 .ensures, c .before .mul-mod .ensures, times .ensures .0, times2 .ensures .0, register .ensures, register2 .ensures, register3 .ensures, addend-value .ensures κ)
     (gate-sum (value q κ r (addendForm (a .gate))) (value q κ r (uForm (a .gate))) (value q κ r (vForm (a .gate))) (r (a .gate .triple + 2)) (a .opened .u) (a .opened .v) κ
-    (r (a .gate .triple)) (r (a .gate .triple + 1)) (a .own .u) (a .own .v) (p .1 .1 .1 .0) (p .1 .1 .1 .1))
+    (r (a .gate .triple)) (r (a .gate .triple + 1)) (a .own .u) (a .own .v) (p .1 .1 .0) (p .1 .1 .1))
 
 pub gate-value-spec : {M : Type 1} → statement M
 gate-value-spec =
