@@ -12,18 +12,50 @@ pub const Q64: u64 = 8380417;
 // The least multiple of q above every u32: with it added, a difference of two of them is not below 0, and is the same modulo q.
 const ABOVE: u64 = 513 * Q64;
 
-// a + b modulo q.
-pub fn add_mod(a: u32, b: u32) -> u32
+// a + b modulo q, of any two numbers.
+fn add_any(a: u32, b: u32) -> u32
     ensures { λ r. ⌜ r ≡ add q a b ⌝ }
 {
     ((a as u64 + b as u64) % Q64) as u32
 }
 
-// a - b modulo q.
-pub fn sub_mod(a: u32, b: u32) -> u32
+// a + b modulo q. Two numbers below q, as all that a side adds are, need no division.
+pub fn add_mod(a: u32, b: u32) -> u32
+    ensures { λ r. ⌜ r ≡ add q a b ⌝ }
+{
+    if a >= Q {
+        return add_any(a, b);
+    }
+    if b >= Q {
+        return add_any(a, b);
+    }
+    if a + b < Q {
+        return a + b;
+    }
+    a + b - Q
+}
+
+// a - b modulo q, of any two numbers.
+fn sub_any(a: u32, b: u32) -> u32
     ensures { λ r. ⌜ r ≡ sub q a b ⌝ }
 {
     ((a as u64 + ABOVE - b as u64) % Q64) as u32
+}
+
+// a - b modulo q. Two numbers below q need no division here either.
+pub fn sub_mod(a: u32, b: u32) -> u32
+    ensures { λ r. ⌜ r ≡ sub q a b ⌝ }
+{
+    if a >= Q {
+        return sub_any(a, b);
+    }
+    if b >= Q {
+        return sub_any(a, b);
+    }
+    if a < b {
+        return a + Q - b;
+    }
+    a - b
 }
 
 // a × b modulo q.

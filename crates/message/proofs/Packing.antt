@@ -7,7 +7,7 @@ use native.Mathlib.Omega.{arith}
 use native.Mathlib.Decide.{decLt}
 use lib.Dec.{lit<}
 use lib.Arith.{digits-lt}
-use lib.Pow.{pow-add, pow-pos, pow-mono, shl-exact, shl-lt, shr-lt, shr-shr, shl-shr, split, high, field}
+use lib.Pow.{pow-add, pow-pos, pow-mono, shl-exact, shl-lt, shr-shr, shl-shr, split, high, field}
 use lib.ListN.{length, getD, drop, List·getD-eq-default}
 use lib.Seq.{ext-getD, drop-append-add, drop-drop}
 use Rattle.lists.specs.Lists.{listFrom, listTo, fill, inFront}
@@ -138,17 +138,7 @@ module _ (s : List ℕ) (bytes : Bytes s) (at w x : ℕ) (some : 1 ≤ w) (small
   whole = byteOf m ((v * 2 ^ w + x) * 2 ^ padding (at + w))
 
   abbrev stored : ℕ → ℕ
-  stored = byteOf n ((getD s (at / 8) 0 / 2 ^ (8 - at % 8) * 2 ^ w + x) * 2 ^ p)
-
-  -- the bits of the byte that the first `at` bits fill in part
-  head-is : v % 2 ^ (at % 8) ≡ getD s (at / 8) 0 / 2 ^ (8 - at % 8)
-  head-is =
-      let u = at % 8 in
-      let k = 8 - at % 8 in
-      let e : u + k ≡ 8 = omega arith in
-      let i : at + k ≡ 8 * suc (at / 8) = omega arith in
-      rw (first-less s at k (omega arith), ← field (firstBits s (at + k)) u k, e, i)
-      (ap (λ (y : ℕ). y / 2 ^ k) (byte-is s bytes (at / 8) (omega arith)))
+  stored = byteOf n ((v % 2 ^ (at % 8) * 2 ^ w + x) * 2 ^ p)
 
   -- a byte before the field
   before : (j : ℕ) → j < at / 8 → getD s j 0 ≡ whole j
@@ -169,7 +159,7 @@ module _ (s : List ℕ) (bytes : Bytes s) (at w x : ℕ) (some : 1 ≤ w) (small
       let u = at % 8 in
       let apart : (v * 2 ^ w + x) * 2 ^ p ≡ v / 2 ^ u * 2 ^ (8 * n) + (v % 2 ^ u * 2 ^ w + x) * 2 ^ p =
       ap (λ (y : ℕ). (y * 2 ^ w + x) * 2 ^ p) (sym (split v u)) ∙ regroup (v / 2 ^ u) (v % 2 ^ u) x u w p (8 * n) (filled u w) in
-      rw (← head-is, behind-same at w j l h, pad-local at w, apart)
+      rw (behind-same at w j l h, pad-local at w, apart)
       (sym (low-field (v / 2 ^ u) ((v % 2 ^ u * 2 ^ w + x) * 2 ^ p) (8 * n) (8 * (j - at / 8)) 8 (8 * (m - 1 - j)) (behind-sum at w j l h)))
 
   pub put-local : fill s (at / 8) n stored ≡ putBits s at w x
@@ -190,37 +180,35 @@ module _ (s : List ℕ) (bytes : Bytes s) (at w x : ℕ) (some : 1 ≤ w) (small
           fill-behind s (at / 8) n stored j (omega (arith, bytes-local at w))
           ∙ sym (front-behind s m whole j (omega arith))
 
--- ---- the code's shifts lose no bit: b is the byte that is filled in part, u of its bits are used, v is the field
+-- ---- the code's shifts lose no bit: a has u bits, v is the field
 
-module _ (b u v w : ℕ) (hb : b < 256) (hu : u < 8) (hv : v < 2 ^ w) (hw : w ≤ 32) where
-  head-lt : b / 2 ^ (8 - u) < 2 ^ u
-  head-lt =
-      let e : u + (8 - u) ≡ 8 = omega arith in
-      shr-lt u (8 - u) (rw e hb)
+module _ (a u v w : ℕ) (ha : a < 2 ^ u) (hu : u < 8) (hv : v < 2 ^ w) (hw : w ≤ 32) where
+  join-lt : a * 2 ^ w + v < 2 ^ (u + w)
+  join-lt = rw (pow-add 2 u w) (digits-lt ha hv)
 
-  join-lt : b / 2 ^ (8 - u) * 2 ^ w + v < 2 ^ (u + w)
-  join-lt = rw (pow-add 2 u w) (digits-lt head-lt hv)
+  head-exact : a * 2 ^ w % 2 ^ 64 ≡ a * 2 ^ w
+  head-exact = shl-exact u w 64 ha (omega arith)
 
-  head-exact : b / 2 ^ (8 - u) * 2 ^ w % 2 ^ 64 ≡ b / 2 ^ (8 - u) * 2 ^ w
-  head-exact = shl-exact u w 64 head-lt (omega arith)
-
-  pub sum-small : b / 2 ^ (8 - u) * 2 ^ w % 2 ^ 64 + v < 2 ^ 40
+  pub sum-small : a * 2 ^ w % 2 ^ 64 + v < 2 ^ 40
   sum-small = rw head-exact (lt-of-lt-of-le join-lt (pow-mono {i = u + w} {j = 40} (omega arith)))
 
-  exact : (b / 2 ^ (8 - u) * 2 ^ w % 2 ^ 64 + v) * 2 ^ (8 * bytesFor (u + w) - u - w) % 2 ^ 64 ≡ (b / 2 ^ (8 - u) * 2 ^ w + v) * 2 ^ padding (u + w)
+  exact : (a * 2 ^ w % 2 ^ 64 + v) * 2 ^ (8 * bytesFor (u + w) - u - w) % 2 ^ 64 ≡ (a * 2 ^ w + v) * 2 ^ padding (u + w)
   exact =
       let e : 8 * bytesFor (u + w) - u - w ≡ padding (u + w) = omega arith in
       rw (e, head-exact) (shl-exact (u + w) (padding (u + w)) 64 join-lt (omega arith))
 
--- what the code stores, with b the byte that it read
+-- the bits before the field in its first byte
+pub head-lt : (s : List ℕ) (at a : ℕ) → a ≡ firstBits s at % 2 ^ (at % 8) → a < 2 ^ (at % 8)
+head-lt s at a e = rw e (mod-lt _ (pow-pos (at % 8)))
+
+-- what the code stores, with a the bits before the field in its first byte
 pub put-is :
-    (s : List ℕ) → Bytes s → (at w x b : ℕ) (t : List ℕ) → 1 ≤ w → w ≤ 32 → x < 2 ^ w → at + w ≤ 8 * length s → b ≡ getD s (at / 8) 0 →
-    (let n = bytesFor (at % 8 + w) in t ≡ fill s (at / 8) n (byteOf n ((b / 2 ^ (8 - at % 8) * 2 ^ w % 2 ^ 64 + x) * 2 ^ (8 * n - at % 8 - w) % 2 ^ 64))) →
+    (s : List ℕ) → Bytes s → (at w x a : ℕ) (t : List ℕ) → 1 ≤ w → w ≤ 32 → x < 2 ^ w → at + w ≤ 8 * length s → a ≡ firstBits s at % 2 ^ (at % 8) →
+    (let n = bytesFor (at % 8 + w) in t ≡ fill s (at / 8) n (byteOf n ((a * 2 ^ w % 2 ^ 64 + x) * 2 ^ (8 * n - at % 8 - w) % 2 ^ 64))) →
     t ≡ putBits s at w x
-put-is s bytes at w x b t some few small room read stored =
+put-is s bytes at w x a t some few small room kept stored =
     let n = bytesFor (at % 8 + w) in
-    let d = getD s (at / 8) 0 in
     stored
-    ∙ ap (λ (a : ℕ). fill s (at / 8) n (byteOf n ((a / 2 ^ (8 - at % 8) * 2 ^ w % 2 ^ 64 + x) * 2 ^ (8 * n - at % 8 - w) % 2 ^ 64))) read
-    ∙ ap (λ (y : ℕ). fill s (at / 8) n (byteOf n y)) (exact d (at % 8) x w (bytes (at / 8)) (omega arith) small few)
+    ∙ ap (λ (y : ℕ). fill s (at / 8) n (byteOf n y)) (exact a (at % 8) x w (head-lt s at a kept) (omega arith) small few)
+    ∙ ap (λ (y : ℕ). fill s (at / 8) n (byteOf n ((y * 2 ^ w + x) * 2 ^ padding (at % 8 + w)))) kept
     ∙ put-local s bytes at w x some small room

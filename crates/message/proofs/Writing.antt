@@ -3,7 +3,7 @@ use mathlib.Core.Path.{_≡_, refl, sym, ap, _∙_}
 use mathlib.Core.Bool.{true}
 use mathlib.Core.List.{List, [], _∷_, _++_}
 use Prim.Native.Nat.{ℕ, zero, suc, _+_, _-_, _*_, _%_, _/_, _^_, _≤_, _<_}
-use native.Mathlib.Nat.{add-zero, mul-one}
+use native.Mathlib.Nat.{add-zero, mul-one, mul-assoc, mul-add-mod-self-right}
 use native.Mathlib.Numerals.{add-one}
 use native.Mathlib.Omega.{arith}
 use lib.Dec.{lit<}
@@ -82,6 +82,19 @@ module _ (s : List ℕ) (bytes : Bytes s) where
       let m : 64 + 23 * (i + 1) ≡ 64 + 23 * i + 23 = omega arith in
       rw (m, add-one i, behind-more (firstBits s headerBits) fs i l)
       (put-packed s bytes (64 + 23 * i) 23 x (getD fs i 0) (behind-lt (firstBits s headerBits) 64 fs e (first-lt s bytes 64 h) i (omega arith)))
+
+  -- the last bits of field i are those that the first i + 1 fields leave in a byte
+  pub put-head :
+      (fs : List ℕ) → allBelow (2 ^ fieldBits) fs ≡ true → headerBits ≤ 8 * length s → (i u : ℕ) → i < length fs → u < 8
+      → getD fs i 0 % 2 ^ u ≡ firstBits (putTo s fs (i + 1)) (64 + 23 * (i + 1)) % 2 ^ u
+  put-head fs e h i u l small =
+      let x = firstBits s headerBits in
+      let first = first-front s bytes (64 + 23 * suc i) (fieldsBehind x (take (suc i) fs)) (behind-lt x 64 fs e (first-lt s bytes 64 h) (suc i) l) in
+      let b = fieldsBehind x (take i fs) in
+      let k : 23 ≡ 23 - u + u = omega arith in
+      let apart : b * 2 ^ 23 ≡ b * 2 ^ (23 - u) * 2 ^ u =
+      ap (λ (m : ℕ). b * 2 ^ m) k ∙ ap (λ (y : ℕ). b * y) (pow-add 2 (23 - u) u) ∙ sym (mul-assoc b (2 ^ (23 - u)) (2 ^ u)) in
+      rw (add-one i, first, behind-more x fs i l, apart) (sym (mul-add-mod-self-right (b * 2 ^ (23 - u)) (2 ^ u) (getD fs i 0)))
 
   pub put-all : (fs : List ℕ) → putTo s fs (length fs) ≡ putFields s fs
   unfolding putFields

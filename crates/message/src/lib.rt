@@ -6,7 +6,7 @@ ghost use lib.ListN.{length};
 ghost use Rattle.lists.specs.Lists.{fill, inFront, allBelow};
 ghost use Rattle.settings.specs.Sizes.{keyCount, mostFields, bytesFor, fieldBits, messageBits};
 ghost use Rattle.message.specs.Message.{headerNumber, headerWith, messageOf, fieldIn, askParts, askForm, formNo};
-ghost use Rattle.message.specs.Fields.{bitsAt, fieldAt, endsAt, fieldsRead, putBits, putFields, byteOf, HeaderFits};
+ghost use Rattle.message.specs.Fields.{bitsAt, fieldAt, endsAt, fieldsRead, firstBits, putBits, putFields, byteOf, HeaderFits};
 use field::all_below_q;
 use settings::FIELD_BITS;
 use settings::FIELDS;
@@ -147,15 +147,23 @@ fn get_bits(bytes: &[u8], at: usize, width: usize) -> u32
     ((x >> (8 * count - used - width)) % (1u64 << width)) as u32
 }
 
-// Puts a field of `width` bits behind the first `at` bits, and zeros to the end of its last byte.
-fn put_bits(out: &mut [u8], at: usize, width: usize, value: u32)
+// The last bits of a number.
+fn last_bits(value: u32, count: usize) -> u64
+    requires { ⌜ count < 8 ⌝ }
+    ensures { λ r. ⌜ r ≡ value % 2 ^ count ⌝ }
+{
+    value as u64 % (1u64 << count)
+}
+
+// Puts a field of `width` bits behind the first `at` bits, and zeros to the end of its last byte. `head` is what those bits leave in the
+// byte that they fill in part: the caller has put it there, and nothing is read back.
+fn put_bits(out: &mut [u8], at: usize, width: usize, head: u64, value: u32)
     requires { ⌜ (1 ≤ width) × (width ≤ 32) × (at + width ≤ 8 * length (now out)) ⌝ }
-    requires { ⌜ value < 2 ^ width ⌝ }
+    requires { ⌜ (head ≡ firstBits (now out) at % 2 ^ (at % 8)) × (value < 2 ^ width) ⌝ }
     ensures { λ _. ⌜ now (out .exit) ≡ putBits (now (out .entry)) at width value ⌝ }
 {
     let used = at % 8;
     let count = (used + width + 7) / 8;
-    let head = wide(out[at / 8]) >> (8 - used);
     let x = ((head << width) + value as u64) << (8 * count - used - width);
     write_number(out, at / 8, count, x);
 }
@@ -206,9 +214,12 @@ fn put_fields(out: &mut [u8], fields: &[u32])
     requires { ⌜ allBelow (2 ^ fieldBits) (now fields) ≡ true ⌝ }
     ensures { λ _. ⌜ now (out .exit) ≡ putFields (now (out .entry)) (now (fields .entry)) ⌝ }
 {
+    let mut head: u64 = 0;
     let mut i = 0;
     while i < fields.len() {
-        put_bits(out, Header::BITS + FIELD_BITS * i, FIELD_BITS, fields[i]);
+        let at = Header::BITS + FIELD_BITS * i;
+        put_bits(out, at, FIELD_BITS, head, fields[i]);
+        head = last_bits(fields[i], (at + FIELD_BITS) % 8);
         i += 1;
     }
 }

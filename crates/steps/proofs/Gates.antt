@@ -70,11 +70,11 @@ module _ (settings : Settings) (masked : ℕ → ℕ) (split : Split) (g i : ℕ
 -- ---- The result, with u and v from the numbers that were opened for them
 
 pub gate-sum : (sum first second third e f κ a b u v : ℕ) → u ≡ sub q first a → v ≡ sub q second b
-    → (sum + e * (v + b) + f * (u + a) + third + (q - κ * (e * f % q) % q)) % q
+    → (sum + e * (v + b) + f * (u + a) + third + (q - e * f % q) * κ) % q
     ≡ sub q (add q (add q (add q sum (mul q e second)) (mul q f first)) third) (mul q κ (e * f % q))
 gate-sum sum first second third e f κ a b u v eu ev =
     rw (eu, ev)
     (solve q (lit< tt)
-    (at sum ⊕ at e ⊗ (red (at second ⊖ at b) ⊕ at b) ⊕ at f ⊗ (red (at first ⊖ at a) ⊕ at a) ⊕ at third ⊕ neg (at κ ⊗ red (at e ⊗ at f)))
+    (at sum ⊕ at e ⊗ (red (at second ⊖ at b) ⊕ at b) ⊕ at f ⊗ (red (at first ⊖ at a) ⊕ at a) ⊕ at third ⊕ neg (at e ⊗ at f) ⊗ at κ)
     (red (red (red (at sum ⊕ red (at e ⊗ at second)) ⊕ red (at f ⊗ at first)) ⊕ at third) ⊖ red (at κ ⊗ red (at e ⊗ at f)))
     (omega arith) .path)

@@ -26,6 +26,7 @@ use book::group_k;
 use book::mask_at;
 use book::triple_at;
 use book::vector_at;
+use field::Q;
 use field::Q64;
 use field::add_mod;
 use field::mul_mod;
@@ -283,9 +284,9 @@ pub fn open_v(work: &[u32], col: usize, gate: Gate) -> u32
     sub_mod(v, register(work, col, gate.triple + 1))
 }
 
-// A number below q times a factor that is not reduced.
+// A number up to q times a factor that is not reduced.
 fn times(a: u32, b: u64) -> u64
-    requires { ⌜ (a < q) × (b < 8589934592) ⌝ }
+    requires { ⌜ (a ≤ q) × (b < 8589934592) ⌝ }
     ensures { λ r. ⌜ (r ≡ a * b) × (r < 72057594037927936) ⌝ }
 {
     a as u64 * b
@@ -298,7 +299,7 @@ pub struct Factors {
 }
 
 // addend + e × v + f × u + third − e × f, e and f the opened numbers. u and v are not worked out again: they are this side's own numbers for
-// the two openings, with a and b added. Only the end is reduced.
+// the two openings, with a and b added. The end alone is reduced: − e × f is q less e × f modulo q, times the weight.
 pub fn gate_value(work: &[u32], col: Column, gate: Gate, own: Factors, opened: Factors) -> u32
     requires { ⌜ GateFits gate ⌝ }
     requires { ⌜ ((col .index + 1) * places ≤ length (now work)) × (opened .u < q) × (opened .v < q) ⌝ }
@@ -310,8 +311,8 @@ pub fn gate_value(work: &[u32], col: Column, gate: Gate, own: Factors, opened: F
     let v = own.v as u64 + register(work, col.index, gate.triple + 1) as u64;
     let third = register(work, col.index, gate.triple + 2);
     let sum = addend as u64 + times(opened.u, v) + times(opened.v, u) + third as u64;
-    let product = mul_mod(col.weight, mul_mod(opened.u, opened.v));
-    ((sum + (Q64 - product as u64)) % Q64) as u32
+    let product = mul_mod(opened.u, opened.v);
+    ((sum + times(Q - product, col.weight as u64)) % Q64) as u32
 }
 
 // ---- What else is opened

@@ -7,13 +7,13 @@ use Rattle.steps.proofs.times.Statement.{statement}
 use Rattle.steps.proofs.times.Tie as tie
 
 mul-result : tie.Need-mul-result
-mul-result c = let h : c .args .a ≤ 8380416 = omega arith in
+mul-result c = let h : c .args .a ≤ 8380417 = omega arith in
     let k : c .args .b ≤ 8589934591 = omega arith in
     let m = mul-le-mul h k in
     omega arith
 
 returns : tie.Need-returns
-returns c = let h : c .args .a ≤ 8380416 = omega arith in
+returns c = let h : c .args .a ≤ 8380417 = omega arith in
     let k : c .args .b ≤ 8589934591 = omega arith in
     let m = mul-le-mul h k in
     (refl, omega arith)
