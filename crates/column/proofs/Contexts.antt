@@ -1,5 +1,5 @@
 -- What a round opens and makes of the registers, by the gates of its context.
-use mathlib.Core.Path.{_≡_, sym, ap, subst, fun-ext, _∙_}
+use mathlib.Core.Path.{_≡_, sym, ap, subst, _∙_}
 use mathlib.Core.Logic.{_≢_}
 use mathlib.Core.Bool.{Bool, true, false, cond}
 use lib.Dec.{ltb, lit<}
@@ -23,13 +23,13 @@ use Rattle.column.specs.Held.{slot, HeldAll, GatesHeld}
 use Rattle.settings.specs.Settings.{paramsOf}
 use Rattle.steps.proofs.Bounds.{open-middle}
 use mathlib.Core.List.{List}
-use lib.ListN.{length, getD}
+use lib.ListN.{getD}
 use Rattle.book.specs.Book.{groupK, groupGap, groupAt}
 use Rattle.slice.specs.Layout.{runningAt, maskedAt, maskedIn, column}
 use Rattle.steps.specs.Steps.{Public, lookedAt, insides, checked, openCheck, opening, running}
 use Rattle.steps.specs.Context.{publicBy, splitPlace, splitIn, ContextOf, SplitsBelow}
 use Rattle.steps.specs.Gates.{termsAt, gateAt, sumForm, openU, openV, resultForm}
-use Rattle.steps.proofs.Contexts.{place-in, number-looked, splits-below}
+use Rattle.steps.proofs.Contexts.{looks-middle, place-in, number-looked, splits-below}
 use Rattle.steps.proofs.Gates.{sum-is, open-u-is, open-v-is, result-is}
 
 -- ---- A context that a call has made
@@ -50,8 +50,10 @@ module _ (work : List ℕ) (below : allBelow q work ≡ true) where
       go true = below-at q work (maskedAt j) (lit< tt) below
       go false = lit< tt
 
-  pub held-below : (settings : Settings) (round : ℕ) (known : Context) → settings .shape .set < 2 → ContextOf settings round (maskedIn work) known → SplitsBelow known
-  held-below settings round known h made = splits-below settings round (maskedIn work) known h masked-below made
+  pub held-below : (settings : Settings) (round : ℕ) (known : Context) → settings .shape .set < 2 → 2 ≤ round → round ≤ 5
+      → ContextOf settings round (maskedIn work) known → SplitsBelow known
+  held-below settings round known h two five made =
+      splits-below settings round (maskedIn work) known h masked-below (looks-middle (settings .shape .kind) round two five) made
 
 -- ---- Round 6
 
@@ -79,57 +81,57 @@ module _ (w : Public) (round o : ℕ) (six : round ≡ 6) where
           ap (λ (f : Form). reg (groupAt (w .params) o) ⊞ groupGap (w .params) ⊠ (num (groupK (w .params)) ⊟ f))
           (ap (λ (b : Bool). cond b (reg (runningAt 1 o)) (insides w (w .params .n))) (ne-eqb (w .params .kind) 0 bound))
 
--- ---- Rounds 1 to 5
+-- ---- Rounds 1 to 5, by the context of a round from 2 to 5
 
-module _ (known : Context) (masked : ℕ → ℕ) (made : ContextOf (known .settings) (known .round) masked known) (g : ℕ) (h : g < 2 * known .settings .shape .n) where
+module _ (known : Context) (masked : ℕ → ℕ) (made : ContextOf (known .settings) (known .round) masked known) (g : ℕ) (h : g < 2 * known .settings .shape .n)
+    (later : 2 ≤ known .round) (most : known .round ≤ 5) where
   -- the number that gate g looks at
   abbrev split : Split
   split = splitIn known (splitPlace (known .settings .shape .kind) g)
 
-  looks : split ≡ splitOf (scaleOf (known .settings .shape .set)) (lookedAt q (known .settings .shape .kind) (known .settings .bound) (g % 2) (masked (g / 2)))
-  looks =
-      made .split (splitPlace (known .settings .shape .kind) g) (place-in (known .settings .shape) g h)
+  looked : split ≡ splitOf (scaleOf (known .settings .shape .set)) (lookedAt q (known .settings .shape .kind) (known .settings .bound) (g % 2) (masked (g / 2)))
+  looked =
+      made .split (looks-middle (known .settings .shape .kind) (known .round) later most) (splitPlace (known .settings .shape .kind) g) (place-in (known .settings .shape) g h)
       ∙ ap (splitOf (scaleOf (known .settings .shape .set))) (number-looked (known .settings) masked g)
 
-  -- round 1
-  pub register-first : (opened : ℕ → ℕ) → known .round ≡ 1
-      → sumForm (termsAt (known .settings .shape) split g 0) 0 ≡ running (publicBy (known .settings) masked) (known .round) opened (g % 2) (g / 2)
+  -- what round 1 makes of digit 0
+  pub register-first : (opened : ℕ → ℕ)
+      → sumForm (termsAt (known .settings .shape) split g 0) 0 ≡ running (publicBy (known .settings) masked) 1 opened (g % 2) (g / 2)
   unfolding running
-  register-first opened e = sum-is (known .settings) masked split g 0 looks 0 ∙ rw (eq-eqb (known .round) 1 e)
+  register-first opened = sum-is (known .settings) masked split g 0 looked 0
 
-  module _ (later : known .round ≢ 1) (most : known .round ≤ 5) where
-    -- rounds 2 to 5
-    pub opening-u : openU (gateAt (known .settings .shape) split g (known .round - 1)) ≡ opening (publicBy (known .settings) masked) (known .round) (2 * g)
-    unfolding opening
-    opening-u =
-        let j : 2 * g / 4 ≡ g / 2 = omega arith in
-        let which : 2 * g / 2 % 2 ≡ g % 2 = omega arith in
-        let part : 2 * g % 2 ≡ 0 = omega arith in
-        rw (ne-eqb (known .round) 1 later, le-leb (known .round) 5 most, j, which, part) (open-u-is (known .settings) masked split g (known .round - 1) looks)
+  -- rounds 2 to 5
+  pub opening-u : openU (gateAt (known .settings .shape) split g (known .round - 1)) ≡ opening (publicBy (known .settings) masked) (known .round) (2 * g)
+  unfolding opening
+  opening-u =
+      let j : 2 * g / 4 ≡ g / 2 = omega arith in
+      let which : 2 * g / 2 % 2 ≡ g % 2 = omega arith in
+      let part : 2 * g % 2 ≡ 0 = omega arith in
+      rw (ne-eqb (known .round) 1 (omega arith), le-leb (known .round) 5 most, j, which, part) (open-u-is (known .settings) masked split g (known .round - 1) looked)
 
-    pub opening-v : openV (gateAt (known .settings .shape) split g (known .round - 1)) ≡ opening (publicBy (known .settings) masked) (known .round) (2 * g + 1)
-    unfolding opening
-    opening-v =
-        let j : (2 * g + 1) / 4 ≡ g / 2 = omega arith in
-        let which : (2 * g + 1) / 2 % 2 ≡ g % 2 = omega arith in
-        let part : (2 * g + 1) % 2 ≡ 1 = omega arith in
-        rw (ne-eqb (known .round) 1 later, le-leb (known .round) 5 most, j, which, part) (open-v-is (known .settings) masked split g (known .round - 1) looks)
+  pub opening-v : openV (gateAt (known .settings .shape) split g (known .round - 1)) ≡ opening (publicBy (known .settings) masked) (known .round) (2 * g + 1)
+  unfolding opening
+  opening-v =
+      let j : (2 * g + 1) / 4 ≡ g / 2 = omega arith in
+      let which : (2 * g + 1) / 2 % 2 ≡ g % 2 = omega arith in
+      let part : (2 * g + 1) % 2 ≡ 1 = omega arith in
+      rw (ne-eqb (known .round) 1 (omega arith), le-leb (known .round) 5 most, j, which, part) (open-v-is (known .settings) masked split g (known .round - 1) looked)
 
-    pub register-result : (opened : ℕ → ℕ)
-        → resultForm (gateAt (known .settings .shape) split g (known .round - 1)) (opened (4 * (g / 2) + 2 * (g % 2))) (opened (4 * (g / 2) + 2 * (g % 2) + 1))
-        ≡ running (publicBy (known .settings) masked) (known .round) opened (g % 2) (g / 2)
-    unfolding running
-    register-result opened =
-        result-is (known .settings) masked split g (known .round - 1) looks _ _ ∙ rw (ne-eqb (known .round) 1 later, le-leb (known .round) 5 most)
+  pub register-result : (opened : ℕ → ℕ)
+      → resultForm (gateAt (known .settings .shape) split g (known .round - 1)) (opened (4 * (g / 2) + 2 * (g % 2))) (opened (4 * (g / 2) + 2 * (g % 2) + 1))
+      ≡ running (publicBy (known .settings) masked) (known .round) opened (g % 2) (g / 2)
+  unfolding running
+  register-result opened =
+      result-is (known .settings) masked split g (known .round - 1) looked _ _ ∙ rw (ne-eqb (known .round) 1 (omega arith), le-leb (known .round) 5 most)
 
 -- the same of a gate that the code has made
 module _ (known : Context) (masked : ℕ → ℕ) (made : ContextOf (known .settings) (known .round) masked known) (g x : ℕ) (h : g < 2 * known .settings .shape .n)
-    (place : x ≡ splitPlace (known .settings .shape .kind) g) where
-  pub terms-register : (terms : Weighted) (opened : ℕ → ℕ) → terms ≡ termsAt (known .settings .shape) (splitIn known x) g 0 → known .round ≡ 1
-      → sumForm terms 0 ≡ running (publicBy (known .settings) masked) (known .round) opened (g % 2) (g / 2)
-  terms-register terms opened e one = rw (e, place) (register-first known masked made g h opened one)
+    (place : x ≡ splitPlace (known .settings .shape .kind) g) (later : 2 ≤ known .round) (most : known .round ≤ 5) where
+  pub terms-register : (terms : Weighted) (opened : ℕ → ℕ) → terms ≡ termsAt (known .settings .shape) (splitIn known x) g 0
+      → sumForm terms 0 ≡ running (publicBy (known .settings) masked) 1 opened (g % 2) (g / 2)
+  terms-register terms opened e = rw (e, place) (register-first known masked made g h later most opened)
 
-  module _ (gate : Gate) (e : gate ≡ gateAt (known .settings .shape) (splitIn known x) g (known .round - 1)) (later : known .round ≢ 1) (most : known .round ≤ 5) where
+  module _ (gate : Gate) (e : gate ≡ gateAt (known .settings .shape) (splitIn known x) g (known .round - 1)) where
     pub gate-u : openU gate ≡ opening (publicBy (known .settings) masked) (known .round) (2 * g)
     gate-u = rw (e, place) (opening-u known masked made g h later most)
 
@@ -160,10 +162,10 @@ module _ (known : Context) (g x : ℕ) (place : x ≡ splitPlace (known .setting
 
 -- the numbers that a side holds for the openings of rounds 2 to 5 are those of the gates
 pub gates-held : (known : Context) (masked : ℕ → ℕ) (κs work own : List ℕ) → ContextOf (known .settings) (known .round) masked known
-    → known .round ≢ 1 → known .round ≤ 5 → HeldAll (publicBy (known .settings) masked) (known .round) κs work own → GatesHeld known κs work own
+    → 2 ≤ known .round → known .round ≤ 5 → HeldAll (publicBy (known .settings) masked) (known .round) κs work own → GatesHeld known κs work own
 gates-held known masked κs work own made later most held c g h l =
     let p = paramsOf (known .settings .shape) in
-    let count = open-middle p (known .round) later most in (
+    let count = open-middle p (known .round) (omega arith) most in (
       held c h (2 * g) (omega (arith, count)) ∙ ap (value q (getD κs c 0) (column work c)) (sym (opening-u known masked made g l later most)),
       held c h (2 * g + 1) (omega (arith, count)) ∙ ap (value q (getD κs c 0) (column work c)) (sym (opening-v known masked made g l later most)),
     )

@@ -294,12 +294,12 @@ fn results_into(
     }
 }
 
-// Round 1.
+// Round 1: it makes what round 2 finds, with the context of round 2.
 fn first_registers(next: &mut [u32], work: &[u32], columns: usize, known: Context)
     requires { ⌜ Ready (known .settings) × SplitsBelow known ⌝ }
-    requires { ⌜ (known .round ≡ 1) × (16 * columns ≤ length (now next)) × (columns * places ≤ length (now work)) ⌝ }
+    requires { ⌜ (known .round ≡ 2) × (16 * columns ≤ length (now next)) × (columns * places ≤ length (now work)) ⌝ }
     ensures { λ _. ⌜ ((masked opened : ℕ → ℕ) (κs : List ℕ) → length κs ≡ columns → ContextOf (known .settings) (known .round) masked known
-        → RegistersHeld (publicBy (known .settings) masked) (known .round) opened κs (now (work .entry)) (2 * known .settings .shape .n) (now (next .exit))) ⌝ }
+        → RegistersHeld (publicBy (known .settings) masked) 1 opened κs (now (work .entry)) (2 * known .settings .shape .n) (now (next .exit))) ⌝ }
 {
     let shape = known.settings.shape;
     let mut g = 0;
@@ -489,7 +489,7 @@ fn registers_into(
             next,
             work,
             weights.len(),
-            context_of(settings, round, opened),
+            context_of(settings, round + 1, opened),
         );
         return;
     }

@@ -7,7 +7,7 @@ use native.Mathlib.Omega.{arith}
 use native.Mathlib.Decide.{decLt}
 use lib.Dec.{lit<}
 use lib.Arith.{digits-lt}
-use lib.Pow.{pow-add, pow-pos, pow-mono, shl-exact, shl-lt, shr-shr, shl-shr, split, high, field}
+use lib.Pow.{pow-add, pow-pos, pow-mono, shl-exact, shl-lt, shr-shr, shl-shr, split, high}
 use lib.ListN.{length, getD, drop, List·getD-eq-default}
 use lib.Seq.{ext-getD, drop-append-add, drop-drop}
 use Rattle.lists.specs.Lists.{listFrom, listTo, fill, inFront}

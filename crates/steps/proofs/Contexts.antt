@@ -3,18 +3,18 @@ use mathlib.Core.Path.{_≡_, refl, ap, _∙_}
 use mathlib.Core.Logic.{_≢_}
 use mathlib.Core.Bool.{Bool, true, false, cond}
 use mathlib.Core.List.{List}
-use Prim.Native.Nat.{ℕ, suc, _+_, _*_, _/_, _%_, _≤_, _<_}
+use Prim.Native.Nat.{ℕ, _+_, _*_, _/_, _%_, _≤_, _<_}
 use native.Mathlib.Decide.{decLt}
 use native.Mathlib.Nat.{add-zero}
 use native.Mathlib.Omega.{arith}
 use lib.Dec.{eqb}
 use lib.ListN.{length, getD, set}
 use lib.Seq.{getD-set-same, getD-set-other}
-use borrow.Author.Tests.{eq-eqb, ne-eqb}
+use borrow.Author.Tests.{eq-eqb, ne-eqb, le-leb, le-ltb}
 use Rattle.field.specs.Field.{q}
 use Rattle.settings.specs.declared.Shape.{Shape}
 use Rattle.settings.specs.declared.Settings.{Settings}
-use Rattle.settings.specs.Sets.{scaleOf, base}
+use Rattle.settings.specs.Sets.{scaleOf}
 use Rattle.settings.proofs.Sets.{lawful}
 use Rattle.rounding.specs.declared.Split.{Split}
 use Rattle.rounding.specs.Digits.{splitOf}
@@ -22,8 +22,22 @@ use Rattle.rounding.specs.Rounds.{threshold}
 use Rattle.rounding.proofs.Radix.{digit-below}
 use Rattle.steps.specs.declared.Context.{Context}
 use Rattle.steps.specs.Steps.{lookedAt}
-use Rattle.steps.specs.Context.{splitCount, numberAt, splitPlace, splitIn, ContextOf, SplitsBelow}
+use Rattle.steps.specs.Context.{looksAt, splitCount, numberAt, splitPlace, splitIn, ContextOf, SplitsBelow}
 use Rattle.steps.proofs.Bounds.{threshold-below}
+
+-- rounds 2 to 5 look at digits
+pub looks-middle : (kind round : ℕ) → 2 ≤ round → round ≤ 5 → looksAt kind round ≡ true
+unfolding looksAt
+looks-middle kind round h l = rw (le-ltb round 2 h, le-leb round 5 l, le-leb round 6 (omega arith)) (go (eqb kind 0))
+  where
+    go : (b : Bool) → cond b true true ≡ true
+    go true = refl
+    go false = refl
+
+-- and so does round 6 of BOUND
+pub looks-bound : (kind round : ℕ) → kind ≢ 0 → round ≡ 6 → looksAt kind round ≡ true
+unfolding looksAt
+looks-bound kind round e six = rw (six, ne-eqb kind 0 e)
 
 module _ (shape : Shape) where
   pub count-high : shape .kind ≡ 0 → splitCount shape ≡ shape .n
@@ -72,11 +86,11 @@ number-below settings masked h x = go (eqb (settings .shape .kind) 0)
     go false = threshold-below (settings .bound) (x % 2) (masked (x / 2))
 
 pub splits-below : (settings : Settings) (round : ℕ) (masked : ℕ → ℕ) (context : Context) → settings .shape .set < 2 → ((j : ℕ) → masked j < q)
-    → ContextOf settings round masked context → SplitsBelow context
-splits-below settings round masked context hs h made x i b l =
+    → looksAt (settings .shape .kind) round ≡ true → ContextOf settings round masked context → SplitsBelow context
+splits-below settings round masked context hs h looks made x i b l =
     let set = settings .shape .set in
     let at = rw (made .settings-kept) at b in
-    rw (made .settings-kept, made .split x at)
+    rw (made .settings-kept, made .split looks x at)
     (digit-below (scaleOf set) (lawful set hs) (numberAt settings masked x) i (number-below settings masked h x) l)
 
 -- one number more is split
@@ -92,13 +106,13 @@ split-more s f k v none room e h x l = go (decLt x k)
 
 -- BOUND: hi and lo of coefficient j
 module _ (settings : Settings) (round : ℕ) (masked : ℕ → ℕ) (context : Context) (made : ContextOf settings round masked context) (bound : settings .shape .kind ≢ 0)
-    (j : ℕ) (h : j < settings .shape .n) where
+    (six : round ≡ 6) (j : ℕ) (h : j < settings .shape .n) where
   threshold-at : (which : ℕ) → which < 2 → splitIn context (2 * j + which) .number ≡ threshold q (settings .bound) which (masked j)
   unfolding numberAt
   threshold-at which l =
       let two : (2 * j + which) % 2 ≡ which = omega arith in
       let half : (2 * j + which) / 2 ≡ j = omega arith in
-      ap (λ (s : Split). s .number) (made .split (2 * j + which) (omega (arith, count-bound (settings .shape) bound)))
+      ap (λ (s : Split). s .number) (made .split (looks-bound (settings .shape .kind) round bound six) (2 * j + which) (omega (arith, count-bound (settings .shape) bound)))
       ∙ rw (ne-eqb (settings .shape .kind) 0 bound, two, half)
 
   pub hi-is : splitIn context (2 * j) .number ≡ threshold q (settings .bound) 0 (masked j)

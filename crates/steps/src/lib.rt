@@ -2,6 +2,7 @@
 // a linear form with public coefficients, the same in every column. Who calls has asked the questions first, and
 // asks for openings and coefficients that there are.
 ghost use mathlib.Core.Path.{_≡_};
+ghost use mathlib.Core.Bool.{true};
 ghost use mathlib.Core.Logic.{_≢_};
 ghost use Prim.Native.Nat.{ℕ, _+_, _*_, _/_, _≤_, _<_};
 ghost use lib.Dec.{ltb};
@@ -18,7 +19,7 @@ ghost use Rattle.book.specs.Book.{groupK, groupGap, groupAt};
 ghost use Rattle.slice.specs.Layout.{runningAt, column};
 ghost use Rattle.slice.specs.Weights.{ruleOf};
 ghost use Rattle.steps.specs.Steps.{limitOf, shiftOf, openInput, insides, groupOf, checkEntry, afterCheck};
-ghost use Rattle.steps.specs.Context.{publicBy, numberAt, splitCount, splitPlace, ContextOf};
+ghost use Rattle.steps.specs.Context.{publicBy, looksAt, numberAt, splitCount, splitPlace, ContextOf};
 ghost use Rattle.steps.specs.Gates.{termsAt, gateAt, TermsFit, GateFits, sumForm, addendForm, uForm, vForm, openU, openV, resultForm};
 use book::group_at;
 use book::group_gap;
@@ -49,7 +50,8 @@ use slice::weighted_sum;
 
 // What both sides know in a round: the settings, the round's number, and the numbers whose digits its gates look at, each split in its
 // five digits: HIGH, y of each coefficient; BOUND, hi and lo of each coefficient in turn. All of it follows from the settings and from what
-// round 1 opened: no share, no part and no key is in it. It is made once for each call, and every round that needs a digit reads it here.
+// round 1 opened: no share, no part and no key is in it. It is made once for each call, and every round that needs a digit reads it here;
+// for a round that needs none, nothing is split.
 pub struct Context {
     pub settings: Settings,
     pub round: u32,
@@ -93,11 +95,27 @@ fn threshold_of(bound: u32, which: usize, y: u32) -> u32
     sub_mod(0, y)
 }
 
-// How many numbers a context splits.
-fn split_count(shape: Shape) -> usize
-    requires { ⌜ shape .n ≤ 8 ⌝ }
-    ensures { λ r. ⌜ (r ≡ splitCount shape) × (r ≤ 16) ⌝ }
+// Does the round look at digits?
+fn looks_at(kind: u32, round: u32) -> bool
+    ensures { λ r. ⌜ r ≡ looksAt kind round ⌝ }
 {
+    if round < 2 {
+        return false;
+    }
+    if kind == 0 {
+        return round <= 5;
+    }
+    round <= 6
+}
+
+// How many numbers a context splits: none where the round looks at no digit.
+fn split_count(shape: Shape, round: u32) -> usize
+    requires { ⌜ shape .n ≤ 8 ⌝ }
+    ensures { λ r. ⌜ (r ≤ splitCount shape) × (r ≤ 16) × (looksAt (shape .kind) round ≡ true → r ≡ splitCount shape) ⌝ }
+{
+    if !looks_at(shape.kind, round) {
+        return 0;
+    }
     if shape.kind == 0 {
         return shape.n as usize;
     }
@@ -123,7 +141,7 @@ pub fn context_of(settings: Settings, round: u32, masked: &[u32]) -> Context
     ensures { λ r. ⌜ ContextOf settings round (λ (j : ℕ). getD (now (masked .entry)) j 0) r ⌝ }
 {
     let set = settings.shape.set as usize;
-    let count = split_count(settings.shape);
+    let count = split_count(settings.shape, round);
     let none = Split {
         number: 0,
         digits: [0; 5],
@@ -359,7 +377,7 @@ fn inside_value(work: &[u32], col: Column, hi: u32, lo: u32, j: usize) -> u32
 // BOUND: the sum of the insides of all coefficients. The context has hi and lo of each.
 pub fn insides_value(work: &[u32], col: Column, known: Context) -> u32
     requires { ⌜ Ready (known .settings) ⌝ }
-    requires { ⌜ ((col .index + 1) * places ≤ length (now work)) × (known .settings .shape .kind ≢ 0) ⌝ }
+    requires { ⌜ ((col .index + 1) * places ≤ length (now work)) × (known .settings .shape .kind ≢ 0) × (known .round ≡ 6) ⌝ }
     ensures { λ r. ⌜ ((masked : ℕ → ℕ) → ContextOf (known .settings) (known .round) masked known
         → r ≡ value q (col .weight) (column (now (work .entry)) (col .index)) (insides (publicBy (known .settings) masked) (known .settings .shape .n))) ⌝ }
 {

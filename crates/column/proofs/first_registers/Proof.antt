@@ -15,13 +15,13 @@ use Prim.Native.Nat.{ℕ, _≤_, _-_, _*_, _%_, _/_}
 use mathlib.Core.Path.{_≡_, refl, ap, _∙_}
 use native.Mathlib.Omega.{arith}
 use borrow.Author.Needs.{needs}
-use lib.ListN.{length, set, getD}
+use lib.ListN.{length, getD}
 use Rattle.column.proofs.first_registers.Statement.{statement}
 use Rattle.column.proofs.first_registers.Tie as tie
 
 abbrev Inv-loop : tie.InvT-loop
 Inv-loop next₀ work columns known shape g₀ next g = (g ≤ 2 * known .settings .shape .n) × ((masked opened : ℕ → ℕ) (κs : List ℕ) → length κs ≡ columns → ContextOf (known .settings)
-    (known .round) masked known → RegistersHeld (publicBy (known .settings) masked) (known .round) opened κs work g next) × (length next ≡ length next₀)
+    (known .round) masked known → RegistersHeld (publicBy (known .settings) masked) 1 opened κs work g next) × (length next ≡ length next₀)
 
 abbrev μ-loop : tie.MeasureT-loop
 μ-loop next₀ work columns known shape g₀ next g = 2 * known .settings .shape .n - g
@@ -71,9 +71,9 @@ loop-again c =
       omega arith,
       λ masked opened κs long made.
           let κ : ℕ → ℕ = λ (d : ℕ). getD κs d 0 in
-          let is = terms-register known masked made g (split-place .result) (omega arith) (split-place .ensures) (terms-of .result) opened (terms-of .ensures .0) (p .1 .0) in
+          let is = terms-register known masked made g (split-place .result) (omega arith) (split-place .ensures) (omega (arith, p .1 .0)) (omega (arith, p .1 .0)) (terms-of .result) opened (terms-of .ensures .0) in
           λ d k h l.
-          slots-more (λ (d k : ℕ). runningOn (publicBy (known .settings) masked) (known .round) opened (getD κs d 0) (column (a .work .now) d) (k % 2) (k / 2)) (at .next) (a .columns) g _
+          slots-more (λ (d k : ℕ). runningOn (publicBy (known .settings) masked) 1 opened (getD κs d 0) (column (a .work .now) d) (k % 2) (k / 2)) (at .next) (a .columns) g _
           (omega (arith, p .0 .0 .shape .most)) (omega (arith, p .1, at .inv .2))
           (sums-into .ensures κ ∙ ap (λ (form : Form). fillBy 16 (at .next) (slot g) (a .columns) (λ (d : ℕ). value q (κ d) (column (a .work .now) d) form)) is)
           (λ d k h l. at .inv .1 masked opened κs long made d k (omega arith) l) d k (omega arith) l,

@@ -1,19 +1,17 @@
 -- `column::gate_registers` meets its contract. Assumes nothing.
 use Rattle.column.proofs.Contexts.{gate-held, gate-register}
 use Rattle.steps.specs.Work.{runningOn}
-use mathlib.Core.Logic.{_≢_}
 use Rattle.column.proofs.Tables.{slots-more}
-use Rattle.column.specs.Held.{slot, RegistersHeld}
+use Rattle.column.specs.Held.{RegistersHeld}
 use Rattle.steps.specs.Context.{publicBy, ContextOf}
 use Rattle.slice.specs.Layout.{column}
-use Rattle.field.specs.Field.{q}
 use Rattle.lists.proofs.Strides.{length-stride}
 use Rattle.steps.proofs.Contexts.{place-in, count-most}
 use Prim.Native.Nat.{ℕ, _≤_, _-_, _*_, _%_, _/_}
 use mathlib.Core.Path.{_≡_, refl, ap, _∙_}
 use native.Mathlib.Omega.{arith}
 use borrow.Author.Needs.{needs}
-use lib.ListN.{length, set, getD}
+use lib.ListN.{length, getD}
 use Rattle.column.proofs.gate_registers.Statement.{statement}
 use Rattle.column.proofs.gate_registers.Tie as tie
 
@@ -90,13 +88,13 @@ loop-again c =
     let known = a .t4 in
     let g = at .g in
     let opened : ℕ → ℕ = λ (o : ℕ). getD (a .opened .now) o 0 in
-    let later : known .round ≢ 1 = omega (arith, p .1 .0) in (
+    let later : 2 ≤ known .round = p .1 .0 .0 in (
       omega arith,
       λ masked made.
           slots-more (λ (d k : ℕ). runningOn (publicBy (known .settings) masked) (known .round) opened (getD (a .weights .now) d 0) (column (a .work .now) d) (k % 2) (k / 2)) (at .next)
           (length (a .weights .now)) g _
           (omega (arith, p .0 .0 .shape .most)) (omega (arith, p .1, at .inv .2))
-          (gate-register known masked made g (split-place .result) (omega arith) (split-place .ensures) (gate-of .result) (gate-of .ensures .0) later (p .1 .0 .1)
+          (gate-register known masked made g (split-place .result) (omega arith) (split-place .ensures) later (p .1 .0 .1) (gate-of .result) (gate-of .ensures .0)
           (length (a .weights .now)) (λ (d : ℕ). getD (a .weights .now) d 0) (λ (d : ℕ). column (a .work .now) d) opened (at .next) _ (results-into .ensures))
           (at .inv .1 masked made),
       ap length (results-into .ensures) ∙ length-stride 16 _ _ _ _ ∙ at .inv .2,

@@ -17,7 +17,7 @@ prepare-gates-requires c κs =
     let if1 = c .before .before .if1 in
     let a = c .before .before .before .before .before .before .before .args in
     let known = a .known in (
-      (p .0, held-below (a .work .now) (p .1 .1 .0 .2) (known .settings) (known .round) known (p .0 .shape .sets) (p .1 .1 .1)),
+      (p .0, held-below (a .work .now) (p .1 .1 .0 .2) (known .settings) (known .round) known (p .0 .shape .sets) (omega (arith, if1 .left, p .1 .1 .0)) (c .before .if2 .taken) (p .1 .1 .1)),
       ((omega (arith, if1 .left, p .1 .1 .0), c .before .if2 .taken), omega (arith, p .1 .0 .out-long, p .1 .0 .chosen, p .1 .0 .columns-long, p .1 .0 .few)),
     )
 

@@ -7,7 +7,6 @@ use Rattle.field.specs.Forms.{Form, value}
 use Rattle.field.specs.Field.{q}
 use Rattle.lists.proofs.Strides.{length-stride}
 use Rattle.lists.specs.Lists.{fillBy}
-use mathlib.Core.Logic.{_≢_}
 use Rattle.steps.proofs.Contexts.{place-in, count-most}
 use Rattle.column.specs.Held.{columnAt, openingIn, Holds}
 use Rattle.steps.specs.Context.{publicBy, ContextOf}
@@ -16,7 +15,7 @@ use Prim.Native.Nat.{ℕ, _≤_, _-_, _+_, _*_}
 use mathlib.Core.Path.{_≡_, refl, ap, _∙_}
 use native.Mathlib.Omega.{arith}
 use borrow.Author.Needs.{needs}
-use lib.ListN.{length, set, getD}
+use lib.ListN.{length, getD}
 use Rattle.column.proofs.prepare_gates.Statement.{statement}
 use Rattle.column.proofs.prepare_gates.Tie as tie
 
@@ -75,15 +74,15 @@ loop-again c =
     let a = c .before .before .before .before .before .before .before .before .before .before .before .before .before .before .before .before .before .args in
     let known = a .t4 in
     let g = at .g in
-    let later : known .round ≢ 1 = omega (arith, p .1 .0) in
+    let later : 2 ≤ known .round = p .1 .0 .0 in
     let test = c .before .before .before .before .before .before .before .before .before .before .before .if1 .taken in
     let skip = a .columns .skip in (
       omega (arith, test),
       λ masked κs made.
           let w = publicBy (known .settings) masked in
           let κ : ℕ → ℕ = λ (d : ℕ). getD κs (columnAt skip d) 0 in
-          let u = gate-u known masked made g (split-place .result) (omega (arith, test)) (split-place .ensures) (gate-of .result) (gate-of .ensures .0) later (p .1 .0 .1) in
-          let v = gate-v known masked made g (split-place .result) (omega (arith, test)) (split-place .ensures) (gate-of .result) (gate-of .ensures .0) later (p .1 .0 .1) in
+          let u = gate-u known masked made g (split-place .result) (omega (arith, test)) (split-place .ensures) later (p .1 .0 .1) (gate-of .result) (gate-of .ensures .0) in
+          let v = gate-v known masked made g (split-place .result) (omega (arith, test)) (split-place .ensures) later (p .1 .0 .1) (gate-of .result) (gate-of .ensures .0) in
           gates-more (λ (d o : ℕ). openingIn w (known .round) κs (a .work .now) (columnAt skip d) o) (at .out) (a .columns .count) g _ _
           (omega (arith, test, p .0 .0 .shape .most)) (omega (arith, p .1 .1, at .inv .2))
           (u-into .ensures κ

@@ -11,7 +11,7 @@ use Prim.Native.Nat.{ℕ, _≤_, _-_}
 use mathlib.Core.Path.{_≡_, refl, ap, _∙_}
 use native.Mathlib.Omega.{arith}
 use borrow.Author.Needs.{needs}
-use lib.ListN.{length, set, getD, length-set}
+use lib.ListN.{length, getD, length-set}
 use Rattle.column.proofs.prepare_insides.Statement.{statement}
 use Rattle.column.proofs.prepare_insides.Tie as tie
 
@@ -39,7 +39,7 @@ shared-slice-read-out c = omega (arith, c .before .column-at .ensures .1, c .bef
 insides-value-requires : tie.Need-insides-value-requires Inv-loop μ-loop
 insides-value-requires c κs =
     let p = c .before .before .before .before .before .before .before .before .before .pre in
-    (p .0, (omega (arith, c .before .column-at .ensures .1, p .1 .0 .chosen, p .1 .0 .columns-long), p .1 .1 .0))
+    (p .0, (omega (arith, c .before .column-at .ensures .1, p .1 .0 .chosen, p .1 .0 .columns-long), p .1 .1 .0, p .1 .1 .1))
 
 open-check-requires : tie.Need-open-check-requires Inv-loop μ-loop
 open-check-requires c κs =

@@ -1,13 +1,13 @@
 -- `column::registers_into` meets its contract. Assumes nothing.
 use Rattle.column.proofs.Contexts.{settled, held-below, gates-held}
-use Rattle.steps.proofs.Contexts.{splits-below}
+use Rattle.steps.proofs.Contexts.{looks-middle, splits-below}
 use Rattle.steps.proofs.Bounds.{open-first, open-middle}
 use Rattle.slice.specs.Layout.{maskedIn}
 use Rattle.settings.specs.Settings.{paramsOf}
-use borrow.Author.Tests.{eq-eqb, ne-eqb}
+use borrow.Author.Tests.{ne-eqb}
 use lib.ListN.{getD}
 use mathlib.Core.Path.{refl}
-use Prim.Native.Nat.{ℕ}
+use Prim.Native.Nat.{ℕ, _+_}
 use native.Mathlib.Omega.{arith}
 use borrow.Author.Needs.{needs}
 use Rattle.column.proofs.registers_into.Statement.{statement}
@@ -27,17 +27,18 @@ first-registers-requires c κs =
     let made = c .context-of .ensures in (
       (
         rw (made .settings-kept) (p .0),
-        splits-below (a .known .settings) (a .known .round) (λ (j : ℕ). getD (a .opened .now) j 0) (c .context-of .result) (p .0 .shape .sets) (p .1 .1 .1 .0 .1) made,
+        splits-below (a .known .settings) (a .known .round + 1) (λ (j : ℕ). getD (a .opened .now) j 0) (c .context-of .result) (p .0 .shape .sets) (p .1 .1 .1 .0 .1)
+            (looks-middle (a .known .settings .shape .kind) (a .known .round + 1) (omega (arith, if1 .taken)) (omega (arith, if1 .taken))) made,
       ),
-      (rw (made .round-kept) (if1 .taken), omega (arith, p .1 .1 .0), omega (arith, p .1 .0)),
+      (omega (arith, made .round-kept, if1 .taken), omega (arith, p .1 .1 .0), omega (arith, p .1 .0)),
     )
 
 returns : tie.Need-returns
 returns c = let a = c .before .before .before .before .before .before .before .before .before .before .before .before .args in
     let made = c .before .before .before .context-of .ensures in
     let numbers : ℕ → ℕ = λ (o : ℕ). getD (a .opened .now) o 0 in
-    rw (eq-eqb (a .known .round) 1 (c .before .before .before .before .before .if1 .taken))
-    (rw (made .settings-kept, made .round-kept) at (c .before .before .first-registers .ensures numbers numbers (a .weights .now) refl (settled made)))
+    rw (c .before .before .before .before .before .if1 .taken)
+    (rw (made .settings-kept) at (c .before .before .first-registers .ensures numbers numbers (a .weights .now) refl (settled made)))
 
 gate-registers-requires : tie.Need-gate-registers-requires
 gate-registers-requires c κs =
@@ -46,12 +47,12 @@ gate-registers-requires c κs =
     let a = c .before .before .before .before .before .before .before .before .before .args in
     let known = a .known in
     let made = p .1 .1 .1 .1 .0 in (
-      (p .0, held-below (a .work .now) (p .1 .0 .2) (known .settings) (known .round) known (p .0 .shape .sets) made),
+      (p .0, held-below (a .work .now) (p .1 .0 .2) (known .settings) (known .round) known (p .0 .shape .sets) (omega (arith, if1 .left, p .1 .0)) (c .before .if2 .taken) made),
       (
         (omega (arith, if1 .left, p .1 .0), c .before .if2 .taken, omega (arith, p .1 .1 .0), p .1 .0 .1),
         (
           (p .1 .1 .0 .0, omega (arith, open-middle (paramsOf (known .settings .shape)) (known .round) (if1 .left) (c .before .if2 .taken), p .1 .1 .1 .0 .0), p .1 .1 .1 .0 .1),
-          gates-held known (maskedIn (a .work .now)) (a .weights .now) (a .work .now) (a .own .now) made (if1 .left) (c .before .if2 .taken) (p .1 .1 .1 .1 .1),
+          gates-held known (maskedIn (a .work .now)) (a .weights .now) (a .work .now) (a .own .now) made (omega (arith, if1 .left, p .1 .0)) (c .before .if2 .taken) (p .1 .1 .1 .1 .1),
         ),
       ),
     )
@@ -77,6 +78,7 @@ pub registers-into-spec : {M : Type 1} → statement M
 registers-into-spec =
     tie.close
     (tie.spec
+    (λ c. omega (arith, c .before .if1 .taken))
     context-of-requires
     first-registers-requires
     (λ c. search needs)

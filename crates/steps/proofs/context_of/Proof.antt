@@ -39,7 +39,7 @@ loop-again c =
     )
 
 returns : tie.Need-returns Inv-loop μ-loop
-returns c = record { settings-kept = c .before .loop .inv .1; round-kept = c .before .loop .inv .2; split = λ x h. c .before .loop .inv .4 x (omega arith) }
+returns c = record { settings-kept = c .before .loop .inv .1; round-kept = c .before .loop .inv .2; split = λ looks x h. c .before .loop .inv .4 x (omega (arith, c .before .before .split-count .ensures .2 looks)) }
 
 pub context-of-spec : {M : Type 1} → statement M
 context-of-spec =

@@ -7,9 +7,8 @@ use Rattle.field.specs.Field.{q}
 use Rattle.slice.specs.Layout.{column}
 use Rattle.steps.specs.Context.{publicBy, ContextOf}
 use Prim.Native.Nat.{ℕ, _≤_, _-_}
-use mathlib.Core.Path.{_≡_, ap}
+use mathlib.Core.Path.{_≡_}
 use native.Mathlib.Omega.{arith}
-use lib.ListN.{set}
 use Rattle.steps.proofs.insides_value.Statement.{statement}
 use Rattle.steps.proofs.insides_value.Tie as tie
 
@@ -33,8 +32,8 @@ loop-again c = let known = c .before .before .before .before .before .before .be
           rw (
             add-one,
             ← c .before .before .before .before .before .loop .inv .1 masked made,
-            ← hi-is (known .settings) (known .round) masked known made (c .before .before .before .before .before .before .before .before .pre .1 .1) j (omega arith),
-            ← lo-is (known .settings) (known .round) masked known made (c .before .before .before .before .before .before .before .before .pre .1 .1) j (omega arith),
+            ← hi-is (known .settings) (known .round) masked known made (c .before .before .before .before .before .before .before .before .pre .1 .1) (c .before .before .before .before .before .before .before .before .pre .1 .2) j (omega arith),
+            ← lo-is (known .settings) (known .round) masked known made (c .before .before .before .before .before .before .before .before .pre .1 .1) (c .before .before .before .before .before .before .before .before .pre .1 .2) j (omega arith),
             ← c .before .inside-value .ensures,
           ) (c .add-mod .ensures),
     )
