@@ -56,7 +56,7 @@ module _ (a : Shape) (factors keys0 keys1 draw server phone : List ℕ) (passes 
   pub ready : DealSlices orderOf draw server phone
   ready =
       let h = door keyCount a keys0 keys1 draw server phone (sym passes) in
-      record { ready = h .ready; draw-size = h .draw-size; server-size = h .server-size; phone-size = h .phone-size }
+      record { ready = h .ready; draw-size = h .draw-size; server-size = h .server-size; phone-size = h .phone-size; below = h .below }
 
   -- and what it leaves is the deal
   pub dealt : (server′ phone′ : List ℕ) (at : ℕ) → factors ≡ multipliers keys0 keys1 → Wrote orderOf draw server phone 0 (sharedFor orderOf) server′ phone′ at

@@ -70,6 +70,7 @@ module _ {o : DealContext} {draw : List ℕ} where
         draw-size = l .draw-size;
         server-size = ap length (u .server-is) ∙ length-dealt s₀ (serverFor o draw) k a ∙ l .server-size;
         phone-size = ap length (u .phone-is) ∙ length-dealt p₀ (phoneFor o draw) k a ∙ l .phone-size;
+        below = l .below;
       }
 
 -- ---- one place

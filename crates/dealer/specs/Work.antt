@@ -6,7 +6,8 @@ use Prim.Native.Nat.{ℕ, _+_, _*_, _/_, _%_, _≤_, _<_}
 use lib.Dec.{eqb}
 use lib.ListN.{length}
 use Rattle.lists.specs.Answers.{bit}
-use Rattle.lists.specs.Lists.{fill}
+use Rattle.lists.specs.Lists.{fill, allBelow}
+use Rattle.field.specs.Field.{q}
 use Rattle.settings.specs.Settings.{Params, paramsOf}
 use Rattle.settings.specs.Questions.{ShapeReady}
 use Rattle.settings.specs.Sizes.{width, shared, drawLength}
@@ -47,6 +48,7 @@ module _ (context : DealContext) where
     pub draw-size : length draw ≡ drawLength paramsFor width
     pub server-size : length server ≡ sharedFor * width
     pub phone-size : length phone ≡ sharedFor * width
+    pub below : allBelow q draw ≡ true
 
   -- place e is next: its own numbers begin at `at`, and its joined value is v
   pub record Next (draw : List ℕ) (e at v : ℕ) : Type 0 where

@@ -1,10 +1,11 @@
 // The deal: its questions, and both sides' books from a draw.
 ghost use mathlib.Core.Path.{_≡_};
-ghost use mathlib.Core.Bool.{_&&_};
-ghost use Prim.Native.Nat.{_+_, _*_, _/_, _≤_, _<_};
+ghost use mathlib.Core.Bool.{true, _&&_};
+ghost use Prim.Native.Nat.{ℕ, _+_, _*_, _/_, _≤_, _<_};
 ghost use lib.Dec.{eqb};
-ghost use lib.ListN.{length};
-ghost use Rattle.lists.specs.Answers.{bit};
+ghost use lib.ListN.{length, getD};
+ghost use Rattle.lists.specs.Lists.{fill, allBelow};
+ghost use Rattle.field.specs.Field.{q, sub};
 ghost use Rattle.field.specs.Sums.{sumTo};
 ghost use Rattle.settings.specs.Sets.{base};
 ghost use Rattle.settings.specs.Settings.{paramsOf};
@@ -22,7 +23,9 @@ use book::triple_at;
 use book::vector_at;
 use field::all_below_q;
 use field::mul_mod;
+use field::neg_mod;
 use field::sub_mod;
+use lists::copy_numbers;
 use rounding::Split;
 use rounding::split_number;
 use settings::KEY;
@@ -45,16 +48,6 @@ struct DealContext {
 }
 
 // ---- The deal's work: each function deals a run of places and gives back where the next place's numbers begin in the draw.
-
-// Entry j of the vector of d.
-fn vector_entry(j: usize, d: u32) -> u32
-    ensures { λ r. ⌜ r ≡ bit (eqb j d) ⌝ }
-{
-    if j == d as usize {
-        return 1;
-    }
-    0
-}
 
 // The columns of place k, with the joined value `value`; its own numbers begin at `at`.
 fn deal_place(
@@ -97,7 +90,19 @@ fn deal_drawn(
     deal_place(o, draw, server, phone, k, at + 1, value)
 }
 
-// The vector of d, from place k on.
+// The server's numbers of places that hold 0, `count` of them from place `first` of its book on: the phone's, negated.
+fn put_negatives(server: &mut [u32], first: usize, draw: &[u32], at: usize, count: usize)
+    requires { ⌜ (first + count ≤ length (now server)) × (at + count ≤ length (now draw)) × (allBelow q (now draw) ≡ true) ⌝ }
+    ensures { λ _. ⌜ now (server .exit) ≡ fill (now (server .entry)) first count (λ (i : ℕ). sub q 0 (getD (now (draw .entry)) (at + i) 0)) ⌝ }
+{
+    let mut i = 0;
+    while i < count {
+        server[first + i] = neg_mod(draw[at + i]);
+        i += 1;
+    }
+}
+
+// The vector of d, from place k on: all places as if they held 0, several numbers at a time; then the place that holds 1.
 fn deal_vector(
     o: DealContext,
     draw: &[u32],
@@ -112,13 +117,14 @@ fn deal_vector(
     requires { ⌜ Vector o (now draw) k size d × (at ≡ cursorFor o k) ⌝ }
     ensures { λ r. ⌜ Wrote o (now (draw .entry)) (now (server .entry)) (now (phone .entry)) k size (now (server .exit)) (now (phone .exit)) r ⌝ }
 {
-    let mut next = at;
-    let mut j = 0;
-    while j < size {
-        let value = vector_entry(j, d);
-        next = deal_place(o, draw, server, phone, k + j, next, value);
-        j += 1;
+    let next = at + WIDTH * size;
+    copy_numbers(phone, WIDTH * k, draw, at, WIDTH * size);
+    put_negatives(server, WIDTH * k, draw, at, WIDTH * size);
+    let one = d as usize;
+    if one >= size {
+        return next;
     }
+    deal_place(o, draw, server, phone, k + one, at + WIDTH * one, 1);
     next
 }
 

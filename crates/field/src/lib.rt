@@ -1,6 +1,7 @@
 // q, sum, difference and product modulo q, and the test whether all numbers of a slice are below q; the laws of congruence, sums and
 // linear forms. Every function takes any u32; the results are below q.
 ghost use mathlib.Core.Path.{_≡_};
+ghost use Prim.Native.Nat.{_<_};
 ghost use Rattle.lists.specs.Lists.{allBelow};
 ghost use Rattle.field.specs.Field.{q, add, sub, mul};
 
@@ -56,6 +57,17 @@ pub fn sub_mod(a: u32, b: u32) -> u32
         return a + Q - b;
     }
     a - b
+}
+
+// − a modulo q. The dealer's question 6 has told that a is below q.
+pub fn neg_mod(a: u32) -> u32
+    requires { ⌜ a < q ⌝ }
+    ensures { λ r. ⌜ r ≡ sub q 0 a ⌝ }
+{
+    if a == 0 {
+        return 0;
+    }
+    Q - a
 }
 
 // a × b modulo q.

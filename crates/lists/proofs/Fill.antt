@@ -1,7 +1,7 @@
 -- A list with a run of its places replaced by an index function, and what stands where in it.
 use mathlib.Core.Path.{_≡_, refl, sym, ap, _∙_}
 use mathlib.Core.List.{List, _∷_, _++_, []}
-use Prim.Native.Nat.{ℕ, zero, suc, _+_, _≤_, _<_}
+use Prim.Native.Nat.{ℕ, zero, suc, _+_, _-_, _≤_, _<_}
 use native.Mathlib.Omega.{arith}
 use native.Mathlib.Numerals.{add-one}
 use lib.ListN.{length, getD, set, drop, length-set, take}
@@ -102,6 +102,36 @@ pub fill-same : (s : List ℕ) (i n : ℕ) (f g : ℕ → ℕ) → ((k : ℕ) �
 unfolding fill
 fill-same s i zero f g e = refl
 fill-same s i (suc n) f g e = rw (fill-same s i n f g (λ k h. e k (omega arith)), e n (omega arith))
+
+-- a run stored over a part of another
+pub fill-over : (s : List ℕ) (i n a m : ℕ) (f g h : ℕ → ℕ) → i + n ≤ length s → a + m ≤ n → ((k : ℕ) → k < a → f k ≡ h k) → ((k : ℕ) → k < m → g k ≡ h (a + k))
+    → ((k : ℕ) → a + m ≤ k → k < n → f k ≡ h k) → fill (fill s i n f) (i + a) m g ≡ fill s i n h
+fill-over s i n a m f g h room part before over behind =
+    ext-getD 0 _ _ (simp length-fill) (λ j l. go j (decLt j i) (decLt j (i + a)) (decLt j (i + a + m)) (decLt j (i + n)))
+  where
+    t : List ℕ
+    t = fill s i n f
+
+    -- a place of the first run that is not stored over
+    kept : (k : ℕ) → k < n → f k ≡ h k → getD t (i + k) 0 ≡ getD (fill s i n h) (i + k) 0
+    kept k l e = fill-at s i n f k room l ∙ e ∙ sym (fill-at s i n h k room l)
+
+    go : (j : ℕ) → Dec (j < i) → Dec (j < i + a) → Dec (j < i + a + m) → Dec (j < i + n) → getD (fill t (i + a) m g) j 0 ≡ getD (fill s i n h) j 0
+    go j (yes b) d2 d3 d4 = fill-before t (i + a) m g j (omega arith) ∙ fill-before s i n f j b ∙ sym (fill-before s i n h j b)
+    go j (no b) (yes c) d3 d4 =
+        let e : i + (j - i) ≡ j = omega arith in
+        fill-before t (i + a) m g j c ∙ rw e at (kept (j - i) (omega arith) (before (j - i) (omega arith)))
+    go j (no b) (no c) (yes d) d4 =
+        let e : i + a + (j - (i + a)) ≡ j = omega arith in
+        let u : i + (a + (j - (i + a))) ≡ j = omega arith in
+        rw e at (fill-at t (i + a) m g (j - (i + a)) (omega (arith, length-fill s i n f)) (omega arith))
+        ∙ over (j - (i + a)) (omega arith)
+        ∙ sym (rw u at (fill-at s i n h (a + (j - (i + a))) room (omega arith)))
+    go j (no b) (no c) (no d) (yes l) =
+        let e : i + (j - i) ≡ j = omega arith in
+        fill-behind t (i + a) m g j (omega arith) ∙ rw e at (kept (j - i) (omega arith) (behind (j - i) (omega arith) (omega arith)))
+    go j (no b) (no c) (no d) (no l) =
+        fill-behind t (i + a) m g j (omega arith) ∙ fill-behind s i n f j (omega arith) ∙ sym (fill-behind s i n h j (omega arith))
 
 -- a run made elsewhere and copied
 pub fill-copy : (s t z : List ℕ) (a n : ℕ) (f : ℕ → ℕ) → t ≡ fill z 0 n f → n ≤ length z → fill s a n (λ k. getD t k 0) ≡ fill s a n f

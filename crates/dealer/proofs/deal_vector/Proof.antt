@@ -1,55 +1,56 @@
 -- `dealer::deal_vector` meets its contract. Assumes nothing.
-use Rattle.dealer.proofs.Work.{wrote-as}
-use Rattle.dealer.specs.Work.{DealSlices, Wrote}
-use Rattle.dealer.proofs.Work.{wrote-none, wrote-join, still-lent, next-vector}
-use Prim.Native.Nat.{_≤_, _-_}
-use mathlib.Core.Path.{_≡_, refl}
+use Rattle.dealer.proofs.Vectors.{vector-room, wrote-zeros, next-one, wrote-one, lent-zeros}
 use native.Mathlib.Omega.{arith}
 use borrow.Author.Needs.{needs}
 use Rattle.dealer.proofs.deal_vector.Statement.{statement}
 use Rattle.dealer.proofs.deal_vector.Tie as tie
 
-abbrev Inv-loop : tie.InvT-loop
-Inv-loop o draw server₀ phone₀ k at size d next₀ j₀ server phone next j = (j ≤ size) × DealSlices o draw server phone × Wrote o draw server₀ phone₀ k j server phone next
+add-next : tie.Need-add-next
+add-next c = omega (arith, vector-room (c .before .before .before .pre .1 .0) _ (c .before .before .before .pre .1 .1) (c .before .before .before .pre .0))
 
-abbrev μ-loop : tie.MeasureT-loop
-μ-loop o draw server₀ phone₀ k at size d next₀ j₀ server phone next j = size - j
+copy-numbers-requires : tie.Need-copy-numbers-requires
+copy-numbers-requires c κs = omega (arith, vector-room (c .before .before .before .before .pre .1 .0) _ (c .before .before .before .before .pre .1 .1) (c .before .before .before .before .pre .0), c .before .before .before .before .pre .1 .0 .inside, c .before .before .before .before .pre .0 .phone-size)
 
-loop-holds : tie.Need-loop-holds Inv-loop μ-loop
-loop-holds c =
-    (omega arith, c .before .before .before .pre .0, wrote-none (c .before .before .before .pre .1 .1))
+put-negatives-requires : tie.Need-put-negatives-requires
+put-negatives-requires c κs =
+    let p = c .before .before .before .before .before .before .before .before .pre in
+    (omega (arith, p .1 .0 .inside, p .0 .server-size), vector-room (p .1 .0) _ (p .1 .1) (p .0), p .0 .below)
 
-deal-place-requires : tie.Need-deal-place-requires Inv-loop μ-loop
+returns : tie.Need-returns
+returns c = wrote-zeros (c .before .before .before .before .before .before .before .before .before .before .before .before .pre .1 .0) _ (c .before .before .before .before .before .before .before .before .before .before .before .before .pre .1 .1) (c .if1 .taken) (c .before .before .before .put-negatives .ensures) (c .before .before .before .before .before .before .before .copy-numbers .ensures)
+
+add-deal-place-2 : tie.Need-add-deal-place-2
+add-deal-place-2 c = omega (arith, vector-room (c .before .before .before .before .before .before .before .before .before .before .before .before .before .before .pre .1 .0) _ (c .before .before .before .before .before .before .before .before .before .before .before .before .before .before .pre .1 .1) (c .before .before .before .before .before .before .before .before .before .before .before .before .before .before .pre .0), c .before .before .if1 .left)
+
+deal-place-requires : tie.Need-deal-place-requires
 deal-place-requires c κs =
-    let vector-entry = c .before .before .vector-entry in
-    let i = c .before .before .before .before .loop in (
-      i .inv .1,
-      next-vector (c .before .before .before .before .before .before .before .before .pre .1 .0) (i .j) (i .next) (vector-entry .result) (c .before .before .before .loop-test .taken)
-          (i .inv .2 .next) (vector-entry .ensures),
-    )
+    let p = c .before .before .before .before .before .before .before .before .before .before .before .before .before .before .pre in
+    (lent-zeros (p .1 .0) _ (p .1 .1) (p .0) (c .before .before .before .before .before .put-negatives .ensures) (c .before .before .before .before .before .before .before .before .before .copy-numbers .ensures), next-one (p .1 .0) _ (p .1 .1) (c .before .before .if1 .left))
 
-loop-again : tie.Need-loop-again Inv-loop μ-loop
-loop-again c =
-    let deal-place = c .before .before .before .before .deal-place in
-    let i = c .before .before .before .before .before .before .before .before .before .loop in
-    (omega arith, still-lent (i .inv .1) (deal-place .ensures), wrote-join (i .inv .2) (deal-place .ensures) refl)
-
-returns : tie.Need-returns Inv-loop μ-loop
-returns c = let e : c .before .loop .j ≡ c .before .before .before .before .before .args .size = omega arith in wrote-as (c .before .loop .inv .2) refl e
+returns-2 : tie.Need-returns-2
+returns-2 c =
+    let p = c .before .before .before .before .before .before .before .before .before .before .before .before .before .before .before .before .before .before .before .pre in
+    wrote-one (p .1 .0) _ (p .1 .1) (c .before .before .before .before .before .before .before .if1 .left) (p .0) (c .before .before .before .before .before .before .before .before .before .before .put-negatives .ensures) (c .before .before .before .before .before .before .before .before .before .before .before .before .before .before .copy-numbers .ensures) (c .before .before .before .before .deal-place .ensures)
 
 pub deal-vector-spec : {M : Type 1} → statement M
 deal-vector-spec =
     tie.close
     (tie.spec
-    Inv-loop
-    μ-loop
-    loop-holds
-    (λ c κs. omega arith)
-    (λ c. omega arith)
+    (λ c. search needs)
+    add-next
+    (λ c. search needs)
+    (λ c. search needs)
+    copy-numbers-requires
+    (λ c. search needs)
+    (λ c. search needs)
+    put-negatives-requires
+    (λ c. search needs)
+    (λ c. search needs)
+    returns
+    (λ c. search needs)
+    (λ c. search needs)
+    add-deal-place-2
     deal-place-requires
-    (λ c. omega arith)
-    (λ c. omega arith)
-    loop-again
     (λ c. search needs)
     (λ c. search needs)
-    returns)
+    returns-2)
