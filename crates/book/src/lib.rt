@@ -1,5 +1,6 @@
 // Books of shared numbers: where each number stands, and the K and gap of their zero checks; what a draw holds, and both sides' books
-// from it.
+// from it. The crates above ask only for places that there are, of a shape that has passed questions 1 and 2: the dealer by its own
+// questions, the sides by those of begin.
 ghost use mathlib.Core.Path.{_≡_};
 ghost use Prim.Native.Nat.{_+_, _*_, _/_, _≤_, _<_};
 ghost use Rattle.field.specs.Sums.{sumTo};

@@ -1,7 +1,7 @@
 -- Lists that hold a number for each column and opening, 32 places for a column, or for each column and gate, 16 places for a column.
-use mathlib.Core.Path.{_≡_, refl, sym, ap, _∙_}
+use mathlib.Core.Path.{_≡_, sym, ap, _∙_}
 use mathlib.Core.Logic.{_≢_}
-use mathlib.Core.Bool.{Bool, true, false, cond}
+use mathlib.Core.Bool.{cond}
 use mathlib.Core.List.{List}
 use Prim.Native.Nat.{ℕ, _+_, _*_, _/_, _%_, _≤_, _<_}
 use native.Mathlib.Decide.{decLt}
@@ -25,14 +25,6 @@ share-first skip f e = rw (eq-eqb f 0 e)
 pub part-later : (skip f : ℕ) → f ≢ 0 → f + skip ≡ columnAt skip f
 unfolding columnAt
 part-later skip f e = rw (ne-eqb f 0 e)
-
-pub column-in : (skip count f : ℕ) → f < count → columnAt skip f < count + skip
-unfolding columnAt
-column-in skip count f h = go (eqb f 0)
-  where
-    go : (b : Bool) → cond b 0 (f + skip) < count + skip
-    go true = omega arith
-    go false = omega arith
 
 -- all columns
 pub column-all : (f : ℕ) → columnAt 0 f ≡ f

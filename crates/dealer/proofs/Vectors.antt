@@ -12,7 +12,7 @@ use Rattle.lists.specs.Answers.{bit}
 use Rattle.lists.specs.Lists.{fill}
 use Rattle.lists.proofs.Fill.{fill-same, fill-over, length-fill}
 use Rattle.lists.proofs.Indicators.{eq-one, eq-zero}
-use Rattle.field.specs.Field.{q, sub, mul}
+use Rattle.field.specs.Field.{q, sub}
 use Rattle.settings.specs.Sizes.{width, drawLength}
 use Rattle.dealer.specs.Work.{dealtInto, paramsFor, sharedFor, cursorFor, serverFor, phoneFor, DealSlices, Next, Vector, Wrote}
 use Rattle.dealer.specs.declared.DealContext.{DealContext}

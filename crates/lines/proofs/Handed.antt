@@ -7,7 +7,7 @@ use native.Mathlib.Omega.{arith}
 use lib.Dec.{ltb, lit<}
 use lib.Seq.{length-take-le}
 use Rattle.text.specs.Decimal.{tooLarge}
-use lib.ListN.{length, getD, take, drop, replicate, length-replicate, getD-replicate, replicate-append-replicate}
+use lib.ListN.{length, getD, take, drop, replicate, getD-replicate, replicate-append-replicate}
 use borrow.Author.Tests.{lt-ltb}
 use Rattle.lists.specs.Lists.{every, listFrom, allBelow}
 use Rattle.lists.proofs.Lists.{length-listFrom, getD-listTo, listTo-cong}
@@ -70,9 +70,6 @@ pub front-zeros : (n m : ℕ) → n ≤ m → take {A = ℕ} n (replicate m 0) �
 front-zeros zero m h = refl
 front-zeros (suc n) zero h = absurd (omega arith)
 front-zeros (suc n) (suc m) h = ap (λ (l : List ℕ). 0 ∷ l) (front-zeros n m (omega arith))
-
-pub zeros-long : (n m : ℕ) → n ≤ m → n ≡ length (take {A = ℕ} n (replicate m 0))
-zeros-long n m h = sym (ap length (front-zeros n m h) ∙ length-replicate {A = ℕ} n 0)
 
 pub behind-zeros : (n m : ℕ) → drop {A = ℕ} n (replicate (n + m) 0) ≡ replicate m 0
 behind-zeros zero m = let e : 0 + m ≡ m = omega arith in rw e

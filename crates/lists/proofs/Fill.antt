@@ -133,35 +133,9 @@ fill-over s i n a m f g h room part before over behind =
     go j (no b) (no c) (no d) (no l) =
         fill-behind t (i + a) m g j (omega arith) ∙ fill-behind s i n f j (omega arith) ∙ sym (fill-behind s i n h j (omega arith))
 
--- a run made elsewhere and copied
-pub fill-copy : (s t z : List ℕ) (a n : ℕ) (f : ℕ → ℕ) → t ≡ fill z 0 n f → n ≤ length z → fill s a n (λ k. getD t k 0) ≡ fill s a n f
-fill-copy s t z a n f e r = fill-same s a n (λ k. getD t k 0) f (λ k h. ap (λ (l : List ℕ). getD l k 0) e ∙ front-at z n f k r h)
-
--- two such runs, one after the other
-pub copy-two : (s s₁ s₂ t u y z : List ℕ) (a b n : ℕ) (f g : ℕ → ℕ) → t ≡ fill y 0 n f → u ≡ fill z 0 n g → n ≤ length y → n ≤ length z →
-    s₁ ≡ fill s a n (λ k. getD t k 0) → s₂ ≡ fill s₁ b n (λ k. getD u k 0) → s₂ ≡ fill (fill s a n f) b n g
-copy-two s s₁ s₂ t u y z a b n f g et eu ry rz e₁ e₂ =
-    e₂ ∙ fill-copy s₁ u z b n g eu rz ∙ ap (λ (l : List ℕ). fill l b n g) (e₁ ∙ fill-copy s t y a n f et ry)
-
--- ---- copies
-
 -- a list copied from its first number on
 pub from-start : (s t : List ℕ) (a n : ℕ) → fill s a n (λ (j : ℕ). getD t (0 + j) 0) ≡ fill s a n (λ (j : ℕ). getD t j 0)
 from-start s t a n = fill-same s a n (λ (j : ℕ). getD t (0 + j) 0) (λ (j : ℕ). getD t j 0) (λ j l. ap (λ (k : ℕ). getD t k 0) (zero-add j))
-
--- its numbers, copied in front
-pub copied-at : (t z ys : List ℕ) (n : ℕ) → n ≤ length z → ys ≡ fill z 0 n (λ (j : ℕ). getD t (0 + j) 0) → (c : ℕ) → c < n → getD ys c 0 ≡ getD t c 0
-copied-at t z ys n h e c l =
-    rw e (front-at z n (λ (j : ℕ). getD t (0 + j) 0) c h l ∙ ap (λ (k : ℕ). getD t k 0) (zero-add c))
-
--- three copies, one after the other
-pub copy-three : (s s₁ s₂ s₃ t u : List ℕ) (a b c k n : ℕ) (f : ℕ → ℕ) → s₁ ≡ fill s a k f
-    → s₂ ≡ fill s₁ b n (λ (j : ℕ). getD t (0 + j) 0) → s₃ ≡ fill s₂ c n (λ (j : ℕ). getD u (0 + j) 0)
-    → s₃ ≡ fill (fill (fill s a k f) b n (λ (j : ℕ). getD t j 0)) c n (λ (j : ℕ). getD u j 0)
-copy-three s s₁ s₂ s₃ t u a b c k n f e₁ e₂ e₃ =
-    e₃ ∙ from-start s₂ u c n
-    ∙ ap (λ (l : List ℕ). fill l c n (λ (j : ℕ). getD u j 0))
-    (e₂ ∙ from-start s₁ t b n ∙ ap (λ (l : List ℕ). fill l b n (λ (j : ℕ). getD t j 0)) e₁)
 
 -- a loop that ends after all n
 pub fill-count : (s t : List ℕ) (a n m : ℕ) (f : ℕ → ℕ) → t ≡ fill s a n f → n ≡ m → t ≡ fill s a m f

@@ -1,7 +1,7 @@
 -- The bytes of a number, written one after another from the last to the first.
 use mathlib.Core.Path.{_≡_, ap, _∙_}
 use mathlib.Core.List.{List}
-use Prim.Native.Nat.{ℕ, zero, suc, _+_, _-_, _*_, _/_, _%_, _^_, _≤_, _<_}
+use Prim.Native.Nat.{ℕ, suc, _+_, _-_, _*_, _/_, _%_, _^_, _≤_}
 use native.Mathlib.Nat.{div-div-eq-div-mul, mul-comm, zero-add}
 use native.Mathlib.Omega.{arith}
 use lib.ListN.{set}

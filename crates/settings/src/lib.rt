@@ -1,5 +1,6 @@
 // What a run is agreed on: the settings, the refusal numbers, the number of keys, the constants of the sets, the questions about settings
-// and keys, a number for each column, the order of a run, and every size that follows.
+// and keys, a number for each column, the order of a run, and every size that follows. Functions that require a set, a count or a round in
+// its range are for the crates above, which have asked questions 1 and 2 before; a caller sizes its slices by the `.._size` functions.
 ghost use mathlib.Core.Path.{_≡_};
 ghost use mathlib.Core.List.{_∷_, _++_};
 ghost use Prim.Native.Nat.{_+_, _*_, _≤_, _<_};

@@ -71,7 +71,8 @@ loop-again c =
       omega arith,
       λ masked opened κs long made.
           let κ : ℕ → ℕ = λ (d : ℕ). getD κs d 0 in
-          let is = terms-register known masked made g (split-place .result) (omega arith) (split-place .ensures) (omega (arith, p .1 .0)) (omega (arith, p .1 .0)) (terms-of .result) opened (terms-of .ensures .0) in
+          let is = terms-register known masked made g (split-place .result) (omega arith) (split-place .ensures) (omega (arith, p .1 .0)) (omega (arith, p .1 .0))
+          (terms-of .result) opened (terms-of .ensures .0) in
           λ d k h l.
           slots-more (λ (d k : ℕ). runningOn (publicBy (known .settings) masked) 1 opened (getD κs d 0) (column (a .work .now) d) (k % 2) (k / 2)) (at .next) (a .columns) g _
           (omega (arith, p .0 .0 .shape .most)) (omega (arith, p .1, at .inv .2))

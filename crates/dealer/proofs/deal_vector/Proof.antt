@@ -6,10 +6,14 @@ use Rattle.dealer.proofs.deal_vector.Statement.{statement}
 use Rattle.dealer.proofs.deal_vector.Tie as tie
 
 add-next : tie.Need-add-next
-add-next c = omega (arith, vector-room (c .before .before .before .pre .1 .0) _ (c .before .before .before .pre .1 .1) (c .before .before .before .pre .0))
+add-next c =
+    let p = c .before .before .before .pre in
+    omega (arith, vector-room (p .1 .0) _ (p .1 .1) (p .0))
 
 copy-numbers-requires : tie.Need-copy-numbers-requires
-copy-numbers-requires c κs = omega (arith, vector-room (c .before .before .before .before .pre .1 .0) _ (c .before .before .before .before .pre .1 .1) (c .before .before .before .before .pre .0), c .before .before .before .before .pre .1 .0 .inside, c .before .before .before .before .pre .0 .phone-size)
+copy-numbers-requires c κs =
+    let p = c .before .before .before .before .pre in
+    omega (arith, vector-room (p .1 .0) _ (p .1 .1) (p .0), p .1 .0 .inside, p .0 .phone-size)
 
 put-negatives-requires : tie.Need-put-negatives-requires
 put-negatives-requires c κs =
@@ -17,20 +21,34 @@ put-negatives-requires c κs =
     (omega (arith, p .1 .0 .inside, p .0 .server-size), vector-room (p .1 .0) _ (p .1 .1) (p .0), p .0 .below)
 
 returns : tie.Need-returns
-returns c = wrote-zeros (c .before .before .before .before .before .before .before .before .before .before .before .before .pre .1 .0) _ (c .before .before .before .before .before .before .before .before .before .before .before .before .pre .1 .1) (c .if1 .taken) (c .before .before .before .put-negatives .ensures) (c .before .before .before .before .before .before .before .copy-numbers .ensures)
+returns c =
+    let p = c .before .before .before .before .before .before .before .before .before .before .before .before .pre in
+    let if1 = c .if1 in
+    let server = c .before .before .before .put-negatives .ensures in
+    let phone = c .before .before .before .before .before .before .before .copy-numbers .ensures in
+    wrote-zeros (p .1 .0) _ (p .1 .1) (if1 .taken) server phone
 
 add-deal-place-2 : tie.Need-add-deal-place-2
-add-deal-place-2 c = omega (arith, vector-room (c .before .before .before .before .before .before .before .before .before .before .before .before .before .before .pre .1 .0) _ (c .before .before .before .before .before .before .before .before .before .before .before .before .before .before .pre .1 .1) (c .before .before .before .before .before .before .before .before .before .before .before .before .before .before .pre .0), c .before .before .if1 .left)
+add-deal-place-2 c =
+    let p = c .before .before .before .before .before .before .before .before .before .before .before .before .before .before .pre in
+    let if1 = c .before .before .if1 in
+    omega (arith, vector-room (p .1 .0) _ (p .1 .1) (p .0), if1 .left)
 
 deal-place-requires : tie.Need-deal-place-requires
 deal-place-requires c κs =
     let p = c .before .before .before .before .before .before .before .before .before .before .before .before .before .before .pre in
-    (lent-zeros (p .1 .0) _ (p .1 .1) (p .0) (c .before .before .before .before .before .put-negatives .ensures) (c .before .before .before .before .before .before .before .before .before .copy-numbers .ensures), next-one (p .1 .0) _ (p .1 .1) (c .before .before .if1 .left))
+    let if1 = c .before .before .if1 in
+    let server = c .before .before .before .before .before .put-negatives .ensures in
+    let phone = c .before .before .before .before .before .before .before .before .before .copy-numbers .ensures in
+    (lent-zeros (p .1 .0) _ (p .1 .1) (p .0) server phone, next-one (p .1 .0) _ (p .1 .1) (if1 .left))
 
 returns-2 : tie.Need-returns-2
 returns-2 c =
     let p = c .before .before .before .before .before .before .before .before .before .before .before .before .before .before .before .before .before .before .before .pre in
-    wrote-one (p .1 .0) _ (p .1 .1) (c .before .before .before .before .before .before .before .if1 .left) (p .0) (c .before .before .before .before .before .before .before .before .before .before .put-negatives .ensures) (c .before .before .before .before .before .before .before .before .before .before .before .before .before .before .copy-numbers .ensures) (c .before .before .before .before .deal-place .ensures)
+    let if1 = c .before .before .before .before .before .before .before .if1 in
+    let server = c .before .before .before .before .before .before .before .before .before .before .put-negatives .ensures in
+    let phone = c .before .before .before .before .before .before .before .before .before .before .before .before .before .before .copy-numbers .ensures in
+    wrote-one (p .1 .0) _ (p .1 .1) (if1 .left) (p .0) server phone (c .before .before .before .before .deal-place .ensures)
 
 pub deal-vector-spec : {M : Type 1} → statement M
 deal-vector-spec =

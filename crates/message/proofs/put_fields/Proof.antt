@@ -32,9 +32,15 @@ loop-again c =
     let a = c .before .before .before .before .before .before .before .before .before .before .before .args in
     let i = c .before .before .before .before .before .before .before .before .loop .i in
     let bytes : Bytes (a .out .now) = λ j. omega (arith, c .before .before .before .before .before .before .before .before .before .before .slice-known .given j) in
-    let out : c .before .before .before .before .put-bits .last .0 ≡ putTo (a .out .now) (a .fields .now) (i + 1) = cc (put-more (a .out .now) bytes (a .fields .now) (c .before .before .before .before .before .before .before .before .before .before .before .pre .1) (omega arith) i (omega arith)) in
-    let end : 64 + 23 * i + 23 ≡ 64 + 23 * (i + 1) = omega arith in
-    (omega arith, out, omega arith, rw (out, c .last-bits .ensures, end) (put-head (a .out .now) bytes (a .fields .now) (c .before .before .before .before .before .before .before .before .before .before .before .pre .1) (omega arith) i _ (omega arith) (omega arith)))
+    let small = c .before .before .before .before .before .before .before .before .before .before .before .pre .1 in
+    let out : c .before .before .before .before .put-bits .last .0 ≡ putTo (a .out .now) (a .fields .now) (i + 1) =
+    cc (put-more (a .out .now) bytes (a .fields .now) small (omega arith) i (omega arith)) in
+    let end : 64 + 23 * i + 23 ≡ 64 + 23 * (i + 1) = omega arith in (
+      omega arith,
+      out,
+      omega arith,
+      rw (out, c .last-bits .ensures, end) (put-head (a .out .now) bytes (a .fields .now) small (omega arith) i _ (omega arith) (omega arith)),
+    )
 
 returns : tie.Need-returns Inv-loop μ-loop
 returns c =

@@ -28,8 +28,9 @@ number-at-requires c κs = (c .before .before .before .before .before .pre .0, o
 
 loop-again : tie.Need-loop-again Inv-loop μ-loop
 loop-again c =
-    let settings = c .before .before .before .before .before .before .before .args .settings in
-    let split : ℕ → Split = λ (y : ℕ). splitOf (scaleOf (settings .shape .set)) (numberAt settings (λ (j : ℕ). getD (c .before .before .before .before .before .before .before .args .masked .now) j 0) y) in (
+    let a = c .before .before .before .before .before .before .before .args in
+    let settings = a .settings in
+    let split : ℕ → Split = λ (y : ℕ). splitOf (scaleOf (settings .shape .set)) (numberAt settings (λ (j : ℕ). getD (a .masked .now) j 0) y) in (
       omega arith,
       c .before .before .before .loop .inv .1,
       c .before .before .before .loop .inv .2,
@@ -39,7 +40,10 @@ loop-again c =
     )
 
 returns : tie.Need-returns Inv-loop μ-loop
-returns c = record { settings-kept = c .before .loop .inv .1; round-kept = c .before .loop .inv .2; split = λ looks x h. c .before .loop .inv .4 x (omega (arith, c .before .before .split-count .ensures .2 looks)) }
+returns c =
+    let inv = c .before .loop .inv in
+    let count = c .before .before .split-count .ensures in
+    record { settings-kept = inv .1; round-kept = inv .2; split = λ looks x h. inv .4 x (omega (arith, count .2 looks)) }
 
 pub context-of-spec : {M : Type 1} → statement M
 context-of-spec =

@@ -26,14 +26,15 @@ loop-holds c = (omega arith, λ masked made. c .mul-mod .ensures)
 loop-again : tie.Need-loop-again Inv-loop μ-loop
 unfolding insides insideForm
 loop-again c = let known = c .before .before .before .before .before .before .before .before .args .t3 in
+    let p = c .before .before .before .before .before .before .before .before .pre .1 in
     let j = c .before .before .before .before .before .loop .j in (
       omega arith,
       λ masked made.
           rw (
             add-one,
             ← c .before .before .before .before .before .loop .inv .1 masked made,
-            ← hi-is (known .settings) (known .round) masked known made (c .before .before .before .before .before .before .before .before .pre .1 .1) (c .before .before .before .before .before .before .before .before .pre .1 .2) j (omega arith),
-            ← lo-is (known .settings) (known .round) masked known made (c .before .before .before .before .before .before .before .before .pre .1 .1) (c .before .before .before .before .before .before .before .before .pre .1 .2) j (omega arith),
+            ← hi-is (known .settings) (known .round) masked known made (p .1) (p .2) j (omega arith),
+            ← lo-is (known .settings) (known .round) masked known made (p .1) (p .2) j (omega arith),
             ← c .before .inside-value .ensures,
           ) (c .add-mod .ensures),
     )
