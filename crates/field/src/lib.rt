@@ -20,7 +20,8 @@ fn add_any(a: u32, b: u32) -> u32
     ((a as u64 + b as u64) % Q64) as u32
 }
 
-// a + b modulo q. Two numbers below q, as all that a side adds are, need no division.
+// a + b modulo q. Of two numbers below q, as all that a side adds are, the sum is below 2 q: the compiler needs no division. The code has
+// no `if` on such numbers, so that no jump depends on them.
 pub fn add_mod(a: u32, b: u32) -> u32
     ensures { λ r. ⌜ r ≡ add q a b ⌝ }
 {
@@ -30,10 +31,7 @@ pub fn add_mod(a: u32, b: u32) -> u32
     if b >= Q {
         return add_any(a, b);
     }
-    if a + b < Q {
-        return a + b;
-    }
-    a + b - Q
+    (a + b) % Q
 }
 
 // a - b modulo q, of any two numbers.
@@ -43,7 +41,7 @@ fn sub_any(a: u32, b: u32) -> u32
     ((a as u64 + ABOVE - b as u64) % Q64) as u32
 }
 
-// a - b modulo q. Two numbers below q need no division here either.
+// a - b modulo q, likewise.
 pub fn sub_mod(a: u32, b: u32) -> u32
     ensures { λ r. ⌜ r ≡ sub q a b ⌝ }
 {
@@ -53,10 +51,7 @@ pub fn sub_mod(a: u32, b: u32) -> u32
     if b >= Q {
         return sub_any(a, b);
     }
-    if a < b {
-        return a + Q - b;
-    }
-    a - b
+    (a + (Q - b)) % Q
 }
 
 // − a modulo q. The dealer's question 6 has told that a is below q.
