@@ -1,6 +1,6 @@
 // Books of shared numbers: where each number stands, and the K and gap of their zero checks; what a draw holds, and both sides' books
-// from it. The crates above ask only for places that there are, of a shape that has passed questions 1 and 2: the dealer by its own
-// questions, the sides by those of begin.
+// from it. What its functions require the crates above have found out: they ask for places that there are, of a shape that passes questions
+// 1 and 2. The dealer has asked these; a side has asked them at begin, and looks at what it kept in every later call.
 ghost use mathlib.Core.Path.{_≡_};
 ghost use Prim.Native.Nat.{_+_, _*_, _/_, _≤_, _<_};
 ghost use Rattle.field.specs.Sums.{sumTo};

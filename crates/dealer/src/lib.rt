@@ -90,7 +90,7 @@ fn deal_drawn(
     deal_place(o, draw, server, phone, k, at + 1, value)
 }
 
-// The server's numbers of places that hold 0, `count` of them from place `first` of its book on: the phone's, negated.
+// `count` numbers of the server's book from number `first` on, of places that hold 0: the phone's, which the draw has from `at` on, negated.
 fn put_negatives(server: &mut [u32], first: usize, draw: &[u32], at: usize, count: usize)
     requires { ⌜ (first + count ≤ length (now server)) × (at + count ≤ length (now draw)) × (allBelow q (now draw) ≡ true) ⌝ }
     ensures { λ _. ⌜ now (server .exit) ≡ fill (now (server .entry)) first count (λ (i : ℕ). sub q 0 (getD (now (draw .entry)) (at + i) 0)) ⌝ }
@@ -102,7 +102,8 @@ fn put_negatives(server: &mut [u32], first: usize, draw: &[u32], at: usize, coun
     }
 }
 
-// The vector of d, from place k on: all places as if they held 0, several numbers at a time; then the place that holds 1.
+// The vector of d, from place k on: all places as if they held 0, several numbers at a time; then the place that holds 1. (A d behind the
+// vector's end has no place: no digit is such, but nothing here need know it.)
 fn deal_vector(
     o: DealContext,
     draw: &[u32],

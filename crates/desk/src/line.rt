@@ -37,7 +37,8 @@ fn put_result(out: &mut [u8], at: usize, line: &[u8], numbers: &mut [u32]) -> us
     put_call(out, at, call, &numbers[..count])
 }
 
-// The output line for an input line without its line end, put at a place of `out`; the place behind it.
+// The output line for an input line without its line end, put at a place of `out`; the place behind it. `answer_some` and `put_last` hand on
+// main's slice of numbers.
 pub fn answer_line(out: &mut [u8], at: usize, line: &[u8], numbers: &mut [u32]) -> usize
     requires { ⌜ mostNumbers ≤ length (now numbers) ⌝ }
     ensures { λ r. ⌜ textAt (now (out .exit)) r ≡ puts (textAt (now (out .entry)) at) (deskAnswer (now (line .entry))) ⌝ }

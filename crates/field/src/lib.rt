@@ -1,5 +1,5 @@
-// q, sum, difference and product modulo q, and the test whether all numbers of a slice are below q; the laws of congruence, sums and
-// linear forms. Every function takes any u32; the results are below q.
+// q, sum, difference, negative and product modulo q, and the test whether all numbers of a slice are below q; the laws of congruence, sums
+// and linear forms. Every function but `neg_mod` takes any u32; the results are below q.
 ghost use mathlib.Core.Path.{_≡_};
 ghost use Prim.Native.Nat.{_<_};
 ghost use Rattle.lists.specs.Lists.{allBelow};
@@ -54,7 +54,7 @@ pub fn sub_mod(a: u32, b: u32) -> u32
     (a + (Q - b)) % Q
 }
 
-// − a modulo q. The dealer's question 6 has told that a is below q.
+// − a modulo q. The dealer calls it of numbers of the draw, which its question 6 has found below q.
 pub fn neg_mod(a: u32) -> u32
     requires { ⌜ a < q ⌝ }
     ensures { λ r. ⌜ r ≡ sub q 0 a ⌝ }

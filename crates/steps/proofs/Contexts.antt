@@ -39,6 +39,17 @@ pub looks-bound : (kind round : ℕ) → kind ≢ 0 → round ≡ 6 → looksAt 
 unfolding looksAt
 looks-bound kind round e six = rw (six, ne-eqb kind 0 e)
 
+-- how many numbers are split by a test
+pub counted-all : {b : Bool} {n : ℕ} → b ≡ true → cond b n 0 ≡ n
+counted-all e = rw e
+
+pub counted-none : {b : Bool} (n : ℕ) → b ≡ false → cond b n 0 ≡ 0
+counted-none n e = rw e
+
+pub counted-most : (b : Bool) (n : ℕ) → cond b n 0 ≤ n
+counted-most true n = omega arith
+counted-most false n = omega arith
+
 module _ (shape : Shape) where
   pub count-high : shape .kind ≡ 0 → splitCount shape ≡ shape .n
   unfolding splitCount

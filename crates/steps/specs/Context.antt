@@ -46,7 +46,8 @@ splitIn context x = getD (context .splits) x (record { number = 0; digits = [] }
 pub record ContextOf (settings : Settings) (round : ℕ) (masked : ℕ → ℕ) (context : Context) : Type 0 where
   pub settings-kept : context .settings ≡ settings
   pub round-kept : context .round ≡ round
-  pub split : looksAt (settings .shape .kind) round ≡ true → (x : ℕ) → x < splitCount (settings .shape) → splitIn context x ≡ splitOf (scaleOf (settings .shape .set)) (numberAt settings masked x)
+  pub split : looksAt (settings .shape .kind) round ≡ true → (x : ℕ) → x < splitCount (settings .shape)
+      → splitIn context x ≡ splitOf (scaleOf (settings .shape .set)) (numberAt settings masked x)
 
 -- each digit of a context is below its base: the top digit is at most s
 abbrev pub SplitsBelow : Context → Type 0

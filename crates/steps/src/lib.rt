@@ -2,7 +2,7 @@
 // a linear form with public coefficients, the same in every column. Who calls has asked the questions first, and
 // asks for openings and coefficients that there are.
 ghost use mathlib.Core.Path.{_≡_};
-ghost use mathlib.Core.Bool.{true};
+ghost use mathlib.Core.Bool.{cond};
 ghost use mathlib.Core.Logic.{_≢_};
 ghost use Prim.Native.Nat.{ℕ, _+_, _*_, _/_, _≤_, _<_};
 ghost use lib.Dec.{ltb};
@@ -111,7 +111,7 @@ fn looks_at(kind: u32, round: u32) -> bool
 // How many numbers a context splits: none where the round looks at no digit.
 fn split_count(shape: Shape, round: u32) -> usize
     requires { ⌜ shape .n ≤ 8 ⌝ }
-    ensures { λ r. ⌜ (r ≤ splitCount shape) × (r ≤ 16) × (looksAt (shape .kind) round ≡ true → r ≡ splitCount shape) ⌝ }
+    ensures { λ r. ⌜ (r ≡ cond (looksAt (shape .kind) round) (splitCount shape) 0) × (r ≤ 16) ⌝ }
 {
     if !looks_at(shape.kind, round) {
         return 0;

@@ -1,14 +1,14 @@
 -- `steps::context_of` meets its contract.
 use Prim.Native.Nat.{ℕ, _≤_, _<_, _-_}
-use mathlib.Core.Path.{_≡_, refl}
+use mathlib.Core.Path.{_≡_, refl, _∙_}
 use mathlib.Core.List.{[]}
 use native.Mathlib.Omega.{arith}
 use lib.ListN.{length, getD, length-set}
 use Rattle.settings.specs.Sets.{scaleOf}
 use Rattle.rounding.specs.declared.Split.{Split}
 use Rattle.rounding.specs.Digits.{splitOf}
-use Rattle.steps.specs.Context.{numberAt}
-use Rattle.steps.proofs.Contexts.{split-more}
+use Rattle.steps.specs.Context.{looksAt, splitCount, numberAt}
+use Rattle.steps.proofs.Contexts.{counted-all, counted-most, split-more}
 use Rattle.steps.proofs.context_of.Statement.{statement}
 use Rattle.steps.proofs.context_of.Tie as tie
 
@@ -24,7 +24,10 @@ loop-holds : tie.Need-loop-holds Inv-loop μ-loop
 loop-holds c = (omega arith, refl, refl, refl, λ y h. absurd (omega arith))
 
 number-at-requires : tie.Need-number-at-requires Inv-loop μ-loop
-number-at-requires c κs = (c .before .before .before .before .before .pre .0, omega arith)
+number-at-requires c κs =
+    let settings = c .before .before .before .before .before .args .settings in
+    let count = c .before .before .split-count .ensures .0 in
+    (c .before .before .before .before .before .pre .0, omega (arith, count, counted-most (looksAt (settings .shape .kind) (c .before .before .before .before .before .args .round)) (splitCount (settings .shape))))
 
 loop-again : tie.Need-loop-again Inv-loop μ-loop
 loop-again c =
@@ -42,8 +45,8 @@ loop-again c =
 returns : tie.Need-returns Inv-loop μ-loop
 returns c =
     let inv = c .before .loop .inv in
-    let count = c .before .before .split-count .ensures in
-    record { settings-kept = inv .1; round-kept = inv .2; split = λ looks x h. inv .4 x (omega (arith, count .2 looks)) }
+    let count = c .before .before .split-count .ensures .0 in
+    record { settings-kept = inv .1; round-kept = inv .2; split = λ looks x h. inv .4 x (omega (arith, count ∙ counted-all looks)) }
 
 pub context-of-spec : {M : Type 1} → statement M
 context-of-spec =
