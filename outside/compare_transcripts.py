@@ -11,8 +11,9 @@ import transcript
 from transcript import Q, ALPHA, PARTS
 
 KINDS = ('honest', 'honest', 'honest', 'share', 'check', 'draw', 'settings', 'short', 'long', 'text')
-# with books in place of the draw; 'draw' then spoils a number of the books, 'dealer' is a bad dealer whose books pass every check
-BOOK_KINDS = ('honest', 'dealer', 'dealer', 'dealer', 'swapped', 'share', 'check', 'draw', 'draw', 'settings', 'short', 'long')
+# with books in place of the draw; 'draw' then spoils a number of the books, 'dealer' is a bad dealer whose books pass every check, and
+# 'answer' is one who chooses the answer, near the end of its range
+BOOK_KINDS = ('honest', 'dealer', 'dealer', 'answer', 'answer', 'answer', 'swapped', 'share', 'check', 'draw', 'draw', 'settings', 'short', 'long')
 
 
 def centre_near(rng, bound):
@@ -68,6 +69,24 @@ def shift(head, book, place, amount):
         book[3 * place + c] = (book[3 * place + c] + factor * amount) % Q
 
 
+def choose_answer(parts, books, wanted):
+    """Moves the entries of the zero check's vectors by what the honest answer lacks to the one wanted: no check fails."""
+    head, server, phone, draw = parts
+    kind, n = head[1:3]
+    size = len(books[0]) // 3
+    honest_answer = transcript.transcript(head + server + phone + draw)[-4]
+    for j, (have, want) in enumerate(zip(map(int, honest_answer.split()[2:]), wanted)):
+        end, entries, amount = ((j + 1) * size // n, 7, have - want) if kind == 0 else (size, n + 2, want - have)
+        for place in range(end - entries, end):
+            shift(head, books[0], place, amount)
+
+
+def edge(rng, set_, kind):
+    """A number for an answer, in range or not."""
+    limit = PARTS[set_] if kind == 0 else 2
+    return rng.choice((0, limit - 1, limit - 1, limit - 1, limit - 1, limit - 1, limit, limit + 1, Q - 1))
+
+
 def spoil(rng, how, parts):
     head, server, phone, draw = parts
     if how == 'share':
@@ -121,6 +140,9 @@ def books_case(rng, how):
         for _ in range(rng.choice((1, 1, 3, 40))):
             book = rng.choice(books)
             shift(parts[0], book, rng.randrange(len(book) // 3), rng.choice((1, Q - 1, rng.randrange(1, Q))))
+    elif how == 'answer':
+        set_, kind, n = parts[0][:3]
+        choose_answer(parts, books, [edge(rng, set_, kind) for _ in range(n if kind == 0 else 1)])
     elif how == 'swapped':
         books.reverse()
     return spoil(rng, how, parts[:3] + [books[0] + books[1]])
@@ -136,15 +158,10 @@ def case(rng):
 
 def last_words(out):
     """What a transcript came to, for the counts."""
-    end = 'finished'
     for line in out.decode().split('\n'):
-        if line.startswith('refused'):
+        if line.startswith('refused') or line == 'malformed':
             return line
-        if line == 'malformed':
-            return line
-        if line.startswith('answer') and any(int(x) >= max(PARTS) for x in line.split()[2:]):
-            end = 'finished, with an answer out of range'
-    return end
+    return 'finished'
 
 
 def main(args):

@@ -350,6 +350,8 @@ class Side:
 
     def answer(self):
         ask(self.finished, 8)
+        limit = PARTS[self.set] if self.kind == 0 else 2
+        ask(all(x < limit for x in self.result), 15)
         return self.result
 
 
@@ -390,14 +392,20 @@ def transcript(numbers):
                 lines.append('%d %d %s' % (sender, round_, message.hex()))
                 call, who = 'take', 1 - sender
                 sides[1 - sender].take(message)
-        call = 'answer'
-        for who in (0, 1):
-            lines.append('answer %d %s' % (who, ' '.join(map(str, sides[who].answer()))))
+        lines += [answer_line(who, sides[who]) for who in (0, 1)]
     except No as no:
         lines.append('refused %s %s %d' % (call, who, no.args[0]))
     for who in (0, 1):
         lines.append('openings %d %d' % (who, sides[who].accepted))
     return lines
+
+
+def answer_line(who, side):
+    """A side's answer, or its refusal."""
+    try:
+        return 'answer %d %s' % (who, ' '.join(map(str, side.answer())))
+    except No as no:
+        return 'refused answer %d %d' % (who, no.args[0])
 
 
 def output(data):

@@ -68,14 +68,14 @@ mod tests {
     #[test]
     fn codes_are_nothing_or_refusals() {
         assert_eq!(form_from(0), Ok(()));
-        for refusal in Refusal::ALL {
+        for &refusal in Refusal::ALL {
             assert_eq!(form_from(refusal.number()), Err(refusal));
         }
     }
 
     #[test]
-    #[should_panic(expected = "libphone broke its contract: 15 is neither 0 nor a refusal")]
+    #[should_panic(expected = "libphone broke its contract: 4294967295 is neither 0 nor a refusal")]
     fn an_unknown_code_panics() {
-        let _ = form_from(15);
+        let _ = form_from(u32::MAX);
     }
 }

@@ -141,21 +141,22 @@ mod tests {
 
     #[test]
     fn refusals_are_multiples() {
-        for number in 1..=14 {
-            let refusal = Refusal::from_number(number).unwrap();
-            assert_eq!(high_from(i64::from(number) * UNIT), Err(refusal));
-            assert_eq!(low_from(i64::from(number) * UNIT), Err(refusal));
+        for &refusal in Refusal::ALL {
+            let code = i64::from(refusal.number()) * UNIT;
+            assert_eq!(high_from(code), Err(refusal));
+            assert_eq!(low_from(code), Err(refusal));
         }
     }
 
     #[test]
     fn all_else_panics_and_names_the_library() {
+        let last = Refusal::ALL.len() as i64;
         let broken = [
-            15 * UNIT,
+            (last + 1) * UNIT,
             UNIT + 1,
             2 * UNIT - 1,
             -UNIT,
-            -14 * UNIT,
+            -last * UNIT,
             i64::MAX,
             i64::MIN,
         ];

@@ -4,6 +4,7 @@ ghost use mathlib.Core.Path.{_≡_};
 ghost use Prim.Native.Nat.{_<_};
 ghost use Rattle.lists.specs.Lists.{allBelow};
 ghost use Rattle.field.specs.Field.{q, add, sub, mul};
+use lists::all_below;
 
 // q = 8,380,417, at the two widths in which the code needs it.
 pub const Q: u32 = 8380417;
@@ -72,17 +73,9 @@ pub fn mul_mod(a: u32, b: u32) -> u32
     ((a as u64 * b as u64) % Q64) as u32
 }
 
-// Question 6 of a list: is every number below q? None is passed over after a first no, so that several are compared at a time.
+// Question 6 of a list: is every number below q?
 pub fn all_below_q(numbers: &[u32]) -> bool
     ensures { λ r. ⌜ r ≡ allBelow q (now (numbers .entry)) ⌝ }
 {
-    let mut good = true;
-    let mut i = 0;
-    while i < numbers.len() {
-        if numbers[i] >= Q {
-            good = false;
-        }
-        i += 1;
-    }
-    good
+    all_below(numbers, Q)
 }

@@ -5,26 +5,26 @@ use mathlib.Core.Bool.{true, _&&_}
 use mathlib.Core.List.{List, [], _++_}
 use native.Mathlib.Omega.{arith}
 use lib.Dec.{ltb}
-use lib.ListN.{length, getD, take, drop, replicate, length-append, length-replicate, replicate-append-replicate}
+use lib.ListN.{length, take, drop, replicate, length-append, length-replicate, replicate-append-replicate}
 use lib.Seq.{take-at, drop-at}
-use borrow.Author.Tests.{le-leb, ltb-true, eq-eqb}
+use borrow.Author.Tests.{ltb-true, eq-eqb}
 use Rattle.lists.specs.Answers.{ask}
 use Rattle.lists.specs.Lists.{allBelow, inFront}
-use Rattle.lists.proofs.Lists.{length-listFrom}
 use Rattle.lists.proofs.Questions.{passed, both-yes}
 use Rattle.field.specs.Field.{q}
 use Rattle.settings.specs.declared.Settings.{Settings}
 use Rattle.settings.specs.Settings.{paramsIn}
 use Rattle.settings.specs.Sizes.{keyCount, width, shared, drawLength, workLength, bookSize, drawSize, inputSize}
+use Rattle.settings.proofs.Sizes.{answer-most}
 use Rattle.settings.specs.Questions.{askShape, isBit, countOk, boundOk, askSettings, shapeOk, Ready}
 use Rattle.settings.proofs.Ready.{settings-ready, settings-rest}
 use Rattle.book.specs.Books.{multipliers}
 use Rattle.dealer.specs.Deal.{dealNo}
 use Rattle.state.specs.declared.Side.{Side}
-use Rattle.state.specs.State.{whole, sendDue, takeDue, underWay, finished, placesOf, heldAnswer, answerNo, answerCall}
-use Rattle.state.proofs.States.{finished-whole, places-most}
-use Rattle.runs.specs.Records.{answerOf, missingShares, JointState}
-use Rattle.runs.specs.Demands.{Fixed, Idle, observerInput, peerInput}
+use Rattle.state.specs.State.{whole, sendDue, takeDue, underWay}
+use Rattle.runs.specs.Records.{answerOf, missingShares, PartyState, JointState}
+use Rattle.runs.specs.Demands.{Fixed, Idle, Ended, observerInput, peerInput}
+use Rattle.runs.proofs.Answers.{answer-length}
 use Rattle.syntax.specs.declared.Request.{Request}
 use Rattle.execution.specs.Execution.{Carried, noRefusal, refusalOf, carryAll, runCalls, serverInputs, phoneInputs, drawIn, freshParty, dealNoOf, executed}
 use Rattle.execution.specs.Theorems.{GoesThrough}
@@ -40,17 +40,10 @@ use Rattle.lines.proofs.Handed.{settings-pass-all, ones-ok, columns-lon
 abbrev given : ℕ → List ℕ → LineResult
 given count numbers = record { refused = 0; length = count; numbers = inFront numbers (replicate 8 0) }
 
-module _ (s : Settings) (secret : List ℕ) (x : Side) (done : finished x ≡ true) (held : heldAnswer x ≡ answerOf s secret) where
-  places : placesOf x ≡ length (answerOf s secret)
-  places = sym (length-listFrom 0 (placesOf x) (λ (j : ℕ). getD (x .answer) j 0)) ∙ ap length held
-
-  asked : answerNo x (replicate 8 0) ≡ 0
-  unfolding answerNo ask
-  asked = rw (done, le-leb (placesOf x) 8 (places-most x (finished-whole x done)))
-
-  answered-is : answeredBy x ≡ given (length (answerOf s secret)) (answerOf s secret)
-  unfolding answeredBy answerCall
-  answered-is = rw asked (ap₂ given places held)
+module _ (s : Settings) (secret : List ℕ) (ready : Ready s) (long : length secret ≡ s .shape .n) where
+  answered-is : (x : PartyState) → Ended s secret x → answeredBy (x .side) ≡ given (length (answerOf s secret)) (answerOf s secret)
+  unfolding answeredBy
+  answered-is x e = rw (e .gives (replicate 8 0) (answer-most (paramsIn s) (ready .shape .most))) (ap (λ (n : ℕ). given n (answerOf s secret)) (sym (answer-length s secret long)))
 
 -- ---- The run
 
@@ -185,7 +178,7 @@ module _ (serial : ℕ) (o : Request) (ok : requestNo serial o ≡ 0) (fits : se
   unfolding resultFor
   run-gives x e =
       ap answeredBy (e ∙ ap (λ (c : Carried). c .parties .observer .side) run-is)
-      ∙ answered-is s secret (honest .parties .observer .side) (through .server .done) (through .server .answer)
+      ∙ answered-is s secret (request-ready serial o ok) secret-long (honest .parties .observer) (through .server)
       ∙ rw ok
 
 -- ---- The numbers of a run, in a slice of zeros: the inputs are put in front, and cleared again

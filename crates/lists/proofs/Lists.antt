@@ -6,8 +6,8 @@ use Prim.Native.Nat.{ℕ, zero, suc, _+_, _*_, _-_, _≤_, _<_, min}
 use native.Mathlib.Nat.{zero-add, add-zero, add-assoc, mul-zero, mul-suc}
 use native.Mathlib.Decide.{decLt}
 use native.Mathlib.Omega.{arith}
-use lib.ListN.{length, getD, take, drop, length-append, List·getD-append, length-drop, drop-of-length-le, replicate}
-use lib.Seq.{ext-getD, getD-append-add, getD-drop, take-all}
+use lib.ListN.{length, getD, take, drop, take-append-drop, length-append, List·getD-append, length-drop, drop-of-length-le, replicate}
+use lib.Seq.{ext-getD, getD-append-add, getD-drop, take-all, length-take-le}
 use Rattle.lists.specs.Lists.{listFrom, listTo, joinFrom, joinTo}
 
 -- ---- runs f i, .., f (i + n - 1)
@@ -156,6 +156,11 @@ pub front-list : (n : ℕ) (xs ys : List ℕ) → length xs ≡ n → listTo n (
 front-list n xs ys e =
     rw (← e)
     (listTo-cong (length xs) (λ (j : ℕ). getD (xs ++ ys) j 0) (λ (j : ℕ). getD xs j 0) (λ j l. List·getD-append xs ys 0 j l) ∙ listTo-getD xs)
+
+-- the front of a list, number by number
+pub front-taken : (n : ℕ) (xs : List ℕ) → n ≤ length xs → take n xs ≡ listTo n (λ (j : ℕ). getD xs j 0)
+front-taken n xs h =
+    sym (front-list n (take n xs) (drop n xs) (length-take-le n xs h)) ∙ ap (λ (l : List ℕ). listTo n (λ (j : ℕ). getD l j 0)) (take-append-drop n xs)
 
 -- zeros
 pub getD-zeros : (n c : ℕ) → _≡_ {A = ℕ} (getD (replicate n 0) c 0) 0

@@ -1,12 +1,12 @@
 // The words for lists and answers in which the meaning of the product is written, and their laws; and the functions over slices that
-// several crates need: the smaller of two numbers, copying, and the length before a byte.
+// several crates need: the smaller of two numbers, a test of every number, copying, and the length before a byte.
 ghost use mathlib.Core.Path.{_≡_};
 ghost use mathlib.Core.Bool.{not};
 ghost use Prim.Native.Nat.{ℕ, _+_, _≤_, min};
 ghost use lib.Dec.{eqb};
 ghost use lib.ListN.{length, getD, drop};
 ghost use lib.Seq.{paste};
-ghost use Rattle.lists.specs.Lists.{every, fill, lengthBefore};
+ghost use Rattle.lists.specs.Lists.{every, allBelow, fill, lengthBefore};
 
 // The bytes of a block: two of the vectors that every x86-64 has.
 const BLOCK: usize = 32;
@@ -19,6 +19,21 @@ pub fn least(a: usize, b: usize) -> usize
         return a;
     }
     b
+}
+
+// Is every number below the limit? None is passed over after a first no, so that several are compared at a time.
+pub fn all_below(numbers: &[u32], limit: u32) -> bool
+    ensures { λ r. ⌜ r ≡ allBelow limit (now (numbers .entry)) ⌝ }
+{
+    let mut good = true;
+    let mut i = 0;
+    while i < numbers.len() {
+        if numbers[i] >= limit {
+            good = false;
+        }
+        i += 1;
+    }
+    good
 }
 
 // n numbers of `from` from place `first` on, to the places of `to` from `at` on. The caller knows that there are so many in both.

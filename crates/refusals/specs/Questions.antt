@@ -17,7 +17,7 @@ use Rattle.message.specs.declared.Header.{Header}
 use Rattle.message.specs.Message.{headerIn, headerNumber, headerWith, fieldsOk}
 use Rattle.stock.specs.Stock.{stockedSize, bothStocks, isAbove, someOf}
 use Rattle.state.specs.declared.Side.{Side}
-use Rattle.state.specs.State.{sendDue, takeDue, underWay, finished, placesOf}
+use Rattle.state.specs.State.{sendDue, takeDue, underWay, finished, placesOf, inRange}
 use Rattle.opening.specs.Opening.{dueHeader, passes}
 use Rattle.side.specs.declared.Run.{Run}
 
@@ -132,9 +132,10 @@ takeQuestions k s work message =
     (asks 13 (allTo (openings (paramsIn (s .settings)) (s .round)) (passes k s work message))
     ∷ [])
 
--- "Answer: 8 (run finished), 9"
+-- "Answer: 8 (run finished), 9", and 15 "after 8 and before 9"
 abbrev pub answerQuestions : Side → List ℕ → List Question
 answerQuestions s out =
     asks 8 (finished s)
+    ∷ asks 15 (inRange s)
     ∷ asks 9 (leb (placesOf s) (length out))
     ∷ []

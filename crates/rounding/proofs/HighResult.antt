@@ -1,10 +1,11 @@
--- t(d) − C is the high part: d the quotient of y + r by α, C where y + r is a multiple of α above s × α.
+-- t(d) − C is the high part: d the quotient of y + r by α, C where y + r is a multiple of α above s × α. A high part is below s.
 use mathlib.Core.Path.{_≡_, refl, ap, ap₂, subst, _∙_}
 use Prim.Native.Nat.{ℕ, zero, suc, _+_, _-_, _*_, _/_, _%_, _≤_, _<_}
 use native.Mathlib.Nat.{mul-le-mul-right, le-of-mul-le-mul-right, lt-of-mul-lt-mul-right, mod-eq-of-lt, mod-lt, mul-one, mul-zero, one-mul, mul-le-mul-left, mod-mod}
 use native.Mathlib.Omega.{arith}
+use mathlib.Core.Bool.{Bool, true, false, cond}
 use lib.Dec.{ltb, eqb}
-use borrow.Author.Tests.{lt-ltb, le-ltb, eq-eqb, ne-eqb}
+use borrow.Author.Tests.{lt-ltb, le-ltb, eq-eqb, ne-eqb, eqb-false}
 use Rattle.lists.specs.Answers.{bit}
 use Rattle.lists.proofs.Indicators.{lt-is, lt-no, lt-view, lt-one, lt-zero, eq-is, eq-lt, eq-gt, eq-view, eq-one, eq-zero, bit-le, off, on, bit-view}
 use Rattle.field.specs.Field.{sub}
@@ -138,3 +139,17 @@ module _ (p : Scale) (ok : Lawful p) where
       ∙ ap (λ (x : ℕ). (top (p .parts) ((y + r) / p .alpha) + (m - x)) % m) (mod-eq-of-lt {n = wrap p ((y + r) % p .alpha) ((y + r) / p .alpha)} (omega arith))
       ∙ mod-sub m (top (p .parts) ((y + r) / p .alpha)) (wrap p ((y + r) % p .alpha) ((y + r) / p .alpha)) small le
       ∙ high-sum y r hy hr ∙ ap (highOfShifted p) back
+
+  -- a w′ below s × α has a quotient below s
+  pub high-below : (w : ℕ) → highPart p w < p .parts
+  unfolding highOfShifted
+  high-below w = by (eqb w′ (p .modulus - 1)) refl (mod-lt (w + (p .alpha / 2 - 1)) (omega (arith, ok .whole)))
+    where
+      w′ : ℕ
+      w′ = shifted p w
+
+      by : (b : Bool) → eqb w′ (p .modulus - 1) ≡ b → w′ < p .modulus → cond b 0 (w′ / p .alpha) < p .parts
+      by true e small = ok .some-parts
+      by false e small =
+          let c : Split w′ (p .alpha) (w′ / p .alpha) (w′ % p .alpha) = split w′ (ok .some-alpha) in
+          lt-of-mul-lt-mul-right (p .alpha) {m = w′ / p .alpha} {n = p .parts} (omega (arith, ok .whole, c .parts, eqb-false w′ (p .modulus - 1) e))

@@ -20,6 +20,8 @@ pub record PlainLaws : Type 0 where
   -- 01's high part is Decompose's (its low part is by definition); high × α + low is w modulo q
   pub high : (p : Scale) → Lawful p → (w : ℕ) → w < p .modulus → pos (highPart p w) ≡ decompose p w .high
   pub join : (p : Scale) → Lawful p → (w : ℕ) → w < p .modulus → residue (p .modulus) (pos (highPart p w) *ℤ pos (p .alpha) +ℤ lowPart p w) ≡ w
+  -- request One: a high part is in the range that question 15 asks for
+  pub high-below : (p : Scale) → Lawful p → (w : ℕ) → highPart p w < p .parts
   -- the digits of a number join to the number, and each is below its base
   pub digits : (p : Scale) (x : ℕ) → digit p x 0 + base p 0 * (digit p x 1 + base p 1 * (digit p x 2 + base p 2 * (digit p x 3 + base p 3 * digit p x 4))) ≡ x
   pub digit-below : (p : Scale) → Lawful p → (x i : ℕ) → x < p .modulus → i < 5 → digit p x i < base p i

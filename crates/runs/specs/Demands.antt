@@ -15,7 +15,7 @@ use Rattle.settings.specs.Questions.{keysOk, settingsOk}
 use Rattle.rounding.specs.Plain.{decompose}
 use Rattle.settings.specs.Schedule.{rounds}
 use Rattle.book.specs.Books.{multipliers}
-use Rattle.state.specs.State.{underWay, finished, heldAnswer, afterAnswer, answerCall, countCall}
+use Rattle.state.specs.State.{underWay, finished, heldAnswer, inRange, afterAnswer, answerCall, countCall}
 use Rattle.settings.specs.declared.Settings.{Settings}
 use Rattle.settings.specs.Settings.{paramsIn}
 use Rattle.runs.specs.Records.{answerOf, missingShares, PartyInput, partyInput, PartyState, JointState, Party, Call, ScheduledCall, Observation, jointAfter, observations}
@@ -145,11 +145,13 @@ carriedThrough k s calls =
 abbrev pub allOpenings : Settings → ℕ
 allOpenings s = cond (eqb (s .shape .kind) 0) (19 * s .shape .n) (17 * s .shape .n + 2)
 
--- a side at the end: finished, with the answer by the plain meaning, which the answer call gives for every output that is long enough
--- ("N places for HIGH, 1 for BOUND"; "Longer outputs change only in front"), and all openings counted
+-- a side at the end: finished, with the answer by the plain meaning, which is in range and which the answer call gives for every output
+-- that is long enough ("N places for HIGH, 1 for BOUND"; "Longer outputs change only in front"), and all openings counted
 pub record Ended (s : Settings) (secret : List ℕ) (state : PartyState) : Type 0 where
   pub done : finished (state .side) ≡ true
   pub answer : heldAnswer (state .side) ≡ answerOf s secret
+  -- request One: "Demand 2's runs are unaffected"; whatever the output, 15 is not the refusal
+  pub in-range : inRange (state .side) ≡ true
   pub gives : (out : List ℕ)
       → answerPlaces (paramsIn s) ≤ length out
       → answerCall (state .side) out ≡ afterAnswer 0 (answerPlaces (paramsIn s)) (inFront (answerOf s secret) out)

@@ -1,4 +1,4 @@
--- The sizes of books, draws and openings.
+-- The sizes of books, draws, openings and answers.
 use mathlib.Core.Path.{_≡_, refl}
 use mathlib.Core.Bool.{Bool, true, false, cond}
 use mathlib.Core.Logic.{_≢_}
@@ -11,7 +11,7 @@ use Rattle.field.specs.Sums.{sumTo}
 use Rattle.settings.specs.declared.Shape.{Shape}
 use Rattle.settings.specs.Sets.{scaleOf, base}
 use Rattle.settings.specs.Settings.{Params, paramsOf}
-use Rattle.settings.specs.Sizes.{openings, openingsUpTo, stride, shared, drawLength}
+use Rattle.settings.specs.Sizes.{openings, openingsUpTo, stride, shared, drawLength, answerPlaces}
 use Rattle.settings.specs.Theorems.{SizeLaws}
 use Rattle.settings.proofs.Sets.{lawful}
 
@@ -27,6 +27,15 @@ openings-most p round h = by (eqb round 1) (leb round 5) (eqb (p .kind) 0)
     by false true c = omega arith
     by false false true = omega arith
     by false false false = omega arith
+
+-- ---- answers
+
+pub answer-most : (p : Params) → p .n ≤ 8 → answerPlaces p ≤ 8
+answer-most p h = by (eqb (p .kind) 0)
+  where
+    by : (b : Bool) → cond b (p .n) 1 ≤ 8
+    by true = h
+    by false = omega arith
 
 -- ---- books and draws, by the kind, as the code computes them
 

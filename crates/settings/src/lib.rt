@@ -59,6 +59,8 @@ pub const FAILED_CHECK: u32 = 13;
 
 pub const NO_BOOK: u32 = 14;
 
+pub const OUT_OF_RANGE: u32 = 15;
+
 // ---- The number of keys a side, and what follows from it alone
 
 pub const KEYS: usize = 1;

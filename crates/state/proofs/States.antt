@@ -11,10 +11,12 @@ use borrow.Author.Tests.{ne-eqb, eqb-true, leb-true}
 use Rattle.lists.specs.Answers.{ask}
 use Rattle.lists.proofs.Questions.{passed, both-yes}
 use Rattle.settings.specs.Questions.{askSettings, keysOk}
+use Rattle.settings.proofs.Sizes.{answer-most}
+use Rattle.settings.specs.Settings.{paramsIn}
 use Rattle.settings.proofs.Ready.{settings-ready, settings-pass, settings-refuse, settings-rest}
 use Rattle.settings.specs.Schedule.{rounds, steps, roundOk, stepsIn}
 use Rattle.state.specs.declared.Side.{Side}
-use Rattle.state.specs.State.{isSending, isTaking, isFinished, whole, sendDue, takeDue, finished, Whole, stepOf, placesOf, answerNo}
+use Rattle.state.specs.State.{isSending, isTaking, isFinished, whole, sendDue, takeDue, finished, Whole, stepOf, placesOf, inRange, answerNo}
 
 -- questions 1 to 3 of the kept settings
 abbrev pub keptNo : Side → ℕ
@@ -84,16 +86,13 @@ finished-whole s e = whole-fields s (both-yes (whole s) (isFinished (s .phase)) 
 
 -- an answer has room in the kept fields
 pub places-most : (s : Side) → Whole s → placesOf s ≤ 8
-places-most s w = by (eqb (s .settings .shape .kind) 0)
-  where
-    by : (b : Bool) → cond b (s .settings .shape .n) 1 ≤ 8
-    by true = w .ready .shape .most
-    by false = omega arith
+places-most s w = answer-most (paramsIn (s .settings)) (w .ready .shape .most)
 
 -- what an answer that is not refused knows
 pub answer-ready : (s : Side) (out : List ℕ) → answerNo s out ≡ 0 → (placesOf s ≤ 8) × (placesOf s ≤ length out)
 unfolding answerNo
 answer-ready s out e =
     let eight = passed (finished s) 7 _ e in
-    let nine = passed (leb (placesOf s) (length out)) 8 0 (eight .1) in
+    let fifteen = passed (inRange s) 14 _ (eight .1) in
+    let nine = passed (leb (placesOf s) (length out)) 8 0 (fifteen .1) in
     (places-most s (finished-whole s (eight .0)), leb-true (placesOf s) (length out) (nine .0))

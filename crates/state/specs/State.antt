@@ -6,11 +6,11 @@ use mathlib.Core.List.{List}
 use lib.Dec.{eqb, leb}
 use lib.ListN.{length, getD, replicate}
 use Rattle.lists.specs.Answers.{ask}
-use Rattle.lists.specs.Lists.{listTo, inFront}
+use Rattle.lists.specs.Lists.{listTo, allBelow, inFront}
 use Rattle.settings.specs.Sizes.{keyCount, openingsUpTo, answerPlaces}
 use Rattle.settings.specs.Questions.{askSettings, keysOk, Ready}
 use Rattle.settings.specs.Schedule.{rounds, steps, roundOk, goesOn, roundAfter, sendsAfter, takenBy, stepsIn}
-use Rattle.settings.specs.Settings.{paramsIn, settingsWith}
+use Rattle.settings.specs.Settings.{Params, paramsIn, settingsWith}
 use Rattle.state.specs.declared.Side.{Side}
 use Rattle.state.specs.declared.AnswerResult.{AnswerResult}
 use Rattle.state.specs.declared.Phase.{Phase}
@@ -108,12 +108,21 @@ placesOf s = answerPlaces (paramsIn (s .settings))
 abbrev pub heldAnswer : Side → List ℕ
 heldAnswer s = listTo (placesOf s) (λ (j : ℕ). getD (s .answer) j 0)
 
--- "Answer: 8 (run finished), 9"
+-- request One: "a HIGH answer must be below s and a verdict 0 or 1": what the numbers of an answer are below
+abbrev pub answerLimit : Params → ℕ
+answerLimit p = cond (eqb (p .kind) 0) (p .scale .parts) 2
+
+-- 15. "Is every opened answer in range?"
+unfoldable pub inRange : Side → Bool
+inRange s = allBelow (answerLimit (paramsIn (s .settings))) (heldAnswer s)
+
+-- "Answer: 8 (run finished), 9", and 15 "after 8 and before 9"
 unfoldable pub answerNo : Side → List ℕ → ℕ
 answerNo s out =
     ask (finished s) 8
+    (ask (inRange s) 15
     (ask (leb (placesOf s) (length out)) 9
-    0)
+    0))
 
 pub record AfterAnswer : Type 0 where
   pub result : AnswerResult

@@ -1,15 +1,17 @@
 // A side of a run, server or phone: its kept fields, what is due, its steps, its opening count and its answer.
 ghost use mathlib.Core.Path.{_≡_};
-ghost use Prim.Native.Nat.{_≤_};
+ghost use Prim.Native.Nat.{_≤_, _<_};
 ghost use Rattle.settings.specs.Schedule.{rounds, steps};
 ghost use Rattle.settings.specs.Settings.{paramsOf};
 ghost use Rattle.settings.specs.Sizes.{openingsUpTo};
 ghost use Rattle.state.specs.State.{isSending, isTaking, isFinished, whole, sendDue, takeDue, underWay, finished, Whole, freshSide, moved, inPhase, stepOf};
-ghost use Rattle.state.specs.State.{phaseAfter, atStep, placesOf, answerNo, answerCall, roundsTaken, countCall};
+ghost use Rattle.state.specs.State.{phaseAfter, atStep, placesOf, answerLimit, inRange, answerNo, answerCall, roundsTaken, countCall};
+use lists::all_below;
 use lists::copy_numbers;
 use settings::KEYS;
 use settings::NO_ROOM;
 use settings::NOT_DUE;
+use settings::OUT_OF_RANGE;
 use settings::ROUNDS;
 use settings::STEPS;
 use settings::Settings;
@@ -17,6 +19,7 @@ use settings::Shape;
 use settings::answer_places;
 use settings::keys_ok;
 use settings::openings_in;
+use settings::parts_of;
 use settings::round_after;
 use settings::sends_after;
 use settings::settings_no;
@@ -269,6 +272,28 @@ fn places_of(side: Side) -> usize
     answer_places(side.settings.shape)
 }
 
+// What the numbers of an answer are below. `answer_no` asks it of whole fields.
+fn answer_limit(shape: Shape) -> u32
+    requires { ⌜ shape .set < 2 ⌝ }
+    ensures { λ r. ⌜ r ≡ answerLimit (paramsOf shape) ⌝ }
+{
+    if shape.kind == 0 {
+        return parts_of(shape.set as usize);
+    }
+    2
+}
+
+// Question 15: is every number of the opened answer in range? `answer_no` has asked for whole fields.
+fn in_range(side: Side) -> bool
+    requires { ⌜ Whole side ⌝ }
+    ensures { λ r. ⌜ r ≡ inRange side ⌝ }
+{
+    let limit = answer_limit(side.settings.shape);
+    let count = places_of(side);
+    let held = side.answer;
+    all_below(&held[..count], limit)
+}
+
 // The first no of answer, or 0.
 fn answer_no(side: Side, out: &[u32]) -> u32
     ensures { λ r. ⌜ r ≡ answerNo side (now (out .entry)) ⌝ }
@@ -276,13 +301,16 @@ fn answer_no(side: Side, out: &[u32]) -> u32
     if !run_finished(side) {
         return NOT_DUE;
     }
+    if !in_range(side) {
+        return OUT_OF_RANGE;
+    }
     if out.len() < places_of(side) {
         return NO_ROOM;
     }
     0
 }
 
-// The opened answer of a finished run, in front of `out`.
+// The opened answer of a finished run, in front of `out`; none if a number of it is out of range.
 pub fn answer(side: Side, out: &mut [u32]) -> AnswerResult
     ensures { λ r. ⌜ record { result = r; out = now (out .exit) } ≡ answerCall side (now (out .entry)) ⌝ }
 {

@@ -104,11 +104,7 @@ length-answer party side = go (eqb (answerLeft side .result .refused) 0)
 
 length-answers : (server phone : Side) → length (answersText server phone) ≤ 400
 unfolding answersText
-length-answers server phone = go (eqb (answerLeft server .result .refused) 0)
-  where
-    go : (t : Bool) → length (answerLine 0 server ++ cond t (answerLine 1 phone) []) ≤ 400
-    go true = omega (arith, length-append (answerLine 0 server) (answerLine 1 phone), length-answer 0 server, length-answer 1 phone)
-    go false = omega (arith, length-append (answerLine 0 server) [], length-answer 0 server)
+length-answers server phone = omega (arith, length-append (answerLine 0 server) (answerLine 1 phone), length-answer 0 server, length-answer 1 phone)
 
 length-result : (refusal : Refusal) (server phone : Side) → length (resultText refusal server phone) ≤ 400
 unfolding resultText

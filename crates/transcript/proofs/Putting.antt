@@ -1,7 +1,7 @@
 -- Lines put one behind another: the parts of a line, the messages of a run, the answers.
 use Prim.Native.Nat.{ℕ, zero, suc, _+_, _*_, _-_, _%_, _≤_, _<_, min}
 use mathlib.Core.Path.{_≡_, refl, sym, ap, _∙_}
-use mathlib.Core.List.{List, [], _++_, append-nil}
+use mathlib.Core.List.{List, [], _++_}
 use native.Mathlib.Numerals.{add-one}
 use native.Mathlib.Omega.{arith}
 use native.Mathlib.Decide.{decLt}
@@ -85,10 +85,6 @@ lines-end a s t messages i from h e = let z : 2 * rounds - i ≡ 0 = omega arith
 -- ---- Answers
 
 module _ (server phone : Side) (a₀ : AfterAnswer) (e₀ : a₀ ≡ answerLeft server) (s x : Text) (p : x ≡ puts s (answerOrRefusal 0 a₀)) where
-  pub answer-refused : (a₀ .result .refused ≡ 0 → ⊥) → x ≡ puts s (answersText server phone)
+  pub answer-both : (a₁ : AfterAnswer) → a₁ ≡ answerLeft phone → (y : Text) → y ≡ puts x (answerOrRefusal 1 a₁) → y ≡ puts s (answersText server phone)
   unfolding answersText
-  answer-refused h = rw (← e₀, ne-eqb (a₀ .result .refused) 0 h, append-nil) p
-
-  pub answer-both : (a₁ : AfterAnswer) → a₁ ≡ answerLeft phone → a₀ .result .refused ≡ 0 → (y : Text) → y ≡ puts x (answerOrRefusal 1 a₁) → y ≡ puts s (answersText server phone)
-  unfolding answersText
-  answer-both a₁ e₁ h y q = rw (← e₀, ← e₁, eq-eqb (a₀ .result .refused) 0 h) (put-then s _ _ p q)
+  answer-both a₁ e₁ y q = rw (← e₀, ← e₁) (put-then s _ _ p q)

@@ -105,9 +105,9 @@ answerOrRefusal party a =
 abbrev pub answerLine : ℕ → Side → List ℕ
 answerLine party side = answerOrRefusal party (answerLeft side)
 
--- the server's answer; the phone's too, unless the server's was refused
+-- the server's line, then the phone's
 unfoldable pub answersText : Side → Side → List ℕ
-answersText server phone = answerLine 0 server ++ cond (eqb (answerLeft server .result .refused) 0) (answerLine 1 phone) []
+answersText server phone = answerLine 0 server ++ answerLine 1 phone
 
 -- `openings PARTY COUNT`: how many openings a side has accepted
 unfoldable pub openingsLine : ℕ → Side → List ℕ

@@ -140,7 +140,7 @@ fn put_answer_line(
     put_numbers_line(out, at, party, &numbers[..length])
 }
 
-// Both answers, the server's first; none of the phone where the server's was refused.
+// What both answer calls give, the server's first.
 pub fn put_answers(out: &mut [u8], at: usize, server: Side, phone: Side) -> usize
     ensures { λ r. ⌜ textAt (now (out .exit)) r ≡ puts (textAt (now (out .entry)) at) (answersText server phone) ⌝ }
 {
@@ -149,9 +149,6 @@ pub fn put_answers(out: &mut [u8], at: usize, server: Side, phone: Side) -> usiz
     let result0 = answer(server, &mut numbers0);
     let result1 = answer(phone, &mut numbers1);
     let next = put_answer_line(out, at, 0, result0, &numbers0);
-    if result0.refused != 0 {
-        return next;
-    }
     put_answer_line(out, next, 1, result1, &numbers1)
 }
 

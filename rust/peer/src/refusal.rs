@@ -30,6 +30,8 @@ pub enum Refusal {
     Field = 12,
     /// An opening fails its check.
     Check = 13,
+    /// An opened answer is not in range.
+    Answer = 15,
 }
 
 impl Refusal {

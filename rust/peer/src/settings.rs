@@ -186,6 +186,14 @@ impl Shape {
     pub fn answer_length(&self) -> usize {
         self.groups()
     }
+
+    /// What each number of an answer is below.
+    pub fn answer_limit(&self) -> u32 {
+        match self.kind {
+            Kind::High => self.set.parts,
+            Kind::Bound => 2,
+        }
+    }
 }
 
 /// A shape and its bound.

@@ -152,14 +152,17 @@ impl Side {
         Ok(())
     }
 
-    /// Writes the answer of a finished run and gives its length. Asks 8 and 9.
+    /// Writes the answer of a finished run and gives its length. Asks 8, 15, 9.
     pub fn answer(&self, out: &mut [u32]) -> Result<usize, Refusal> {
         let run = self.run.as_ref().ok_or(Refusal::NotDue)?;
         ask(run.state == State::Finished, Refusal::NotDue)?;
-        let length = run.settings.shape.answer_length();
-        let out = out.get_mut(..length).ok_or(Refusal::Output)?;
-        out.copy_from_slice(&run.answer[..length]);
-        Ok(length)
+        let shape = run.settings.shape;
+        let answer = &run.answer[..shape.answer_length()];
+        let in_range = answer.iter().all(|&number| number < shape.answer_limit());
+        ask(in_range, Refusal::Answer)?;
+        let out = out.get_mut(..answer.len()).ok_or(Refusal::Output)?;
+        out.copy_from_slice(answer);
+        Ok(answer.len())
     }
 
     /// Openings accepted in the latest run.

@@ -79,13 +79,32 @@ impl Pair {
     }
 
     fn play(&mut self) -> Vec<u32> {
+        self.play_rounds();
+        assert_eq!(self.answer(SERVER), self.answer(PHONE));
+        self.answer(SERVER)
+    }
+
+    fn play_rounds(&mut self) {
         self.begin();
         for _ in 0..7 {
             self.pass(SERVER);
             self.pass(PHONE);
         }
-        assert_eq!(self.answer(SERVER), self.answer(PHONE));
-        self.answer(SERVER)
+    }
+
+    /// A bad dealer's books: a number of the answer is greater by an amount,
+    /// and no check fails. HIGH subtracts an entry of the group, BOUND opens it.
+    fn raise_answer(&mut self, group: usize, amount: u32) {
+        let by = match self.shape.kind {
+            Kind::High => sub(0, amount),
+            Kind::Bound => amount,
+        };
+        let first = self.shape.group_at(group) + 1;
+        for place in first..first + self.shape.check_entries() {
+            let raised =
+                Shared::load(&self.books[SERVER], place) + Shared::whole(by, self.run.keys);
+            raised.store(&mut self.books[SERVER], place);
+        }
     }
 
     fn answer(&self, side: usize) -> Vec<u32> {
@@ -563,6 +582,48 @@ fn calls_refuse_in_order() {
     assert_eq!(pair.sides[PHONE].answer(&mut answer), Ok(2));
     assert_eq!(answer[2..], [9, 9]);
     assert_eq!(pair.shape.kind, Kind::High);
+}
+
+#[test]
+fn answers_out_of_range_are_refused() {
+    let mut generator = SplitMix64::new(16);
+    let mut in_range = [0; 2];
+    for number in 0..320 {
+        let (set, kind, count) = (number % 2, number / 2 % 2, number / 4 % 8 + 1);
+        let mut pair = Pair::new(RandomRun::new(&mut generator, set, kind, count));
+        let limit = if kind == 0 { [44, 16][set as usize] } else { 2 };
+        let mut wanted = plain_answer(&pair.run);
+        for (group, number) in wanted.iter_mut().enumerate() {
+            let new = match generator.below(8) {
+                0 => limit,
+                1 => generator.between(limit, Q - 1),
+                _ => limit - 1,
+            };
+            pair.raise_answer(group, sub(new, *number));
+            *number = new;
+        }
+        pair.play_rounds();
+
+        let good = wanted.iter().all(|&number| number < limit);
+        in_range[usize::from(good)] += 1;
+        for side in &pair.sides {
+            let before = side.clone();
+            let mut out = [9; MAX_COUNT];
+            if good {
+                assert_eq!(side.answer(&mut []), Err(Refusal::Output));
+                assert_eq!(side.answer(&mut out), Ok(wanted.len()));
+                assert_eq!(out[..wanted.len()], wanted);
+            } else {
+                assert_eq!(side.answer(&mut []), Err(Refusal::Answer));
+                assert_eq!(side.answer(&mut out), Err(Refusal::Answer));
+                assert_eq!(out, [9; MAX_COUNT]);
+            }
+            assert_eq!(*side, before);
+            let all = (1..=7).map(|round| pair.shape.openings(round)).sum();
+            assert_eq!(side.opening_count(), all);
+        }
+    }
+    assert!(in_range.iter().all(|&n| n > 50), "{in_range:?}");
 }
 
 #[test]

@@ -14,7 +14,7 @@ use crate::side::{Begin, Side, PHONE, SERVER, WORK_LENGTH};
 /// server's book and the phone's, and nothing is dealt.
 ///
 /// Gives a line `SENDER ROUND HEX` for every message, then each side's answer
-/// and opening count.
+/// or its refusal, then each side's opening count.
 pub fn transcript(numbers: &[u32]) -> Result<String, Refusal> {
     let (&[set, kind, count, bound, serial, key0, key1], rest) =
         numbers.split_first_chunk::<7>().ok_or(Refusal::Length)?;
@@ -71,10 +71,14 @@ pub fn transcript(numbers: &[u32]) -> Result<String, Refusal> {
     }
     for (number, side) in sides.iter().enumerate() {
         let mut answer = [0; MAX_COUNT];
-        let length = side.answer(&mut answer)?;
-        write!(text, "answer {number}").unwrap();
-        for value in &answer[..length] {
-            write!(text, " {value}").unwrap();
+        match side.answer(&mut answer) {
+            Ok(length) => {
+                write!(text, "answer {number}").unwrap();
+                for value in &answer[..length] {
+                    write!(text, " {value}").unwrap();
+                }
+            }
+            Err(refusal) => write!(text, "refused answer {number} {}", refusal.number()).unwrap(),
         }
         text.push('\n');
     }

@@ -1,22 +1,16 @@
 -- `transcript::lines::put_answers` meets its contract. Assumes nothing.
-use Rattle.transcript.proofs.Putting.{answer-refused, answer-both}
+use Rattle.transcript.proofs.Putting.{answer-both}
 use borrow.Author.Needs.{needs}
 use Rattle.transcript.proofs.lines.put_answers.Statement.{statement}
 use Rattle.transcript.proofs.lines.put_answers.Tie as tie
 
 returns : tie.Need-returns
 returns c =
-    let a = c .before .before .before .before .before .before .before .before .before .before .before .before .before .before .args in
-    let result = c .before .before .before .before .before .before .before .before .before .before .before .answer .ensures in
-    answer-refused (a .server) (a .phone) _ result _ _ (c .before .before .before .before .put-answer-line .ensures) (c .if1 .taken)
-
-returns-2 : tie.Need-returns-2
-returns-2 c =
-    let a = c .before .before .before .before .before .before .before .before .before .before .before .before .before .before .before .before .before .before .before .args in
-    let result₀ = c .before .before .before .before .before .before .before .before .before .before .before .before .before .before .before .before .answer .ensures in
-    let result₁ = c .before .before .before .before .before .before .before .before .before .before .before .before .before .answer2 .ensures in
-    let put₀ = c .before .before .before .before .before .before .before .before .before .put-answer-line .ensures in
-    answer-both (a .server) (a .phone) _ result₀ _ _ put₀ _ result₁ (c .before .before .before .before .before .if1 .left) _ (c .before .before .put-answer-line2 .ensures)
+    let a = c .before .before .before .before .before .before .before .before .before .before .before .before .before .before .before .before .before .args in
+    let result₀ = c .before .before .before .before .before .before .before .before .before .before .before .before .before .before .answer .ensures in
+    let result₁ = c .before .before .before .before .before .before .before .before .before .before .before .answer2 .ensures in
+    let put₀ = c .before .before .before .before .before .before .before .put-answer-line .ensures in
+    answer-both (a .server) (a .phone) _ result₀ _ _ put₀ _ result₁ _ (c .before .before .put-answer-line2 .ensures)
 
 pub put-answers-spec : {M : Type 1} → statement M
 put-answers-spec =
@@ -29,8 +23,6 @@ put-answers-spec =
     (λ c. search needs)
     (λ c κs. search needs)
     (λ c. search needs)
-    returns
-    (λ c. search needs)
     (λ c κs. search needs)
     (λ c. search needs)
-    returns-2)
+    returns)
