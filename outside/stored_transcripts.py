@@ -47,24 +47,19 @@ def cases():
     yield 'no_draw', ([0, 0, 1, 0, 1, 1, 1], [1, 1, 1], [2], [])
 
 
-# a bad dealer who chooses the answer, and whose books pass every check
-CHOSEN = {
-    'books_answer_50': [50], 'books_answer_44': [44], 'books_answer_43': [43], 'books_answer_16': [16], 'books_answer_15': [15],
-    'books_answers_43_44': [43, 44], 'books_verdict_2': [2], 'books_verdict_1': [1],
-}
-
-
 def books_cases():
-    """Inputs with books in place of a draw."""
+    """Inputs with books in place of a draw. Where an answer stands behind the shape, a bad dealer has chosen it: no check fails."""
     rng = random.Random(205)
-    for name, shape in (('books_honest', (1, 0, 1, 0)), ('books_answer_50', (0, 0, 1, 0)), ('books_caught', (0, 1, 1, 100)),
-                        ('books_not_below_q', (1, 1, 1, 130994)), ('books_one_more', (1, 1, 1, 1)), ('books_answer_44', (0, 0, 1, 0)),
-                        ('books_answer_43', (0, 0, 1, 0)), ('books_answer_16', (1, 0, 1, 0)), ('books_answer_15', (1, 0, 1, 0)),
-                        ('books_answers_43_44', (0, 0, 2, 0)), ('books_verdict_2', (0, 1, 1, 4190208)), ('books_verdict_1', (1, 1, 2, 1))):
+    for name, shape, *chosen in (('books_honest', (1, 0, 1, 0)), ('books_answer_50', (0, 0, 1, 0), 50), ('books_caught', (0, 1, 1, 100)),
+                                 ('books_not_below_q', (1, 1, 1, 130994)), ('books_one_more', (1, 1, 1, 1)),
+                                 ('books_answer_44', (0, 0, 1, 0), 44), ('books_answer_43', (0, 0, 1, 0), 43),
+                                 ('books_answer_16', (1, 0, 1, 0), 16), ('books_answer_15', (1, 0, 1, 0), 15),
+                                 ('books_answers_43_44', (0, 0, 2, 0), 43, 44), ('books_verdict_2', (0, 1, 1, 4190208), 2),
+                                 ('books_verdict_1', (1, 1, 2, 1), 1)):
         head, server, phone, draw = honest(rng, *shape)
         books = compare_transcripts.dealt_books((head, server, phone, draw))
-        if name in CHOSEN:
-            compare_transcripts.choose_answer((head, server, phone, draw), books, CHOSEN[name])
+        if chosen:
+            compare_transcripts.choose_answer((head, server, phone, draw), books, chosen)
         elif name == 'books_caught':
             # the share of the mask r, without its check parts
             books[1][0] = (books[1][0] + 1) % Q

@@ -272,7 +272,7 @@ fn places_of(side: Side) -> usize
     answer_places(side.settings.shape)
 }
 
-// What the numbers of an answer are below. `answer_no` asks it of whole fields.
+// What the numbers of an answer are below. `in_range` asks it of whole fields.
 fn answer_limit(shape: Shape) -> u32
     requires { ⌜ shape .set < 2 ⌝ }
     ensures { λ r. ⌜ r ≡ answerLimit (paramsOf shape) ⌝ }

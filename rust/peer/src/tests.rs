@@ -143,6 +143,20 @@ fn simple_run(set: u32, kind: u32, bound: u32, secret: &[u32]) -> RandomRun {
     }
 }
 
+/// Set, kind and count of a test's run: all of them in turn.
+fn shape_of(number: u32) -> (u32, u32, u32) {
+    (number % 2, number / 2 % 2, number / 4 % 8 + 1)
+}
+
+/// The openings of a whole run: 19N, or 17N + 2.
+fn all_openings(kind: u32, count: u32) -> usize {
+    let all = match kind {
+        0 => 19 * count,
+        _ => 17 * count + 2,
+    };
+    all as usize
+}
+
 fn lines(input: &str) -> String {
     let mut output = Vec::new();
     line_program::run(input.as_bytes(), &mut output).unwrap();
@@ -274,7 +288,7 @@ fn random_runs_give_the_plain_answer() {
     let mut generator = SplitMix64::new(3);
     let mut verdicts = [0; 2];
     for number in 0..1_600 {
-        let (set, kind, count) = (number % 2, number / 2 % 2, number / 4 % 8 + 1);
+        let (set, kind, count) = shape_of(number);
         let run = RandomRun::new(&mut generator, set, kind, count);
         let expected = plain_answer(&run);
         if kind == 1 {
@@ -283,12 +297,7 @@ fn random_runs_give_the_plain_answer() {
         let mut pair = Pair::new(run);
         assert_eq!(pair.play(), expected, "run {number}");
         for side in &pair.sides {
-            let all = if kind == 0 {
-                19 * count
-            } else {
-                17 * count + 2
-            };
-            assert_eq!(side.opening_count(), all as usize);
+            assert_eq!(side.opening_count(), all_openings(kind, count));
         }
     }
     assert!(verdicts.iter().all(|&n| n > 50), "{verdicts:?}");
@@ -409,7 +418,7 @@ fn form_test_asks_in_order() {
 fn tampered_openings_are_caught() {
     let mut generator = SplitMix64::new(4);
     for number in 0..280 {
-        let (set, kind, count) = (number % 2, number / 2 % 2, number / 4 % 8 + 1);
+        let (set, kind, count) = shape_of(number);
         let mut pair = Pair::new(RandomRun::new(&mut generator, set, kind, count));
         pair.begin();
         let bad_round = generator.between(1, 7) as u8;
@@ -589,7 +598,7 @@ fn answers_out_of_range_are_refused() {
     let mut generator = SplitMix64::new(16);
     let mut in_range = [0; 2];
     for number in 0..320 {
-        let (set, kind, count) = (number % 2, number / 2 % 2, number / 4 % 8 + 1);
+        let (set, kind, count) = shape_of(number);
         let mut pair = Pair::new(RandomRun::new(&mut generator, set, kind, count));
         let limit = if kind == 0 { [44, 16][set as usize] } else { 2 };
         let mut wanted = plain_answer(&pair.run);
@@ -619,8 +628,7 @@ fn answers_out_of_range_are_refused() {
                 assert_eq!(out, [9; MAX_COUNT]);
             }
             assert_eq!(*side, before);
-            let all = (1..=7).map(|round| pair.shape.openings(round)).sum();
-            assert_eq!(side.opening_count(), all);
+            assert_eq!(side.opening_count(), all_openings(kind, count));
         }
     }
     assert!(in_range.iter().all(|&n| n > 50), "{in_range:?}");
