@@ -17,9 +17,9 @@ STORED = os.path.join(HERE, '..', 'crates', 'desk', 'data')
 LAST = 2**32 - 1
 
 
-def part_words(rng):
+def parts_words(rng):
     set_ = rng.randrange(2)
-    return [rng.choice(('high', 'low')), set_, coefficient(rng, set_, 0)]
+    return ['parts', set_, coefficient(rng, set_, 0)]
 
 
 def verdict_words(rng):
@@ -45,16 +45,16 @@ def choose_words(rng, set_=None, kind=None, n=None):
 
 
 def good_words(rng):
-    return rng.choice((part_words, part_words, verdict_words, verdict_words, choose_words))(rng)
+    return rng.choice((parts_words, parts_words, verdict_words, verdict_words, choose_words))(rng)
 
 
 def refused_words(rng):
     how = rng.randrange(9)
-    words = rng.choice((part_words, verdict_words, choose_words))(rng)
+    words = rng.choice((parts_words, verdict_words, choose_words))(rng)
     if how == 0:
         words[1] = rng.choice((2, 3, LAST))
     elif how == 1:
-        words = part_words(rng)
+        words = parts_words(rng)
         words[2] = rng.choice((Q, Q + 1, LAST))
     elif how == 2:
         words = verdict_words(rng)[:3] + [rng.randrange(Q)] * rng.choice((0, 9, 10, 50))
@@ -83,7 +83,7 @@ def text_of(words):
 
 
 def malformed(rng):
-    words = rng.choice((part_words, verdict_words, choose_words))(rng)
+    words = rng.choice((parts_words, verdict_words, choose_words))(rng)
     line = text_of(words)
     how = rng.randrange(10)
     if how == 0:
@@ -104,7 +104,7 @@ def malformed(rng):
     if how == 6:
         return line + b' ' + b'0' * rng.choice((9, 10, 11))
     if how == 7:
-        return text_of([rng.choice(('High', 'hig', 'highs', 'lo', 'verdicts', 'chose', 'choos', 'choosed', '0'))] + words[1:])
+        return text_of([rng.choice(('Parts', 'part', 'partss', 'high', 'low', 'verdicts', 'chose', 'choos', 'choosed', '0'))] + words[1:])
     if how == 8:
         words = choose_words(rng)
         words[5] = rng.choice((len(words) - 5, len(words), LAST))
@@ -136,7 +136,7 @@ def widened(rng, words, length):
 def long_lines(rng):
     """Lines of about 2^20 bytes: with as many numbers as have room, with many books, and with no words."""
     for length in (LONGEST - 1, LONGEST, LONGEST + 1, LONGEST + 2, 3 * LONGEST):
-        for head in (b'verdict 0 1', b'verdict 1 10', b'high 0 0', b'', b'x'):
+        for head in (b'verdict 0 1', b'verdict 1 10', b'parts 0 0', b'', b'x'):
             yield (head + b' 0' * length)[:length]
         yield b'7' * length
         yield b' ' * length

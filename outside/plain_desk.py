@@ -30,18 +30,12 @@ def shared_numbers(set_, kind, n):
     return n * coefficient + 1 + (n + 2)
 
 
-def high(numbers):
+def parts(numbers):
+    """High and low part."""
     set_, w = numbers
     ask(set_ <= 1, 1)
     ask(w < Q, 6)
-    return decompose(w, ALPHA[set_])[0]
-
-
-def low(numbers):
-    set_, w = numbers
-    ask(set_ <= 1, 1)
-    ask(w < Q, 6)
-    return decompose(w, ALPHA[set_])[1]
+    return decompose(w, ALPHA[set_])
 
 
 def verdict(numbers):
@@ -73,10 +67,8 @@ def result(line):
     numbers = [number_in(word) for word in words]
     if None in numbers:
         return None
-    if name == b"high" and len(numbers) == 2:
-        return str(high(numbers))
-    if name == b"low" and len(numbers) == 2:
-        return str(low(numbers))
+    if name == b"parts" and len(numbers) == 2:
+        return "%d %d" % parts(numbers)
     if name == b"verdict" and len(numbers) >= 2:
         return str(verdict(numbers))
     if name == b"choose" and len(numbers) >= 5 and numbers[4] <= len(numbers) - 5:

@@ -28,17 +28,16 @@ def choose(set_, kind, n, last, first, second):
 def cases():
     """Pairs of a name and the lines of an input, each a list of words."""
     rng = random.Random(204)
-    yield 'sample', [['high', 0, 5000000], ['low', 0, 5000000], ['verdict', 0, 1000, 999, Q - 999], ['choose', 0, 0, 1, 0, 0]]
+    yield 'sample', [['parts', 0, 5000000], ['verdict', 0, 1000, 999, Q - 999], ['choose', 0, 0, 1, 0, 0]]
     # the request's known results
     yield 'known', (
-        [['high', 0, w] for w in (95232, 95233, 8285184, 8285185, Q - 1)]
-        + [['low', 0, w] for w in (8285185, Q - 1)]
-        + [['high', 1, w] for w in (261888, 261889, 8118528, 8118529)]
+        [['parts', 0, w] for w in (95232, 95233, 8285184, 8285185, Q - 1)]
+        + [['parts', 1, w] for w in (261888, 261889, 8118528, 8118529)]
         + [['verdict', 0, MOST_BOUND, w] for w in (4190207, 4190208, 4190209, 4190210)]
     )
     edges = (0, 1, 95232, 261888, 95234, 261890, 190464, 523776, MOST_BOUND, Q - 2)
-    yield 'parts', [[name, set_, w] for name in ('high', 'low') for set_ in (0, 1) for w in edges]
-    yield 'parts_refused', [[name] + words for name in ('high', 'low') for words in ([2, 0], [0, Q], [1, LAST], [LAST, LAST])]
+    yield 'parts', [['parts', set_, w] for set_ in (0, 1) for w in edges]
+    yield 'parts_refused', [['parts'] + words for words in ([2, 0], [0, Q], [1, LAST], [LAST, LAST])]
     bounds = ((1, [0]), (1, [0, 1]), (1, [Q - 1]), (2, [1, Q - 1] * 4), (MOST_BOUND, [MOST_BOUND - 1] * 8))
     yield 'verdicts', [['verdict', set_, b] + ws for set_ in (0, 1) for b, ws in bounds]
     # the order of the questions: 1, 2, 3, 6
@@ -70,19 +69,21 @@ def cases():
     largest = choose(0, 0, 8, 0, [(LAST, LAST)], [])
     yield 'choose_largest', [largest, ['choose', 0, 0, 8, 0, 0] + [LAST] + [rng.randrange(LAST + 1) for _ in range(size_of(0, 0, 8) - 1)]]
     yield 'few_words', [
-        ['high'], ['high', 0], ['high', 0, 1, 2], ['low'], ['low', 0], ['low', 0, 1, 2], ['verdict'], ['verdict', 0], ['choose'],
+        ['parts'], ['parts', 0], ['parts', 0, 1, 2], ['verdict'], ['verdict', 0], ['choose'],
         ['choose', 0, 0, 1, 0], ['choose', 0, 0, 1, 0, 1], ['choose', 0, 0, 1, 0, LAST, 1], ['choose', 9, 9, 9, 0, 2, 1],
     ]  # fmt: skip
-    yield 'other_words', [[name, 0, 1] for name in ('High', 'HIGH', 'hig', 'highs', 'lo', 'lows', 'verdic', 'choos', 'hihg', '-', '0', 'H')]
+    # `high` and `low` name no call any more
+    names = ('high', 'low', 'Parts', 'PARTS', 'part', 'partss', 'verdic', 'choos', 'patrs', '-', '0', 'H')
+    yield 'other_words', [[name, 0, 1] for name in names]
     # 01: 1 to 10 digits, at most 2^32 - 1
-    yield 'digits', [['high', word, 1] for word in ('0000000001', '00000000001', '4294967295', '4294967296', '+0', '-0', '0x1', '1.0', 'one')]
+    yield 'digits', [['parts', word, 1] for word in ('0000000001', '00000000001', '4294967295', '4294967296', '+0', '-0', '0x1', '1.0', 'one')]
 
 
 TEXTS = (
-    ('blanks', b' high 0 1\nhigh  0 1\nhigh 0 1 \nhigh 0  1\n high 0 1 \n\n \nhigh\t0 1\nhigh 0\t1\n'),
-    ('other_bytes', b'high 0 1\r\nhigh 0 1\x00\n\xffhigh 0 1\nhigh 0 \xb1\n\xef\xbb\xbfhigh 0 1\nhigh\x000 1\n'),
-    ('last_line_open', b'high 0 95233\nlow 0 8380416'),
-    ('last_line_open_malformed', b'high 0 95233\nlow'),
+    ('blanks', b' parts 0 1\nparts  0 1\nparts 0 1 \nparts 0  1\n parts 0 1 \n\n \nparts\t0 1\nparts 0\t1\n'),
+    ('other_bytes', b'parts 0 1\r\nparts 0 1\x00\n\xffparts 0 1\nparts 0 \xb1\n\xef\xbb\xbfparts 0 1\nparts\x000 1\n'),
+    ('last_line_open', b'parts 0 95233\nparts 0 8380416'),
+    ('last_line_open_malformed', b'parts 0 95233\nparts'),
     ('line_end_alone', b'\n'),
     ('empty', b''),
 )

@@ -6,11 +6,14 @@ use std::hint::black_box;
 use std::process::ExitCode;
 use std::time::Instant;
 
-use paired_rounding::{high_part, low_part, Refusal, Q};
+use paired_rounding::{high_part, low_part, parts, Parts, Refusal, Q};
 
 const PASSES: usize = 7;
 const CALLS: f64 = 2.0 * Q as f64;
 const ALPHA: [u32; 2] = [190_464, 523_776];
+
+/// High parts count so often in the sum of a pass over both parts: more than any low part.
+const WEIGHT: i64 = 1 << 20;
 
 fn step(set: u32, w: u32) -> Result<u32, Refusal> {
     let alpha = *ALPHA.get(set as usize).ok_or(Refusal::SideSetOrKind)?;
@@ -38,6 +41,30 @@ fn plain_low(set: u32, w: u32) -> Result<i32, Refusal> {
         low - 1
     } else {
         low
+    })
+}
+
+/// Both parts, from one quotient by a constant step.
+fn plain_decompose<const ALPHA: i32>(w: i32) -> Parts {
+    let shifted = w + (ALPHA / 2 - 1);
+    if shifted >= Q as i32 - 1 {
+        return Parts {
+            high: 0,
+            low: w - Q as i32,
+        };
+    }
+    let high = shifted / ALPHA;
+    Parts {
+        high: high as u32,
+        low: w - high * ALPHA,
+    }
+}
+
+fn plain_parts(set: u32, w: u32) -> Result<Parts, Refusal> {
+    step(set, w)?;
+    Ok(match set {
+        0 => plain_decompose::<190_464>(w as i32),
+        _ => plain_decompose::<523_776>(w as i32),
     })
 }
 
@@ -107,7 +134,15 @@ fn main() -> ExitCode {
     );
     let value = |part: Result<u32, Refusal>| part.map_or(-1, i64::from);
     let signed = |part: Result<i32, Refusal>| part.map_or(i64::MIN >> 32, i64::from);
+    let both = |parts: Result<Parts, Refusal>| {
+        parts.map_or(-1, |parts| i64::from(parts.high) * WEIGHT + i64::from(parts.low))
+    };
     let equal = compare(
+        "parts",
+        passes,
+        |set, w| both(parts(set, w)),
+        |set, w| both(plain_parts(set, w)),
+    ) && compare(
         "high_part",
         passes,
         |set, w| value(high_part(set, w)),

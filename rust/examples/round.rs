@@ -4,7 +4,7 @@ use std::env;
 use std::io::{self, BufRead, Write};
 use std::process::ExitCode;
 
-use paired_rounding::{high_part, low_part};
+use paired_rounding::{parts, Parts};
 
 const USAGE: &str = "\
 usage: round SET W      round one coefficient
@@ -31,8 +31,7 @@ fn answer(words: &[&str]) -> Result<String, String> {
     let [Some(set), Some(w)] = numbers[..] else {
         return Err("malformed: not two decimal numbers SET W below 2^32".into());
     };
-    let high = high_part(set, w).map_err(|refusal| refusal.to_string())?;
-    let low = low_part(set, w).map_err(|refusal| refusal.to_string())?;
+    let Parts { high, low } = parts(set, w).map_err(|refusal| refusal.to_string())?;
     Ok(format!("{high} {low}"))
 }
 

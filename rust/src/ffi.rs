@@ -2,10 +2,22 @@
 
 use crate::Expected;
 
+/// Both parts with `refused` 0; or the refusal's number, and zeros.
+#[repr(C)]
+#[derive(Clone, Copy, Debug)]
+pub struct PartsCode {
+    pub refused: u32,
+    pub high: u32,
+    pub low: i32,
+}
+
 mod c {
+    use super::PartsCode;
+
     extern "C" {
         pub fn high_part(set: u32, w: u32) -> i64;
         pub fn low_part(set: u32, w: u32) -> i64;
+        pub fn high_and_low(set: u32, w: u32) -> PartsCode;
         pub fn message_form(
             side: u32,
             set: u32,
@@ -30,6 +42,13 @@ pub fn high_part(set: u32, w: u32) -> i64 {
 pub fn low_part(set: u32, w: u32) -> i64 {
     // SAFETY: takes and returns numbers only, and is proved to answer for every set and w.
     unsafe { c::low_part(set, w) }
+}
+
+#[inline]
+pub fn high_and_low(set: u32, w: u32) -> PartsCode {
+    // SAFETY: takes and returns numbers only, and is proved to answer for every set and w. The struct
+    // has the same fields in the same order on both sides, laid out as C does it.
+    unsafe { c::high_and_low(set, w) }
 }
 
 pub fn message_form(expected: &Expected, message: &[u8]) -> u32 {

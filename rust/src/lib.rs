@@ -11,29 +11,30 @@
 //! | 1 | 523,776 | 0 to 15 | −261,888 to 261,888 | ML-DSA-65, ML-DSA-87 |
 //!
 //! ```
-//! use paired_rounding::{high_part, low_part, Refusal, Q};
+//! use paired_rounding::{parts, Parts, Refusal, Q};
 //!
 //! # fn main() -> Result<(), Refusal> {
-//! assert_eq!(high_part(0, 95_233)?, 1);
-//! assert_eq!(low_part(0, 95_233)?, -95_231);
+//! let Parts { high, low } = parts(0, 95_233)?;
+//! assert_eq!((high, low), (1, -95_231));
 //! assert_eq!(95_233, 190_464 - 95_231);
 //!
 //! // The topmost coefficients belong to high part 0 again.
-//! assert_eq!(high_part(0, Q - 1)?, 0);
-//! assert_eq!(low_part(0, Q - 1)?, -1);
+//! assert_eq!(parts(0, Q - 1)?, Parts { high: 0, low: -1 });
 //! # Ok(())
 //! # }
 //! ```
+//!
+//! [`high_part`] and [`low_part`] give one part each, for callers that need no more.
 //!
 //! A call that cannot be answered is refused, and the [`Refusal`] names the first question that
 //! was answered no:
 //!
 //! ```
-//! use paired_rounding::{high_part, Refusal, Q};
+//! use paired_rounding::{parts, Refusal, Q};
 //!
-//! assert_eq!(high_part(2, 0), Err(Refusal::SideSetOrKind));
-//! assert_eq!(high_part(0, Q), Err(Refusal::NotBelowQ));
-//! assert_eq!(high_part(2, Q), Err(Refusal::SideSetOrKind));
+//! assert_eq!(parts(2, 0), Err(Refusal::SideSetOrKind));
+//! assert_eq!(parts(0, Q), Err(Refusal::NotBelowQ));
+//! assert_eq!(parts(2, Q), Err(Refusal::SideSetOrKind));
 //! ```
 //!
 //! [`message_form`] tests the form of a message before it is taken further.
@@ -58,7 +59,37 @@ pub use refusal::Refusal;
 /// The modulus q of ML-DSA. Coefficients are numbers below it.
 pub const Q: u32 = 8_380_417;
 
-/// The high part of coefficient `w`: 0 to 43 in set 0, 0 to 15 in set 1.
+/// High and low part of one coefficient.
+#[derive(Clone, Copy, Debug, PartialEq, Eq, Hash)]
+pub struct Parts {
+    /// The high part: 0 to 43 in set 0, 0 to 15 in set 1.
+    pub high: u32,
+    /// The low part, from −α/2 to α/2.
+    pub low: i32,
+}
+
+/// High and low part of coefficient `w`, from one call: high × α + low is `w` modulo [`Q`].
+///
+/// # Errors
+///
+/// [`Refusal::SideSetOrKind`] if `set` is not 0 or 1; else [`Refusal::NotBelowQ`] if `w` is not
+/// below [`Q`].
+///
+/// # Examples
+///
+/// ```
+/// use paired_rounding::{parts, Parts, Refusal};
+///
+/// assert_eq!(parts(1, 261_888), Ok(Parts { high: 0, low: 261_888 }));
+/// assert_eq!(parts(1, 261_889), Ok(Parts { high: 1, low: -261_887 }));
+/// assert_eq!(parts(1, 8_380_417), Err(Refusal::NotBelowQ));
+/// ```
+#[inline]
+pub fn parts(set: u32, w: u32) -> Result<Parts, Refusal> {
+    parts_from(ffi::high_and_low(set, w))
+}
+
+/// The high part of coefficient `w`, as [`parts`] gives it: 0 to 43 in set 0, 0 to 15 in set 1.
 ///
 /// # Errors
 ///
@@ -79,7 +110,7 @@ pub fn high_part(set: u32, w: u32) -> Result<u32, Refusal> {
     high_from(ffi::high_part(set, w))
 }
 
-/// The low part of coefficient `w`, from −α/2 to α/2.
+/// The low part of coefficient `w`, as [`parts`] gives it: from −α/2 to α/2.
 ///
 /// # Errors
 ///
@@ -100,7 +131,29 @@ pub fn low_part(set: u32, w: u32) -> Result<i32, Refusal> {
     low_from(ffi::low_part(set, w))
 }
 
-// The library answers with one number: the part, or the refusal's number times 2^32.
+// The library answers a call for both parts with 0 and the parts, or with the refusal's number and zeros.
+
+#[inline]
+fn parts_from(code: ffi::PartsCode) -> Result<Parts, Refusal> {
+    if code.refused == 0 {
+        Ok(Parts {
+            high: code.high,
+            low: code.low,
+        })
+    } else {
+        Err(refusal_in(code))
+    }
+}
+
+#[cold]
+fn refusal_in(code: ffi::PartsCode) -> Refusal {
+    match Refusal::from_number(code.refused) {
+        Some(refusal) if code.high == 0 && code.low == 0 => refusal,
+        _ => panic!("libphone broke its contract: {code:?} is neither two parts nor a refusal"),
+    }
+}
+
+// It answers a call for one part with one number: the part, or the refusal's number times 2^32.
 
 #[inline]
 fn high_from(code: i64) -> Result<u32, Refusal> {
@@ -127,6 +180,32 @@ mod tests {
     use std::panic::catch_unwind;
 
     const UNIT: i64 = 1 << 32;
+
+    fn code(refused: u32, high: u32, low: i32) -> ffi::PartsCode {
+        ffi::PartsCode { refused, high, low }
+    }
+
+    #[test]
+    fn both_parts_are_values() {
+        for (high, low) in [(0, 0), (43, -95_232), (u32::MAX, i32::MAX), (1, i32::MIN)] {
+            assert_eq!(parts_from(code(0, high, low)), Ok(Parts { high, low }));
+        }
+    }
+
+    #[test]
+    fn a_refusal_has_no_parts() {
+        for &refusal in Refusal::ALL {
+            let number = refusal.number();
+            assert_eq!(parts_from(code(number, 0, 0)), Err(refusal));
+            for broken in [code(number, 1, 0), code(number, 0, -1)] {
+                assert_names_library(catch_unwind(|| parts_from(broken)).unwrap_err());
+            }
+        }
+        for number in [Refusal::ALL.len() as u32 + 1, u32::MAX] {
+            let broken = code(number, 0, 0);
+            assert_names_library(catch_unwind(|| parts_from(broken)).unwrap_err());
+        }
+    }
 
     #[test]
     fn parts_are_values() {

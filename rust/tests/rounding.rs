@@ -1,6 +1,6 @@
 //! The library against FIPS 204's Decompose and document 01's formula, on every coefficient.
 
-use paired_rounding::{high_part, low_part, Refusal};
+use paired_rounding::{high_part, low_part, parts, Parts, Refusal};
 
 const Q: u32 = 8_380_417;
 
@@ -50,8 +50,9 @@ fn compare_all(set: u32) {
     let gamma2 = GAMMA2[set as usize];
     assert_eq!(i64::from(alpha), 2 * gamma2);
     for w in 0..Q {
-        let high = high_part(set, w).unwrap();
-        let low = low_part(set, w).unwrap();
+        let Parts { high, low } = parts(set, w).unwrap();
+        assert_eq!(high_part(set, w), Ok(high), "set {set}, w {w}");
+        assert_eq!(low_part(set, w), Ok(low), "set {set}, w {w}");
         let fips = decompose(i64::from(w), gamma2);
         assert_eq!((i64::from(high), i64::from(low)), fips, "set {set}, w {w}");
         assert_eq!(high, high_by_formula(alpha, w), "set {set}, w {w}");
@@ -78,23 +79,21 @@ fn every_coefficient_of_set_1() {
 
 #[test]
 fn known_results() {
-    // Set, w, high part.
-    let highs = [
-        (0, 95_232, 0),
-        (0, 95_233, 1),
-        (0, 8_285_184, 43),
-        (0, 8_285_185, 0),
-        (0, Q - 1, 0),
-        (1, 261_888, 0),
-        (1, 261_889, 1),
-        (1, 8_118_528, 15),
-        (1, 8_118_529, 0),
+    // Set, w, high and low part.
+    let known = [
+        (0, 95_232, 0, 95_232),
+        (0, 95_233, 1, -95_231),
+        (0, 8_285_184, 43, 95_232),
+        (0, 8_285_185, 0, -95_232),
+        (0, Q - 1, 0, -1),
+        (1, 261_888, 0, 261_888),
+        (1, 261_889, 1, -261_887),
+        (1, 8_118_528, 15, 261_888),
+        (1, 8_118_529, 0, -261_888),
     ];
-    for (set, w, high) in highs {
-        assert_eq!(high_part(set, w), Ok(high), "set {set}, w {w}");
+    for (set, w, high, low) in known {
+        assert_eq!(parts(set, w), Ok(Parts { high, low }), "set {set}, w {w}");
     }
-    assert_eq!(low_part(0, 8_285_185), Ok(-95_232));
-    assert_eq!(low_part(0, Q - 1), Ok(-1));
 }
 
 const BAD_SETS: [u32; 6] = [2, 3, 4, 1 << 16, 1 << 31, u32::MAX];
@@ -110,6 +109,7 @@ const BAD_COEFFICIENTS: [u32; 8] = [
 ];
 
 fn assert_refused(set: u32, w: u32, refusal: Refusal) {
+    assert_eq!(parts(set, w), Err(refusal), "set {set}, w {w}");
     assert_eq!(high_part(set, w), Err(refusal), "set {set}, w {w}");
     assert_eq!(low_part(set, w), Err(refusal), "set {set}, w {w}");
 }

@@ -21,18 +21,16 @@ use Rattle.settings.specs.Settings.{paramsOf}
 use Rattle.settings.specs.Sizes.{keyCount, shared}
 use Rattle.settings.proofs.Sizes.{shared-most}
 use Rattle.settings.proofs.Ready.{shape-ready}
-use Rattle.rounding.specs.declared.High.{High}
-use Rattle.rounding.specs.declared.High.the-variants as High
-use Rattle.rounding.specs.declared.Low.{Low}
-use Rattle.rounding.specs.declared.Low.the-variants as Low
+use Rattle.rounding.specs.declared.Decomposition.{Decomposition}
+use Rattle.rounding.specs.declared.Decomposition.the-variants as Decomposition
 use Rattle.rounding.specs.declared.Verdict.{Verdict}
 use Rattle.rounding.specs.declared.Verdict.the-variants as Verdict
-use Rattle.rounding.specs.Calls.{highCall, lowCall, verdictCall}
+use Rattle.rounding.specs.Calls.{partsCall, verdictCall}
 use Rattle.stock.specs.Stock.{stockedSize, booksOf, bothStocks, isLeast, firstOf, bestOf, askStocks, chooseNo, chosen}
 use Rattle.stock.proofs.Meaning.{choice}
 use Rattle.desk.specs.declared.words.CallName.{CallName}
 use Rattle.desk.specs.declared.words.CallName.the-variants as CallName
-use Rattle.desk.specs.Desk.{refusalText, malformedText, signedText, highText, lowText, verdictText, partText, chooseText, highResult, lowResult, verdictResult, stocksText, chooseResult, callResult}
+use Rattle.desk.specs.Desk.{refusalText, malformedText, signedText, highLowText, decomposedText, verdictText, partText, chooseText, partsResult, verdictResult, stocksText, chooseResult, callResult}
 
 -- ---- numbers of 32 bits in a list, in a part of it, and in a book
 
@@ -110,15 +108,11 @@ unfolding signedText
 length-signed (pos n) = omega (arith, length-decimal n)
 length-signed (negsuc n) = omega (arith, length-decimal (suc n))
 
-length-high : (r : High) → length (highText r) ≤ 43571
-unfolding highText
-length-high (High.Part n) = omega (arith, length-decimal n)
-length-high (High.No n) = omega (arith, length-refusal n)
-
-length-low : (r : Low) → length (lowText r) ≤ 43571
-unfolding lowText
-length-low (Low.Part z) = omega (arith, length-signed z)
-length-low (Low.No n) = omega (arith, length-refusal n)
+length-decomposed : (r : Decomposition) → length (decomposedText r) ≤ 43571
+unfolding decomposedText highLowText
+length-decomposed (Decomposition.Parts parts) =
+    omega (arith, length-append (decimal (parts .high)) (32 ∷ signedText (parts .low)), length-decimal (parts .high), length-signed (parts .low))
+length-decomposed (Decomposition.No n) = omega (arith, length-refusal n)
 
 length-verdict : (r : Verdict) → length (verdictText r) ≤ 43571
 unfolding verdictText
@@ -166,13 +160,10 @@ length-stocks a last count stocks h =
     (length-choose a (take count stocks) (drop count stocks) last (front-below count stocks h) (behind-below count stocks h))
 
 pub length-call : (call : CallName) (ns : List ℕ) → Below ns → length (callResult call ns) ≤ 43571
-unfolding callResult highResult lowResult verdictResult chooseResult
-length-call CallName.HighPart ns h =
-    let r = highCall (getD ns 0 0) (getD ns 1 0) in
-    either (eqb (length ns) 2) (highText r) malformedText (length-high r) length-malformed
-length-call CallName.LowPart ns h =
-    let r = lowCall (getD ns 0 0) (getD ns 1 0) in
-    either (eqb (length ns) 2) (lowText r) malformedText (length-low r) length-malformed
+unfolding callResult partsResult verdictResult chooseResult
+length-call CallName.Parts ns h =
+    let r = partsCall (getD ns 0 0) (getD ns 1 0) in
+    either (eqb (length ns) 2) (decomposedText r) malformedText (length-decomposed r) length-malformed
 length-call CallName.BoundVerdict ns h =
     let r = verdictCall (getD ns 0 0) (getD ns 1 0) (drop 2 ns) in
     either (ltb (length ns) 2) malformedText (verdictText r) length-malformed (length-verdict r)

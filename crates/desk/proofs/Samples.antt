@@ -7,18 +7,13 @@ use Rattle.text.specs.Decimal.{digitByte, valueFrom, numberIn}
 use Rattle.text.specs.Text.{decimalIn, decimal}
 use Rattle.syntax.specs.Line.{words, allGood, valuesOf}
 use Rattle.rounding.specs.Plain.{highOfShifted, lowPart, inside, verdict}
-use Rattle.rounding.specs.Calls.{partNo, verdictNo, highCall, lowCall, verdictCall}
-use Rattle.desk.specs.Desk.{highWord, lowWord, verdictWord, sameWord, callNamed, refusalText, signedText, highText, lowText, verdictText, highResult, lowResult, verdictResult, callResult, wordsResult, lineResult, deskAnswer}
+use Rattle.rounding.specs.Calls.{partsNo, verdictNo, partsCall, verdictCall}
+use Rattle.desk.specs.Desk.{partsWord, verdictWord, sameWord, callNamed, refusalText, signedText, highLowText, decomposedText, verdictText, partsResult, verdictResult, callResult, wordsResult, lineResult, deskAnswer}
 
--- `high 0 95233` gives `1`
-pub high-sample : deskAnswer (highWord ++ 32 ∷ 48 ∷ 32 ∷ 57 ∷ 53 ∷ 50 ∷ 51 ∷ 51 ∷ []) ≡ 49 ∷ 10 ∷ []
-unfolding toFirst words digitByte valueFrom numberIn every allGood valuesOf sameWord callNamed ask partNo highOfShifted highCall highText highResult callResult wordsResult lineResult deskAnswer decimalIn decimal
-high-sample = refl
-
--- `low 0 8285185` gives `-95232`
-pub low-sample : deskAnswer (lowWord ++ 32 ∷ 48 ∷ 32 ∷ 56 ∷ 50 ∷ 56 ∷ 53 ∷ 49 ∷ 56 ∷ 53 ∷ []) ≡ 45 ∷ 57 ∷ 53 ∷ 50 ∷ 51 ∷ 50 ∷ 10 ∷ []
-unfolding toFirst words digitByte valueFrom numberIn every allGood valuesOf sameWord callNamed ask partNo lowPart lowCall signedText lowText lowResult callResult wordsResult lineResult deskAnswer decimalIn decimal
-low-sample = refl
+-- `parts 0 8285185` gives `0 -95232`
+pub parts-sample : deskAnswer (partsWord ++ 32 ∷ 48 ∷ 32 ∷ 56 ∷ 50 ∷ 56 ∷ 53 ∷ 49 ∷ 56 ∷ 53 ∷ []) ≡ 48 ∷ 32 ∷ 45 ∷ 57 ∷ 53 ∷ 50 ∷ 51 ∷ 50 ∷ 10 ∷ []
+unfolding toFirst words digitByte valueFrom numberIn every allGood valuesOf sameWord callNamed ask partsNo highOfShifted lowPart partsCall signedText highLowText decomposedText partsResult callResult wordsResult lineResult deskAnswer decimalIn decimal
+parts-sample = refl
 
 -- `verdict 1 2 1` gives `1`, and without its coefficient `!2`
 pub verdict-sample : deskAnswer (verdictWord ++ 32 ∷ 49 ∷ 32 ∷ 50 ∷ 32 ∷ 49 ∷ []) ≡ 49 ∷ 10 ∷ []

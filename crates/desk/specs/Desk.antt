@@ -11,13 +11,12 @@ use Rattle.text.specs.Text.{decimal, numbersText}
 use Rattle.text.specs.declared.ReadNumber.{ReadNumber}
 use Rattle.settings.specs.declared.Shape.{Shape}
 use Rattle.settings.specs.Sizes.{keyCount}
-use Rattle.rounding.specs.declared.High.{High}
-use Rattle.rounding.specs.declared.High.the-variants as High
-use Rattle.rounding.specs.declared.Low.{Low}
-use Rattle.rounding.specs.declared.Low.the-variants as Low
+use Rattle.rounding.specs.declared.HighLow.{HighLow}
+use Rattle.rounding.specs.declared.Decomposition.{Decomposition}
+use Rattle.rounding.specs.declared.Decomposition.the-variants as Decomposition
 use Rattle.rounding.specs.declared.Verdict.{Verdict}
 use Rattle.rounding.specs.declared.Verdict.the-variants as Verdict
-use Rattle.rounding.specs.Calls.{highCall, lowCall, verdictCall}
+use Rattle.rounding.specs.Calls.{partsCall, verdictCall}
 use Rattle.stock.specs.Stock.{chooseNo, chosen}
 use Rattle.syntax.specs.Line.{words, allGood, valuesOf}
 use Rattle.desk.specs.declared.words.CallName.{CallName}
@@ -25,12 +24,9 @@ use Rattle.desk.specs.declared.words.CallName.the-variants as CallName
 
 -- ---- Words
 
--- `high`, `low`, `verdict`, `choose`
-abbrev pub highWord : List ℕ
-highWord = 104 ∷ 105 ∷ 103 ∷ 104 ∷ []
-
-abbrev pub lowWord : List ℕ
-lowWord = 108 ∷ 111 ∷ 119 ∷ []
+-- `parts`, `verdict`, `choose`
+abbrev pub partsWord : List ℕ
+partsWord = 112 ∷ 97 ∷ 114 ∷ 116 ∷ 115 ∷ []
 
 abbrev pub verdictWord : List ℕ
 verdictWord = 118 ∷ 101 ∷ 114 ∷ 100 ∷ 105 ∷ 99 ∷ 116 ∷ []
@@ -48,11 +44,10 @@ sameWord (x ∷ xs) (y ∷ ys) = cond (eqb x y) (sameWord xs ys) false
 -- the call that the first word of a line names
 unfoldable pub callNamed : List ℕ → CallName
 callNamed w =
-    cond (sameWord w highWord) CallName.HighPart
-    (cond (sameWord w lowWord) CallName.LowPart
+    cond (sameWord w partsWord) CallName.Parts
     (cond (sameWord w verdictWord) CallName.BoundVerdict
     (cond (sameWord w chooseWord) CallName.Choose
-    CallName.Unknown)))
+    CallName.Unknown))
 
 -- "decimal words": the words behind it, each read as a number
 abbrev pub fieldsOf : List (List ℕ) → List ReadNumber
@@ -73,14 +68,14 @@ unfoldable pub signedText : ℤ → List ℕ
 signedText (pos n) = decimal n
 signedText (negsuc n) = 45 ∷ decimal (suc n)
 
--- "print the value or `!` and the refusal": a high part, a low part, a verdict
-unfoldable pub highText : High → List ℕ
-highText (High.Part part) = decimal part
-highText (High.No refused) = refusalText refused
+-- request Two, "`parts SET W` prints high and low": one blank between
+unfoldable pub highLowText : HighLow → List ℕ
+highLowText parts = decimal (parts .high) ++ 32 ∷ signedText (parts .low)
 
-unfoldable pub lowText : Low → List ℕ
-lowText (Low.Part part) = signedText part
-lowText (Low.No refused) = refusalText refused
+-- "print the value or `!` and the refusal": both parts, or a verdict
+unfoldable pub decomposedText : Decomposition → List ℕ
+decomposedText (Decomposition.Parts parts) = highLowText parts
+decomposedText (Decomposition.No refused) = refusalText refused
 
 unfoldable pub verdictText : Verdict → List ℕ
 verdictText (Verdict.Is verdict) = decimal verdict
@@ -100,13 +95,9 @@ chooseText shape first second last =
 
 -- ---- Calls
 
--- "`high SET W`"
-unfoldable pub highResult : List ℕ → List ℕ
-highResult ns = cond (eqb (length ns) 2) (highText (highCall (getD ns 0 0) (getD ns 1 0))) malformedText
-
--- "`low SET W`"
-unfoldable pub lowResult : List ℕ → List ℕ
-lowResult ns = cond (eqb (length ns) 2) (lowText (lowCall (getD ns 0 0) (getD ns 1 0))) malformedText
+-- "`parts SET W`"
+unfoldable pub partsResult : List ℕ → List ℕ
+partsResult ns = cond (eqb (length ns) 2) (decomposedText (partsCall (getD ns 0 0) (getD ns 1 0))) malformedText
 
 -- "`verdict SET B W..`": no W at all is well formed
 unfoldable pub verdictResult : List ℕ → List ℕ
@@ -125,8 +116,7 @@ chooseResult ns =
 
 -- the call that is named, made with the numbers
 unfoldable pub callResult : CallName → List ℕ → List ℕ
-callResult CallName.HighPart ns = highResult ns
-callResult CallName.LowPart ns = lowResult ns
+callResult CallName.Parts ns = partsResult ns
 callResult CallName.BoundVerdict ns = verdictResult ns
 callResult CallName.Choose ns = chooseResult ns
 callResult CallName.Unknown ns = malformedText

@@ -2,14 +2,13 @@
 ghost use mathlib.Core.Path.{_≡_};
 ghost use lib.IntN.{natAbs};
 ghost use Rattle.text.specs.Text.{textAt, puts};
-ghost use Rattle.desk.specs.Desk.{refusalText, malformedText, signedText, highResult, lowResult, verdictResult, partText, chooseText, stocksText, chooseResult, callResult};
+ghost use Rattle.desk.specs.Desk.{refusalText, malformedText, signedText, highLowText, partsResult, verdictResult, partText, chooseText, stocksText, chooseResult, callResult};
 use crate::words::CallName;
-use rounding::High;
-use rounding::Low;
+use rounding::Decomposition;
+use rounding::HighLow;
 use rounding::Verdict;
 use rounding::bound_verdict;
-use rounding::high_part;
-use rounding::low_part;
+use rounding::parts;
 use settings::FIELDS;
 use settings::Shape;
 use stock::choose;
@@ -57,6 +56,15 @@ fn put_signed(out: &mut [u8], at: usize, value: i32) -> usize
     put_number(out, at, size)
 }
 
+// A high part, a blank, and a low part.
+fn put_high_low(out: &mut [u8], at: usize, pair: HighLow) -> usize
+    ensures { λ r. ⌜ textAt (now (out .exit)) r ≡ puts (textAt (now (out .entry)) at) (highLowText pair) ⌝ }
+{
+    let blank = put_number(out, at, pair.high as u64);
+    let next = put_byte(out, blank, b' ');
+    put_signed(out, next, pair.low)
+}
+
 // The numbers of a part, one blank between.
 fn put_part(out: &mut [u8], at: usize, part: &[u32]) -> usize
     ensures { λ r. ⌜ textAt (now (out .exit)) r ≡ puts (textAt (now (out .entry)) at) (partText (now (part .entry))) ⌝ }
@@ -70,29 +78,16 @@ fn put_part(out: &mut [u8], at: usize, part: &[u32]) -> usize
 
 // ---- Calls
 
-// `high SET W`
-fn put_high(out: &mut [u8], at: usize, numbers: &[u32]) -> usize
-    ensures { λ r. ⌜ textAt (now (out .exit)) r ≡ puts (textAt (now (out .entry)) at) (highResult (now (numbers .entry))) ⌝ }
+// `parts SET W`
+fn put_parts(out: &mut [u8], at: usize, numbers: &[u32]) -> usize
+    ensures { λ r. ⌜ textAt (now (out .exit)) r ≡ puts (textAt (now (out .entry)) at) (partsResult (now (numbers .entry))) ⌝ }
 {
     if numbers.len() != 2 {
         return put_malformed(out, at);
     }
-    match high_part(numbers[0], numbers[1]) {
-        High::Part(part) => put_number(out, at, part as u64),
-        High::No(no) => put_refusal(out, at, no),
-    }
-}
-
-// `low SET W`
-fn put_low(out: &mut [u8], at: usize, numbers: &[u32]) -> usize
-    ensures { λ r. ⌜ textAt (now (out .exit)) r ≡ puts (textAt (now (out .entry)) at) (lowResult (now (numbers .entry))) ⌝ }
-{
-    if numbers.len() != 2 {
-        return put_malformed(out, at);
-    }
-    match low_part(numbers[0], numbers[1]) {
-        Low::Part(part) => put_signed(out, at, part),
-        Low::No(no) => put_refusal(out, at, no),
+    match parts(numbers[0], numbers[1]) {
+        Decomposition::Parts(pair) => put_high_low(out, at, pair),
+        Decomposition::No(no) => put_refusal(out, at, no),
     }
 }
 
@@ -171,8 +166,7 @@ pub fn put_call(out: &mut [u8], at: usize, call: CallName, numbers: &[u32]) -> u
     ensures { λ r. ⌜ textAt (now (out .exit)) r ≡ puts (textAt (now (out .entry)) at) (callResult call (now (numbers .entry))) ⌝ }
 {
     match call {
-        CallName::HighPart => put_high(out, at, numbers),
-        CallName::LowPart => put_low(out, at, numbers),
+        CallName::Parts => put_parts(out, at, numbers),
         CallName::BoundVerdict => put_verdict(out, at, numbers),
         CallName::Choose => put_choose(out, at, numbers),
         CallName::Unknown => put_malformed(out, at),

@@ -1,9 +1,9 @@
 // Makes calls: reads standard input to its end, a call in each line, and writes an output line for each. Arguments name files to read
 // instead, each an input of its own. Memory does not grow with the input.
 //
-// A line, decimal words with one blank between: `high SET W`, `low SET W`, `verdict SET B W..`, or
+// A line, decimal words with one blank between: `parts SET W`, `verdict SET B W..`, or
 // `choose SET KIND N LAST COUNT FIRST.. SECOND..`, where COUNT numbers belong to the first stock and the rest to the second. Its output
-// line is the part, the verdict or the chosen book's numbers, or `!` and the refusal; `!12` for a malformed line.
+// line is high and low part, the verdict or the chosen book's numbers, or `!` and the refusal; `!12` for a malformed line.
 //
 // Proved: the bytes that wait to be written are the answers to the lines that have ended (`answer_some`, `put_last`), and a part leaves
 // the input where the calls of theorem DeskAnswersEachLine leave it (`answer_part`). Reading and writing are proved safe, and no more: a

@@ -10,8 +10,7 @@ use text::number_in;
 
 // A call, by the first word of its line.
 pub enum CallName {
-    HighPart,
-    LowPart,
+    Parts,
     BoundVerdict,
     Choose,
     Unknown,
@@ -44,11 +43,8 @@ fn is_word(word: &[u8], name: &[u8]) -> bool
 pub fn call_named(word: &[u8]) -> CallName
     ensures { λ r. ⌜ r ≡ callNamed (now (word .entry)) ⌝ }
 {
-    if is_word(word, b"high") {
-        return CallName::HighPart;
-    }
-    if is_word(word, b"low") {
-        return CallName::LowPart;
+    if is_word(word, b"parts") {
+        return CallName::Parts;
     }
     if is_word(word, b"verdict") {
         return CallName::BoundVerdict;

@@ -2,21 +2,20 @@
 use Prim.Native.Nat.{ℕ, _-_}
 use mathlib.Core.Path.{_≡_, refl}
 use mathlib.Core.List.{List, [], _∷_, map}
-use lib.IntN.{ℤ, negsuc}
+use lib.IntN.{ℤ, pos, negsuc}
 use Rattle.lists.specs.Answers.{bit}
 use Rattle.lists.specs.Lists.{every}
 use Rattle.field.specs.Field.{q, sub}
 use Rattle.field.specs.Sums.{sumTo}
 use Rattle.settings.specs.Sets.{scaleOf}
-use Rattle.rounding.specs.Plain.{highOfShifted, highPart, lowPart, inside, verdict}
+use Rattle.rounding.specs.Plain.{highOfShifted, lowPart, highLowOf, inside, verdict}
 use Rattle.rounding.specs.Digits.{digitsOf}
 use Rattle.rounding.specs.Rounds.{unit, carryInto, zeroDigit, topSum, top, nonzeroCount, gap, checkOpens, checkResult, wrapOf, highResult}
 
 -- a row: what is asked, and what is known of it
 pub data Row : Type 0 where
-  -- the high part, or the low part, of a number in a set
-  high : (set w result : ℕ) → Row
-  low : (set w : ℕ) (result : ℤ) → Row
+  -- high and low part of a number in a set
+  parts : (set w high : ℕ) (low : ℤ) → Row
   -- HIGH in a set, of w′ with the mask r: y, round 5's top digit with its carry, C, and the result
   run : (set w′ r y topDigit C result : ℕ) → Row
   -- the zero check of n with K and ρ: g, the opened number and the result
@@ -26,8 +25,9 @@ pub data Row : Type 0 where
 
 -- the row with its results worked out by the meanings
 unfoldable pub worked : Row → Row
-worked (high set w _) = high set w (highPart (scaleOf set) w)
-worked (low set w _) = low set w (lowPart (scaleOf set) w)
+worked (parts set w _ _) =
+    let both = highLowOf (scaleOf set) w in
+    parts set w (both .high) (both .low)
 worked (run set w′ r _ _ _ _) =
     let p = scaleOf set in
     let y = sub q w′ r in
@@ -37,19 +37,18 @@ worked (bound b x _) = bound b x (verdict q b (x ∷ []))
 
 unfoldable pub knownResults : List Row
 knownResults =
-    -- "Set 0 high parts: 95,232 gives 0; 95,233 gives 1; 8,285,184 gives 43; 8,285,185 gives 0, low −95,232; q − 1 gives 0, low −1"
-    high 0 95232 0
-    ∷ high 0 95233 1
-    ∷ high 0 8285184 43
-    ∷ high 0 8285185 0
-    ∷ low 0 8285185 (negsuc 95231)
-    ∷ high 0 (q - 1) 0
-    ∷ low 0 (q - 1) (negsuc 0)
+    -- "Set 0 high parts: 95,232 gives 0; 95,233 gives 1; 8,285,184 gives 43; 8,285,185 gives 0, low −95,232; q − 1 gives 0, low −1";
+    -- with the low parts that 01 leaves out (request Two: "takes the pair")
+    parts 0 95232 0 (pos 95232)
+    ∷ parts 0 95233 1 (negsuc 95230)
+    ∷ parts 0 8285184 43 (pos 95232)
+    ∷ parts 0 8285185 0 (negsuc 95231)
+    ∷ parts 0 (q - 1) 0 (negsuc 0)
     -- "Set 1: 261,888 gives 0; 261,889 gives 1; 8,118,528 gives 15; 8,118,529 gives 0"
-    ∷ high 1 261888 0
-    ∷ high 1 261889 1
-    ∷ high 1 8118528 15
-    ∷ high 1 8118529 0
+    ∷ parts 1 261888 0 (pos 261888)
+    ∷ parts 1 261889 1 (negsuc 261886)
+    ∷ parts 1 8118528 15 (pos 261888)
+    ∷ parts 1 8118529 0 (negsuc 261887)
     -- "Set 0, w′ = q − 2, r = q − 1: y = q − 1, top digit 88, C = 1, result 43"
     ∷ run 0 (q - 2) (q - 1) (q - 1) 88 1 43
     -- "K = 5: g = 1,396,736; n = 5, ρ = q − 1 opens 6,983,679, result 0"

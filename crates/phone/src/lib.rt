@@ -1,22 +1,29 @@
 // What the phone's app, written in Rust, calls: plain arithmetic and the form test of messages, as C functions on numbers and
 // byte slices. Built as a static library.
 ghost use mathlib.Core.Path.{_≡_};
-ghost use Prim.Native.Nat.{_*_, _<_};
-ghost use lib.IntN.{pos};
-ghost use Rattle.rounding.specs.Calls.{highCall, lowCall};
+ghost use Prim.Native.Nat.{_<_};
+ghost use Rattle.rounding.specs.Calls.{partsCall};
 ghost use Rattle.settings.specs.Settings.{settingsWith};
 ghost use Rattle.settings.specs.Sizes.{keyCount};
 ghost use Rattle.message.specs.Message.{formNo};
-ghost use Rattle.phone.specs.Codes.{highCode, lowCode};
-use rounding::High;
-use rounding::Low;
+ghost use Rattle.phone.specs.Codes.{refusalCode, highCode, lowCode, partsCode};
+use rounding::Decomposition;
+use rounding::parts;
 use settings::Settings;
 use settings::Shape;
+
+// Both parts of a coefficient, with 0; or the number of the first no, and no parts.
+#[repr(C)]
+pub struct PartsCode {
+    pub refused: u32,
+    pub high: u32,
+    pub low: i32,
+}
 
 // A refusal as one number.
 fn refusal(no: u32) -> i64
     requires { ⌜ no < 2147483648 ⌝ }
-    ensures { λ r. ⌜ r ≡ pos (no * 4294967296) ⌝ }
+    ensures { λ r. ⌜ r ≡ refusalCode no ⌝ }
 {
     (no as u64 * 4294967296) as i64
 }
@@ -24,22 +31,41 @@ fn refusal(no: u32) -> i64
 // The high part of a coefficient, or the number of the first no times 2^32.
 #[no_mangle]
 pub extern "C" fn high_part(set: u32, w: u32) -> i64
-    ensures { λ r. ⌜ r ≡ highCode (highCall set w) ⌝ }
+    ensures { λ r. ⌜ r ≡ highCode (partsCall set w) ⌝ }
 {
-    match rounding::high_part(set, w) {
-        High::Part(part) => (part as u64) as i64,
-        High::No(no) => refusal(no),
+    match parts(set, w) {
+        Decomposition::Parts(pair) => (pair.high as u64) as i64,
+        Decomposition::No(no) => refusal(no),
     }
 }
 
 // The low part of a coefficient, signed, or the number of the first no times 2^32.
 #[no_mangle]
 pub extern "C" fn low_part(set: u32, w: u32) -> i64
-    ensures { λ r. ⌜ r ≡ lowCode (lowCall set w) ⌝ }
+    ensures { λ r. ⌜ r ≡ lowCode (partsCall set w) ⌝ }
 {
-    match rounding::low_part(set, w) {
-        Low::Part(part) => part as i64,
-        Low::No(no) => refusal(no),
+    match parts(set, w) {
+        Decomposition::Parts(pair) => pair.low as i64,
+        Decomposition::No(no) => refusal(no),
+    }
+}
+
+// Both parts of a coefficient, or the number of the first no.
+#[no_mangle]
+pub extern "C" fn high_and_low(set: u32, w: u32) -> PartsCode
+    ensures { λ r. ⌜ r ≡ partsCode (partsCall set w) ⌝ }
+{
+    match parts(set, w) {
+        Decomposition::Parts(pair) => PartsCode {
+            refused: 0,
+            high: pair.high,
+            low: pair.low,
+        },
+        Decomposition::No(no) => PartsCode {
+            refused: no,
+            high: 0,
+            low: 0,
+        },
     }
 }
 

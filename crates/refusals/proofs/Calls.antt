@@ -5,7 +5,6 @@ use mathlib.Core.Bool.{Bool, true, false, not, cond, _&&_}
 use mathlib.Core.List.{List, []}
 use native.Mathlib.Omega.{arith}
 use lib.Dec.{eqb, leb, ltb}
-use lib.IntN.{ℤ}
 use lib.ListN.{length}
 use borrow.Author.Tests.{eqb-true, eqb-false, ne-eqb, ltb-true, le-leb}
 use Rattle.lists.specs.Answers.{ask}
@@ -19,11 +18,11 @@ use Rattle.settings.specs.Questions.{isBit, askShape, askSettings, keysOk}
 use Rattle.settings.specs.Schedule.{roundOk, roundAfter}
 use Rattle.settings.proofs.Schedule.{round-ok}
 use Rattle.settings.proofs.Ready.{settings-pass, settings-rest}
-use Rattle.rounding.specs.declared.High.the-variants as High
-use Rattle.rounding.specs.declared.Low.the-variants as Low
+use Rattle.rounding.specs.declared.HighLow.{HighLow}
+use Rattle.rounding.specs.declared.Decomposition.the-variants as Decomposition
 use Rattle.rounding.specs.declared.Verdict.the-variants as Verdict
-use Rattle.rounding.specs.Plain.{highPart, lowPart, verdict}
-use Rattle.rounding.specs.Calls.{partNo, verdictNo, highCall, lowCall, verdictCall}
+use Rattle.rounding.specs.Plain.{highLowOf, verdict}
+use Rattle.rounding.specs.Calls.{partsNo, verdictNo, partsCall, verdictCall}
 use Rattle.message.specs.Message.{askForm, formNo}
 use Rattle.dealer.specs.Deal.{dealNo, dealCall}
 use Rattle.stock.specs.Stock.{askStocks, chooseNo, chosen}
@@ -31,38 +30,31 @@ use Rattle.state.specs.declared.Side.{Side}
 use Rattle.state.specs.State.{whole, sendDue, takeDue, underWay, finished, isSending, isTaking, answerNo, answerCall}
 use Rattle.side.specs.declared.Run.{Run}
 use Rattle.side.specs.Side.{handedNo, beginNo, beginCall, begunSide, sendNo, sendCall, sentSide, takeNo, takeCall, takenSide, openedList}
-use Rattle.refusals.specs.Questions.{Question, partQuestions, verdictQuestions, formQuestions, dealQuestions, chooseQuestions}
+use Rattle.refusals.specs.Questions.{Question, partsQuestions, verdictQuestions, formQuestions, dealQuestions, chooseQuestions}
 use Rattle.refusals.specs.Questions.{beginQuestions, sendQuestions, takeQuestions, answerQuestions}
-use Rattle.refusals.specs.Demands.{Decides, Refuses, RefusesSide, highRefusal, lowRefusal, verdictRefusal, Demand1}
+use Rattle.refusals.specs.Demands.{Decides, Refuses, RefusesSide, partsRefusal, verdictRefusal, Demand1}
 use Rattle.refusals.proofs.Deciding.{firstNo, joined, decides, never-thirteen}
 use Rattle.refusals.proofs.Leaving.{went, refused, went-on, kept, stops, not-stopped, done-runs}
 
 -- ---- Level One
 
-part-decides : (set w : ℕ) → Decides (partQuestions set w) (partNo set w)
-unfolding partNo firstNo every
-part-decides set w = decides (partQuestions set w) refl
+parts-decides : (set w : ℕ) → Decides (partsQuestions set w) (partsNo set w)
+unfolding partsNo firstNo every
+parts-decides set w = decides (partsQuestions set w) refl
 
 verdict-decides : (set bound : ℕ) (ws : List ℕ) → Decides (verdictQuestions set bound ws) (verdictNo set bound ws)
 unfolding verdictNo firstNo every
 verdict-decides set bound ws = decides (verdictQuestions set bound ws) refl
 
 -- the number in a call's answer is its first no
-high-number : (set w : ℕ) → highRefusal (highCall set w) ≡ partNo set w
-unfolding highCall
-high-number set w = by (highPart (scaleOf set) w) (eqb (partNo set w) 0) refl
+parts-number : (set w : ℕ) → partsRefusal (partsCall set w) ≡ partsNo set w
+unfolding partsCall
+parts-number set w = by (highLowOf (scaleOf set) w) (eqb (partsNo set w) 0) refl
   where
-    by : (part : ℕ) (b : Bool) → eqb (partNo set w) 0 ≡ b → highRefusal (cond b (High.Part part) (High.No (partNo set w))) ≡ partNo set w
-    by part true e = sym (eqb-true (partNo set w) 0 e)
-    by part false e = refl
-
-low-number : (set w : ℕ) → lowRefusal (lowCall set w) ≡ partNo set w
-unfolding lowCall
-low-number set w = by (lowPart (scaleOf set) w) (eqb (partNo set w) 0) refl
-  where
-    by : (part : ℤ) (b : Bool) → eqb (partNo set w) 0 ≡ b → lowRefusal (cond b (Low.Part part) (Low.No (partNo set w))) ≡ partNo set w
-    by part true e = sym (eqb-true (partNo set w) 0 e)
-    by part false e = refl
+    by : (parts : HighLow) (b : Bool) → eqb (partsNo set w) 0 ≡ b
+        → partsRefusal (cond b (Decomposition.Parts parts) (Decomposition.No (partsNo set w))) ≡ partsNo set w
+    by parts true e = sym (eqb-true (partsNo set w) 0 e)
+    by parts false e = refl
 
 verdict-number : (set bound : ℕ) (ws : List ℕ) → verdictRefusal (verdictCall set bound ws) ≡ verdictNo set bound ws
 unfolding verdictCall
@@ -246,8 +238,7 @@ module _ (k : ℕ) (s : Side) where
 pub every-call-refuses : (k : ℕ) → Demand1 k
 every-call-refuses k =
     record {
-      high = λ set w. rw (high-number set w) (part-decides set w);
-      low = λ set w. rw (low-number set w) (part-decides set w);
+      parts = λ set w. rw (parts-number set w) (parts-decides set w);
       verdict = λ set bound ws. rw (verdict-number set bound ws) (verdict-decides set bound ws);
       form = form-decides k;
       deal = deal-refuses k;

@@ -8,13 +8,11 @@ use mathlib.Core.List.{List, []}
 use lib.ListN.{length, getD}
 use Rattle.settings.specs.declared.Shape.{Shape}
 use Rattle.settings.specs.declared.Settings.{Settings}
-use Rattle.rounding.specs.declared.High.{High}
-use Rattle.rounding.specs.declared.High.the-variants as High
-use Rattle.rounding.specs.declared.Low.{Low}
-use Rattle.rounding.specs.declared.Low.the-variants as Low
+use Rattle.rounding.specs.declared.Decomposition.{Decomposition}
+use Rattle.rounding.specs.declared.Decomposition.the-variants as Decomposition
 use Rattle.rounding.specs.declared.Verdict.{Verdict}
 use Rattle.rounding.specs.declared.Verdict.the-variants as Verdict
-use Rattle.rounding.specs.Calls.{highCall, lowCall, verdictCall}
+use Rattle.rounding.specs.Calls.{partsCall, verdictCall}
 use Rattle.message.specs.Message.{formNo}
 use Rattle.dealer.specs.Deal.{dealCall}
 use Rattle.stock.specs.Stock.{chooseNo, chosen}
@@ -23,7 +21,7 @@ use Rattle.state.specs.declared.Phase.the-variants.{Stopped}
 use Rattle.state.specs.State.{underWay, finished, inPhase, answerCall}
 use Rattle.side.specs.declared.Run.{Run}
 use Rattle.side.specs.Side.{beginCall, sendCall, takeCall}
-use Rattle.refusals.specs.Questions.{Question, asks, partQuestions, verdictQuestions, formQuestions, dealQuestions, chooseQuestions}
+use Rattle.refusals.specs.Questions.{Question, asks, partsQuestions, verdictQuestions, formQuestions, dealQuestions, chooseQuestions}
 use Rattle.refusals.specs.Questions.{beginQuestions, sendQuestions, takeQuestions, answerQuestions}
 
 -- ---- "Each call asks its questions in the order given; the first no decides"
@@ -70,21 +68,16 @@ pub record RefusesSide (questions : List Question) (refusal : ℕ) (before after
 -- ---- Demand 1, k keys a side
 
 -- the refusal of a plain call, or 0
-abbrev pub highRefusal : High → ℕ
-highRefusal (High.Part h) = 0
-highRefusal (High.No n) = n
-
-abbrev pub lowRefusal : Low → ℕ
-lowRefusal (Low.Part z) = 0
-lowRefusal (Low.No n) = n
+abbrev pub partsRefusal : Decomposition → ℕ
+partsRefusal (Decomposition.Parts parts) = 0
+partsRefusal (Decomposition.No n) = n
 
 abbrev pub verdictRefusal : Verdict → ℕ
 verdictRefusal (Verdict.Is v) = 0
 verdictRefusal (Verdict.No n) = n
 
 pub record Demand1 (k : ℕ) : Type 0 where
-  pub high : (set w : ℕ) → Decides (partQuestions set w) (highRefusal (highCall set w))
-  pub low : (set w : ℕ) → Decides (partQuestions set w) (lowRefusal (lowCall set w))
+  pub parts : (set w : ℕ) → Decides (partsQuestions set w) (partsRefusal (partsCall set w))
   pub verdict : (set bound : ℕ) (ws : List ℕ) → Decides (verdictQuestions set bound ws) (verdictRefusal (verdictCall set bound ws))
   pub form : (receiver : ℕ) (s : Settings) (round serial : ℕ) (message : List ℕ)
       → Decides (formQuestions k receiver s round serial message) (formNo k receiver s round serial message)

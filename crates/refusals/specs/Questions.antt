@@ -31,9 +31,9 @@ asks number answer = record { number = number; answer = answer }
 
 -- ---- Level One
 
--- "Plain: 1, .. 6": a part of one number
-abbrev pub partQuestions : ℕ → ℕ → List Question
-partQuestions set w =
+-- "Plain: 1, .. 6": the parts of one number
+abbrev pub partsQuestions : ℕ → ℕ → List Question
+partsQuestions set w =
     asks 1 (isBit set)
     ∷ asks 6 (ltb w q)
     ∷ []

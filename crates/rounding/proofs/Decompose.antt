@@ -1,5 +1,5 @@
 -- Plain high and low part are those of FIPS 204's Decompose, for every lawful scale.
-use mathlib.Core.Path.{_≡_, refl, sym, _∙_, ap}
+use mathlib.Core.Path.{_≡_, refl, sym, _∙_, ap, ap₂}
 use Prim.Native.Nat.{ℕ, zero, suc, _+_, _-_, _*_, _/_, _%_, _≤_, _<_}
 use native.Mathlib.Nat.{mod-lt, mod-eq-of-lt, mod-eq-sub-mod, div-add-mod', suc-mul, one-mul, zero-mul, mul-le-mul-right, div-eq-of-lt, mul-div-cancel}
 use native.Mathlib.Decide.{decLe}
@@ -8,9 +8,9 @@ use lib.Arith.{digits-div, digits-mod}
 use lib.IntN.{ℤ, pos, negsuc, subℕ, _+ℤ_, _-ℤ_, _*ℤ_}
 use borrow.Author.Tests.{le-leb, lt-leb, eq-eqb, ne-eqb}
 use Rattle.settings.specs.Sets.{Scale}
-use Rattle.rounding.specs.Plain.{shifted, highOfShifted, highPart, lowPart, centredBy, Decomposed, decomposeBy, decompose}
+use Rattle.rounding.specs.declared.HighLow.{HighLow}
+use Rattle.rounding.specs.Plain.{shifted, highOfShifted, highPart, lowPart, centredBy, Decomposed, decomposeBy, decompose, highLowOf, residue, joined}
 use Rattle.settings.specs.Theorems.{Lawful}
-use Rattle.rounding.specs.Theorems.{residue}
 use Rattle.rounding.proofs.Differences.{sub-pos, sub-neg, take, give, less-one}
 
 -- w mod± α is ((w + α/2 − 1) mod α) − (α/2 − 1)
@@ -32,6 +32,10 @@ centre α w even some = go (decLe (w % α) (α / 2)) (mod-lt w (omega arith))
 
 abbrev parts : ℤ → ℤ → Decomposed
 parts h l = record { high = h; low = l }
+
+-- high and low part together
+abbrev pub both : ℕ → ℤ → HighLow
+both h l = record { high = h; low = l }
 
 -- the two cases of the high part
 module _ (p : Scale) (w t : ℕ) (e : shifted p w ≡ t) where
@@ -75,7 +79,7 @@ module _ (p : Scale) (k : Lawful p) (w : ℕ) (hw : w < p .modulus) where
       ∙ by-in p (a / α * α) (subℕ (a % α) (α / 2 - 1)) (λ z. omega (arith, div-add-mod' a α))
       ∙ ap (λ (n : ℕ). parts (pos n) (subℕ (a % α) (α / 2 - 1))) (mul-div-cancel (a / α) (omega (arith, k)))
 
-  pub high-inner : (a : ℕ) → a ≡ w + (α / 2 - 1) → suc a < m → highPart p w ≡ a / α
+  high-inner : (a : ℕ) → a ≡ w + (α / 2 - 1) → suc a < m → highPart p w ≡ a / α
   high-inner a e h =
       let t : shifted p w ≡ a = ap (λ (n : ℕ). n % m) (sym e) ∙ mod-eq-of-lt (omega arith) in
       high-in p w a t (λ z. omega arith)
@@ -103,18 +107,24 @@ module _ (p : Scale) (k : Lawful p) (w : ℕ) (hw : w < p .modulus) where
       let small : b < α = omega (arith, k) in
       high-in p w b t (λ z. omega (arith, one-mul α, k)) ∙ div-eq-of-lt small
 
-  pub high-outer : (a : ℕ) → a ≡ w + (α / 2 - 1) → m ≤ suc a → highPart p w ≡ 0
+  high-outer : (a : ℕ) → a ≡ w + (α / 2 - 1) → m ≤ suc a → highPart p w ≡ 0
   high-outer a e h = outer-high a (suc a - m) e (omega arith)
 
-  pub low-inner : (a : ℕ) → a ≡ w + (α / 2 - 1) → suc a < m → lowPart p w ≡ subℕ (a % α) (α / 2 - 1)
+  low-inner : (a : ℕ) → a ≡ w + (α / 2 - 1) → suc a < m → lowPart p w ≡ subℕ (a % α) (α / 2 - 1)
   unfolding lowPart
   low-inner a e h = ap (λ (d : Decomposed). d .low) (inner-fips a e h)
 
-  pub low-outer : (a : ℕ) → a ≡ w + (α / 2 - 1) → m ≤ suc a → lowPart p w ≡ subℕ w m
+  low-outer : (a : ℕ) → a ≡ w + (α / 2 - 1) → m ≤ suc a → lowPart p w ≡ subℕ w m
   unfolding lowPart
   low-outer a e h =
       let b : ℕ = suc a - m in
       ap (λ (d : Decomposed). d .low) (outer-fips a b e (omega arith)) ∙ sym (sub-neg w m (α / 2 - 1 - b) (omega (arith, k)))
+
+  pub high-low-inner : (a : ℕ) → a ≡ w + (α / 2 - 1) → suc a < m → highLowOf p w ≡ both (a / α) (subℕ (a % α) (α / 2 - 1))
+  high-low-inner a e h = ap₂ both (high-inner a e h) (low-inner a e h)
+
+  pub high-low-outer : (a : ℕ) → a ≡ w + (α / 2 - 1) → m ≤ suc a → highLowOf p w ≡ both 0 (subℕ w m)
+  high-low-outer a e h = ap₂ both (high-outer a e h) (low-outer a e h)
 
   -- Decompose gives the plain high part
   pub high-is : pos (highPart p w) ≡ decompose p w .high
@@ -129,7 +139,7 @@ module _ (p : Scale) (k : Lawful p) (w : ℕ) (hw : w < p .modulus) where
           ∙ sym (ap (λ (d : Decomposed). d .high) (inner-fips (w + (α / 2 - 1)) refl (omega arith)))
 
   -- high × α + low is w modulo q
-  pub join-is : residue m (pos (highPart p w) *ℤ pos α +ℤ lowPart p w) ≡ w
+  pub join-is : joined p (highLowOf p w) ≡ w
   unfolding lowPart
   join-is = ap (λ (z : ℤ). residue m (z *ℤ pos α +ℤ decompose p w .low)) high-is ∙ go (decLe m (suc (w + (α / 2 - 1))))
     where

@@ -1,13 +1,14 @@
 -- Plain meaning.
-use Prim.Native.Nat.{ℕ, _+_, _-_, _/_, _%_}
+use Prim.Native.Nat.{ℕ, suc, _+_, _-_, _/_, _%_}
 use mathlib.Core.Bool.{Bool, false, cond}
 use mathlib.Core.List.{List}
 use lib.Dec.{eqb, leb, ltb}
-use lib.IntN.{ℤ, pos, negsuc, natAbs, subℕ, _-ℤ_}
+use lib.IntN.{ℤ, pos, negsuc, natAbs, subℕ, _+ℤ_, _-ℤ_, _*ℤ_}
 use lib.Signed.{quotZ}
 use Rattle.lists.specs.Answers.{bit}
 use Rattle.lists.specs.Lists.{every}
 use Rattle.settings.specs.Sets.{Scale}
+use Rattle.rounding.specs.declared.HighLow.{HighLow}
 
 -- "w′ = (w + α/2 − 1) mod q"
 abbrev pub shifted : Scale → ℕ → ℕ
@@ -52,6 +53,19 @@ decompose p r =
 -- "Low part: the low result of FIPS 204 Decompose, signed"
 unfoldable pub lowPart : Scale → ℕ → ℤ
 lowPart p w = decompose p w .low
+
+-- request Two: "high and signed low in one result"
+abbrev pub highLowOf : Scale → ℕ → HighLow
+highLowOf p w = record { high = highPart p w; low = lowPart p w }
+
+-- the remainder of a signed number by m
+abbrev pub residue : ℕ → ℤ → ℕ
+residue m (pos x) = x % m
+residue m (negsuc x) = (m - suc x % m) % m
+
+-- "high × α + low .. modulo q"
+abbrev pub joined : Scale → HighLow → ℕ
+joined p parts = residue (p .modulus) (pos (parts .high) *ℤ pos (p .alpha) +ℤ parts .low)
 
 -- "centred to −(q − 1)/2 .. (q − 1)/2", for the modulus m
 abbrev pub centred : ℕ → ℕ → ℤ

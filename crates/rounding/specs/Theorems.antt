@@ -2,24 +2,19 @@
 use Prim.Native.Nat.{ℕ, suc, _+_, _*_, _-_, _/_, _%_, _<_, _≤_}
 use mathlib.Core.Path.{_≡_}
 use lib.Dec.{eqb, leb, ltb}
-use lib.IntN.{ℤ, pos, negsuc, _*ℤ_, _+ℤ_}
+use lib.IntN.{pos}
 use Rattle.lists.specs.Answers.{bit}
 use Rattle.field.specs.Field.{sub}
 use Rattle.settings.specs.Sets.{Scale, base}
 use Rattle.settings.specs.Theorems.{Lawful}
-use Rattle.rounding.specs.Plain.{shifted, highPart, lowPart, decompose, inside}
+use Rattle.rounding.specs.Plain.{shifted, highPart, decompose, highLowOf, joined, inside}
 use Rattle.rounding.specs.Digits.{digit}
 use Rattle.rounding.specs.Rounds.{carryInto, zeroDigit, topSum, gap, checkOpens, checkResult, highResult, belowUpTo, insideResult}
 
--- the remainder of a signed number by m
-abbrev pub residue : ℕ → ℤ → ℕ
-residue m (pos x) = x % m
-residue m (negsuc x) = (m - suc x % m) % m
-
 pub record PlainLaws : Type 0 where
-  -- 01's high part is Decompose's (its low part is by definition); high × α + low is w modulo q
+  -- 01's high part is Decompose's (its low part is by definition); both parts join to the number: request Two's identity
   pub high : (p : Scale) → Lawful p → (w : ℕ) → w < p .modulus → pos (highPart p w) ≡ decompose p w .high
-  pub join : (p : Scale) → Lawful p → (w : ℕ) → w < p .modulus → residue (p .modulus) (pos (highPart p w) *ℤ pos (p .alpha) +ℤ lowPart p w) ≡ w
+  pub join : (p : Scale) → Lawful p → (w : ℕ) → w < p .modulus → joined p (highLowOf p w) ≡ w
   -- request One: a high part is in the range that question 15 asks for
   pub high-below : (p : Scale) → Lawful p → (w : ℕ) → highPart p w < p .parts
   -- the digits of a number join to the number, and each is below its base

@@ -1,13 +1,13 @@
-// Plain rounding of ML-DSA coefficients: high part, low part and bound verdict, and the digits of a number.
+// Plain rounding of ML-DSA coefficients: high and low part together, the bound verdict, and the digits of a number.
 ghost use mathlib.Core.Path.{_≡_};
 ghost use Prim.Native.Nat.{_+_, _-_, _/_, _%_, _<_, _≤_};
 ghost use lib.IntN.{subℕ, natAbs};
 ghost use Rattle.lists.specs.Lists.{every};
 ghost use Rattle.field.specs.Field.{q};
 ghost use Rattle.settings.specs.Sets.{scaleOf};
-ghost use Rattle.rounding.specs.Plain.{highPart, lowPart, centred, inside};
+ghost use Rattle.rounding.specs.Plain.{highLowOf, centred, inside};
 ghost use Rattle.rounding.specs.Digits.{splitOf};
-ghost use Rattle.rounding.specs.Calls.{partNo, verdictNo, highCall, lowCall, verdictCall};
+ghost use Rattle.rounding.specs.Calls.{partsNo, verdictNo, partsCall, verdictCall, JoinTo};
 use field::Q;
 use field::all_below_q;
 use settings::BOUND;
@@ -24,15 +24,15 @@ pub struct Split {
     pub digits: [u32; 5],
 }
 
-// A high part, or the number of the first no.
-pub enum High {
-    Part(u32),
-    No(u32),
+// High and signed low part of a coefficient.
+pub struct HighLow {
+    pub high: u32,
+    pub low: i32,
 }
 
-// A low part, or the number of the first no.
-pub enum Low {
-    Part(i32),
+// Both parts, or the number of the first no.
+pub enum Decomposition {
+    Parts(HighLow),
     No(u32),
 }
 
@@ -76,9 +76,9 @@ pub fn split_number(set: usize, x: u32) -> Split
 
 // ---- High and low part
 
-// The first no of a call for a part, or 0.
-fn part_no(set: u32, w: u32) -> u32
-    ensures { λ r. ⌜ r ≡ partNo set w ⌝ }
+// The first no of a call for the parts, or 0.
+fn parts_no(set: u32, w: u32) -> u32
+    ensures { λ r. ⌜ r ≡ partsNo set w ⌝ }
 {
     if set >= 2 {
         return SIDE_SET_OR_KIND;
@@ -89,31 +89,6 @@ fn part_no(set: u32, w: u32) -> u32
     0
 }
 
-// The high part of a number below q, by the table's step for the set. A sum below q − 1 is w′; for any other w′ is q − 1, or it is
-// below the step.
-fn high_by(set: usize, w: u32) -> u32
-    requires { ⌜ (set < 2) × (w < q) ⌝ }
-    ensures { λ r. ⌜ r ≡ highPart (scaleOf set) w ⌝ }
-{
-    let alpha = alpha_of(set);
-    let sum = w + (alpha / 2 - 1);
-    if sum >= Q - 1 {
-        return 0;
-    }
-    sum / alpha
-}
-
-// The high part of a number below q; each branch has a constant step.
-fn high_of(set: usize, w: u32) -> u32
-    requires { ⌜ (set < 2) × (w < q) ⌝ }
-    ensures { λ r. ⌜ r ≡ highPart (scaleOf set) w ⌝ }
-{
-    if set == 0 {
-        return high_by(0, w);
-    }
-    high_by(1, w)
-}
-
 // a - b.
 fn difference(a: u32, b: u32) -> i32
     requires { ⌜ (a < 2147483648) × (b < 2147483648) ⌝ }
@@ -122,51 +97,48 @@ fn difference(a: u32, b: u32) -> i32
     (a as i32) - (b as i32)
 }
 
-// The low part of a number below q, by the table's step for the set. Where the high part is 0 again it is w − q.
-fn low_by(set: usize, w: u32) -> i32
+// The parts of a number below q, by the table's step for the set. A sum below q − 1 is w′; for any other w′ is q − 1 or below the step:
+// the high part is 0 again, and the low part w − q.
+fn high_low_by(set: usize, w: u32) -> HighLow
     requires { ⌜ (set < 2) × (w < q) ⌝ }
-    ensures { λ r. ⌜ r ≡ lowPart (scaleOf set) w ⌝ }
+    ensures { λ r. ⌜ r ≡ highLowOf (scaleOf set) w ⌝ }
 {
     let alpha = alpha_of(set);
     let half = alpha / 2;
     let sum = w + (half - 1);
     if sum >= Q - 1 {
-        return difference(w, Q);
+        return HighLow {
+            high: 0,
+            low: difference(w, Q),
+        };
     }
-    difference(sum % alpha, half - 1)
+    HighLow {
+        high: sum / alpha,
+        low: difference(sum % alpha, half - 1),
+    }
 }
 
-// The low part of a number below q; each branch has a constant step.
-fn low_of(set: usize, w: u32) -> i32
+// The parts of a number below q; each branch has a constant step.
+fn high_low_of(set: usize, w: u32) -> HighLow
     requires { ⌜ (set < 2) × (w < q) ⌝ }
-    ensures { λ r. ⌜ r ≡ lowPart (scaleOf set) w ⌝ }
+    ensures { λ r. ⌜ r ≡ highLowOf (scaleOf set) w ⌝ }
 {
     if set == 0 {
-        return low_by(0, w);
+        return high_low_by(0, w);
     }
-    low_by(1, w)
+    high_low_by(1, w)
 }
 
-// The high part of a coefficient.
-pub fn high_part(set: u32, w: u32) -> High
-    ensures { λ r. ⌜ r ≡ highCall set w ⌝ }
+// High and low part of a coefficient: high × α + low is w modulo q.
+pub fn parts(set: u32, w: u32) -> Decomposition
+    ensures { λ r. ⌜ r ≡ partsCall set w ⌝ }
+    ensures { λ r. ⌜ JoinTo set w r ⌝ }
 {
-    let no = part_no(set, w);
+    let no = parts_no(set, w);
     if no != 0 {
-        return High::No(no);
+        return Decomposition::No(no);
     }
-    High::Part(high_of(set as usize, w))
-}
-
-// The low part of a coefficient, signed.
-pub fn low_part(set: u32, w: u32) -> Low
-    ensures { λ r. ⌜ r ≡ lowCall set w ⌝ }
-{
-    let no = part_no(set, w);
-    if no != 0 {
-        return Low::No(no);
-    }
-    Low::Part(low_of(set as usize, w))
+    Decomposition::Parts(high_low_of(set as usize, w))
 }
 
 // ---- Verdict

@@ -1,4 +1,4 @@
-//! The plain meaning: high part, low part and verdict of open numbers.
+//! The plain meaning: both parts of an open number, and the verdict.
 
 use crate::field::{add, all_below_q, Q};
 use crate::refusal::{ask, Refusal};
@@ -8,31 +8,43 @@ fn parameter_set(set: u32) -> Result<&'static ParameterSet, Refusal> {
     SETS.get(set as usize).ok_or(Refusal::Selector)
 }
 
+#[derive(Clone, Copy, Debug, PartialEq, Eq)]
+pub struct Parts {
+    pub high: u32,
+    pub low: i32,
+}
+
 /// w′ = (w + α/2 − 1) mod q; 0 if w′ = q − 1, else w′ / α.
-pub fn high_part(set: u32, w: u32) -> Result<u32, Refusal> {
-    let set = parameter_set(set)?;
-    ask(w < Q, Refusal::Range)?;
+fn high_part(set: &ParameterSet, w: u32) -> u32 {
     let shifted = add(w, set.alpha / 2 - 1);
-    Ok(if shifted == Q - 1 {
+    if shifted == Q - 1 {
         0
     } else {
         shifted / set.alpha
-    })
+    }
 }
 
 /// The low result of FIPS 204 Decompose.
-pub fn low_part(set: u32, w: u32) -> Result<i32, Refusal> {
-    let set = parameter_set(set)?;
-    ask(w < Q, Refusal::Range)?;
+fn low_part(set: &ParameterSet, w: u32) -> i32 {
     let alpha = set.alpha as i32;
     let mut low = (w % set.alpha) as i32;
     if low > alpha / 2 {
         low -= alpha;
     }
-    Ok(if w as i32 - low == (Q - 1) as i32 {
+    if w as i32 - low == (Q - 1) as i32 {
         low - 1
     } else {
         low
+    }
+}
+
+/// High and low part of a coefficient.
+pub fn parts(set: u32, w: u32) -> Result<Parts, Refusal> {
+    let set = parameter_set(set)?;
+    ask(w < Q, Refusal::Range)?;
+    Ok(Parts {
+        high: high_part(set, w),
+        low: low_part(set, w),
     })
 }
 

@@ -4,7 +4,7 @@ use crate::dealer::deal;
 use crate::field::{add, mul, sub, Q};
 use crate::line_program;
 use crate::message::{message_length, write_message, FormTest, Header, Opening, MAX_BYTES};
-use crate::plain::{high_part, low_part, verdict};
+use crate::plain::{parts, verdict, Parts};
 use crate::random::{RandomRun, SplitMix64};
 use crate::refusal::Refusal;
 use crate::settings::{Kind, Settings, Shape, MAX_COUNT, SETS};
@@ -119,7 +119,7 @@ fn plain_answer(run: &RandomRun) -> Vec<u32> {
         0 => run
             .secret
             .iter()
-            .map(|&w| high_part(run.set, w).unwrap())
+            .map(|&w| parts(run.set, w).unwrap().high)
             .collect(),
         _ => vec![verdict(run.set, run.bound, &run.secret).unwrap()],
     }
@@ -188,22 +188,20 @@ fn lengths_are_those_of_the_request() {
 
 #[test]
 fn plain_known_results() {
-    for (set, w, high) in [
-        (0, 95_232, 0),
-        (0, 95_233, 1),
-        (0, 8_285_184, 43),
-        (0, 8_285_185, 0),
-        (0, Q - 1, 0),
-        (1, 261_888, 0),
-        (1, 261_889, 1),
-        (1, 8_118_528, 15),
-        (1, 8_118_529, 0),
+    for (set, w, high, low) in [
+        (0, 95_232, 0, 95_232),
+        (0, 95_233, 1, -95_231),
+        (0, 8_285_184, 43, 95_232),
+        (0, 8_285_185, 0, -95_232),
+        (0, Q - 1, 0, -1),
+        (1, 261_888, 0, 261_888),
+        (1, 261_889, 1, -261_887),
+        (1, 8_118_528, 15, 261_888),
+        (1, 8_118_529, 0, -261_888),
     ] {
-        assert_eq!(high_part(set, w), Ok(high), "set {set}, {w}");
+        assert_eq!(parts(set, w), Ok(Parts { high, low }), "set {set}, {w}");
         assert_eq!(Pair::new(simple_run(set, 0, 0, &[w])).play(), [high]);
     }
-    assert_eq!(low_part(0, 8_285_185), Ok(-95_232));
-    assert_eq!(low_part(0, Q - 1), Ok(-1));
     for (v, inside) in [
         (4_190_207, 1),
         (4_190_208, 0),
@@ -216,8 +214,8 @@ fn plain_known_results() {
             assert_eq!(pair.play(), [inside]);
         }
     }
-    assert_eq!(high_part(2, Q), Err(Refusal::Selector));
-    assert_eq!(high_part(0, Q), Err(Refusal::Range));
+    assert_eq!(parts(2, Q), Err(Refusal::Selector));
+    assert_eq!(parts(0, Q), Err(Refusal::Range));
     assert_eq!(verdict(2, 0, &[]), Err(Refusal::Selector));
     assert_eq!(verdict(0, 0, &[]), Err(Refusal::Count));
     assert_eq!(verdict(0, 0, &[Q]), Err(Refusal::Bound));
@@ -242,8 +240,8 @@ fn plain_parts_are_decompose() {
             } else {
                 (w as i32 - low) / alpha
             };
-            assert_eq!(high_part(set, w), Ok(high as u32));
-            assert_eq!(low_part(set, w), Ok(low));
+            let high = high as u32;
+            assert_eq!(parts(set, w), Ok(Parts { high, low }));
         }
     }
 }
