@@ -44,28 +44,55 @@ fn plain_low(set: u32, w: u32) -> Result<i32, Refusal> {
     })
 }
 
-/// Both parts, from one quotient by a constant step.
-fn plain_decompose<const ALPHA: i32>(w: i32) -> Parts {
-    let shifted = w + (ALPHA / 2 - 1);
-    if shifted >= Q as i32 - 1 {
+/// FIPS 204's Decompose.
+fn plain_parts(set: u32, w: u32) -> Result<Parts, Refusal> {
+    let alpha = step(set, w)? as i32;
+    let w = w as i32;
+    let mut low = w % alpha;
+    if low > alpha / 2 {
+        low -= alpha;
+    }
+    Ok(if w - low == Q as i32 - 1 {
+        Parts {
+            high: 0,
+            low: low - 1,
+        }
+    } else {
+        Parts {
+            high: ((w - low) / alpha) as u32,
+            low,
+        }
+    })
+}
+
+/// Both parts as the library works them out: one quotient, by a constant.
+fn quotient<const ALPHA: i32>(w: i32) -> Parts {
+    let sum = w + (ALPHA / 2 - 1);
+    if sum >= Q as i32 - 1 {
         return Parts {
             high: 0,
             low: w - Q as i32,
         };
     }
-    let high = shifted / ALPHA;
+    let high = sum / ALPHA;
     Parts {
         high: high as u32,
         low: w - high * ALPHA,
     }
 }
 
-fn plain_parts(set: u32, w: u32) -> Result<Parts, Refusal> {
+fn constant_parts(set: u32, w: u32) -> Result<Parts, Refusal> {
     step(set, w)?;
     Ok(match set {
-        0 => plain_decompose::<190_464>(w as i32),
-        _ => plain_decompose::<523_776>(w as i32),
+        0 => quotient::<190_464>(w as i32),
+        _ => quotient::<523_776>(w as i32),
     })
+}
+
+/// The same, not compiled into its caller, as the library is not.
+#[inline(never)]
+fn called_parts(set: u32, w: u32) -> Result<Parts, Refusal> {
+    constant_parts(set, w)
 }
 
 /// The sum over all coefficients of both sets, and the nanoseconds per call.
@@ -106,7 +133,7 @@ fn compare(
     let [ours, theirs] = times;
     for (label, place) in [("best", 0), ("median", passes / 2)] {
         println!(
-            "{name:<10} {label:<8} {:>10.2} {:>12.2} {:>8.2}",
+            "{name:<30} {label:<8} {:>10.2} {:>12.2} {:>8.2}",
             ours[place],
             theirs[place],
             ours[place] / theirs[place]
@@ -129,19 +156,31 @@ fn main() -> ExitCode {
     }
     println!("{passes} passes over {CALLS} calls each, nanoseconds per call");
     println!(
-        "{:<10} {:<8} {:>10} {:>12} {:>8}",
-        "part", "pass", "library", "plain Rust", "ratio"
+        "{:<30} {:<8} {:>10} {:>12} {:>8}",
+        "call", "pass", "library", "plain Rust", "ratio"
     );
     let value = |part: Result<u32, Refusal>| part.map_or(-1, i64::from);
     let signed = |part: Result<i32, Refusal>| part.map_or(i64::MIN >> 32, i64::from);
     let both = |parts: Result<Parts, Refusal>| {
-        parts.map_or(-1, |parts| i64::from(parts.high) * WEIGHT + i64::from(parts.low))
+        parts.map_or(-1, |parts| {
+            i64::from(parts.high) * WEIGHT + i64::from(parts.low)
+        })
     };
     let equal = compare(
         "parts",
         passes,
         |set, w| both(parts(set, w)),
         |set, w| both(plain_parts(set, w)),
+    ) && compare(
+        "parts, constant steps, called",
+        passes,
+        |set, w| both(parts(set, w)),
+        |set, w| both(called_parts(set, w)),
+    ) && compare(
+        "parts, constant steps, inlined",
+        passes,
+        |set, w| both(parts(set, w)),
+        |set, w| both(constant_parts(set, w)),
     ) && compare(
         "high_part",
         passes,

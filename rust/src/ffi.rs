@@ -2,13 +2,11 @@
 
 use crate::Expected;
 
-/// Both parts with `refused` 0; or the refusal's number, and zeros.
+/// What the calls for one part each give of a coefficient.
 #[repr(C)]
-#[derive(Clone, Copy, Debug)]
 pub struct PartsCode {
-    pub refused: u32,
-    pub high: u32,
-    pub low: i32,
+    pub high: i64,
+    pub low: i64,
 }
 
 mod c {

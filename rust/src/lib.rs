@@ -131,29 +131,15 @@ pub fn low_part(set: u32, w: u32) -> Result<i32, Refusal> {
     low_from(ffi::low_part(set, w))
 }
 
-// The library answers a call for both parts with 0 and the parts, or with the refusal's number and zeros.
+// The library answers with one number for each part: the part, or the refusal's number times 2^32.
 
 #[inline]
 fn parts_from(code: ffi::PartsCode) -> Result<Parts, Refusal> {
-    if code.refused == 0 {
-        Ok(Parts {
-            high: code.high,
-            low: code.low,
-        })
-    } else {
-        Err(refusal_in(code))
-    }
+    Ok(Parts {
+        high: high_from(code.high)?,
+        low: low_from(code.low)?,
+    })
 }
-
-#[cold]
-fn refusal_in(code: ffi::PartsCode) -> Refusal {
-    match Refusal::from_number(code.refused) {
-        Some(refusal) if code.high == 0 && code.low == 0 => refusal,
-        _ => panic!("libphone broke its contract: {code:?} is neither two parts nor a refusal"),
-    }
-}
-
-// It answers a call for one part with one number: the part, or the refusal's number times 2^32.
 
 #[inline]
 fn high_from(code: i64) -> Result<u32, Refusal> {
@@ -181,30 +167,8 @@ mod tests {
 
     const UNIT: i64 = 1 << 32;
 
-    fn code(refused: u32, high: u32, low: i32) -> ffi::PartsCode {
-        ffi::PartsCode { refused, high, low }
-    }
-
-    #[test]
-    fn both_parts_are_values() {
-        for (high, low) in [(0, 0), (43, -95_232), (u32::MAX, i32::MAX), (1, i32::MIN)] {
-            assert_eq!(parts_from(code(0, high, low)), Ok(Parts { high, low }));
-        }
-    }
-
-    #[test]
-    fn a_refusal_has_no_parts() {
-        for &refusal in Refusal::ALL {
-            let number = refusal.number();
-            assert_eq!(parts_from(code(number, 0, 0)), Err(refusal));
-            for broken in [code(number, 1, 0), code(number, 0, -1)] {
-                assert_names_library(catch_unwind(|| parts_from(broken)).unwrap_err());
-            }
-        }
-        for number in [Refusal::ALL.len() as u32 + 1, u32::MAX] {
-            let broken = code(number, 0, 0);
-            assert_names_library(catch_unwind(|| parts_from(broken)).unwrap_err());
-        }
+    fn both_from(high: i64, low: i64) -> Result<Parts, Refusal> {
+        parts_from(ffi::PartsCode { high, low })
     }
 
     #[test]
@@ -216,6 +180,11 @@ mod tests {
         assert_eq!(low_from(-261_888), Ok(-261_888));
         assert_eq!(low_from(i64::from(i32::MAX)), Ok(i32::MAX));
         assert_eq!(low_from(i64::from(i32::MIN)), Ok(i32::MIN));
+        let parts = Parts {
+            high: 43,
+            low: -95_232,
+        };
+        assert_eq!(both_from(43, -95_232), Ok(parts));
     }
 
     #[test]
@@ -224,6 +193,7 @@ mod tests {
             let code = i64::from(refusal.number()) * UNIT;
             assert_eq!(high_from(code), Err(refusal));
             assert_eq!(low_from(code), Err(refusal));
+            assert_eq!(both_from(code, code), Err(refusal));
         }
     }
 
@@ -242,6 +212,8 @@ mod tests {
         for code in broken {
             assert_names_library(catch_unwind(|| high_from(code)).unwrap_err());
             assert_names_library(catch_unwind(|| low_from(code)).unwrap_err());
+            assert_names_library(catch_unwind(|| both_from(code, 0)).unwrap_err());
+            assert_names_library(catch_unwind(|| both_from(0, code)).unwrap_err());
         }
         assert_names_library(catch_unwind(|| high_from(-1)).unwrap_err());
         assert_names_library(catch_unwind(|| low_from(UNIT - 1)).unwrap_err());

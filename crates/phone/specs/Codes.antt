@@ -1,4 +1,4 @@
--- Answers as Rust takes them. For the app's calls for one part each, one number: that part of the pair, or the refusal number times 2³².
+-- Answers as Rust takes them, one number for each part: the part, or the refusal number times 2³².
 use Prim.Native.Nat.{ℕ, _*_}
 use lib.IntN.{ℤ, pos}
 use Rattle.rounding.specs.declared.Decomposition.{Decomposition}
@@ -17,7 +17,6 @@ abbrev pub lowCode : Decomposition → ℤ
 lowCode (Decomposition.Parts parts) = parts .low
 lowCode (Decomposition.No n) = refusalCode n
 
--- the pair itself, with 0 for no refusal; or the refusal number, and zeros
+-- both codes of the pair
 abbrev pub partsCode : Decomposition → PartsCode
-partsCode (Decomposition.Parts parts) = record { refused = 0; high = parts .high; low = parts .low }
-partsCode (Decomposition.No n) = record { refused = n; high = 0; low = pos 0 }
+partsCode r = record { high = highCode r; low = lowCode r }

@@ -12,12 +12,11 @@ use rounding::parts;
 use settings::Settings;
 use settings::Shape;
 
-// Both parts of a coefficient, with 0; or the number of the first no, and no parts.
+// What `high_part` and `low_part` give of one coefficient.
 #[repr(C)]
 pub struct PartsCode {
-    pub refused: u32,
-    pub high: u32,
-    pub low: i32,
+    pub high: i64,
+    pub low: i64,
 }
 
 // A refusal as one number.
@@ -50,22 +49,23 @@ pub extern "C" fn low_part(set: u32, w: u32) -> i64
     }
 }
 
-// Both parts of a coefficient, or the number of the first no.
+// Both parts of a coefficient from one call, each as the call for it alone gives it.
 #[no_mangle]
 pub extern "C" fn high_and_low(set: u32, w: u32) -> PartsCode
     ensures { λ r. ⌜ r ≡ partsCode (partsCall set w) ⌝ }
 {
     match parts(set, w) {
         Decomposition::Parts(pair) => PartsCode {
-            refused: 0,
-            high: pair.high,
-            low: pair.low,
+            high: (pair.high as u64) as i64,
+            low: pair.low as i64,
         },
-        Decomposition::No(no) => PartsCode {
-            refused: no,
-            high: 0,
-            low: 0,
-        },
+        Decomposition::No(no) => {
+            let code = refusal(no);
+            PartsCode {
+                high: code,
+                low: code,
+            }
+        }
     }
 }
 

@@ -7,7 +7,7 @@ ghost use Rattle.field.specs.Field.{q};
 ghost use Rattle.settings.specs.Sets.{scaleOf};
 ghost use Rattle.rounding.specs.Plain.{highLowOf, centred, inside};
 ghost use Rattle.rounding.specs.Digits.{splitOf};
-ghost use Rattle.rounding.specs.Calls.{partsNo, verdictNo, partsCall, verdictCall, JoinTo};
+ghost use Rattle.rounding.specs.Calls.{verdictNo, partsCall, verdictCall, JoinTo};
 use field::Q;
 use field::all_below_q;
 use settings::BOUND;
@@ -76,19 +76,6 @@ pub fn split_number(set: usize, x: u32) -> Split
 
 // ---- High and low part
 
-// The first no of a call for the parts, or 0.
-fn parts_no(set: u32, w: u32) -> u32
-    ensures { λ r. ⌜ r ≡ partsNo set w ⌝ }
-{
-    if set >= 2 {
-        return SIDE_SET_OR_KIND;
-    }
-    if w >= Q {
-        return NOT_BELOW_Q;
-    }
-    0
-}
-
 // a - b.
 fn difference(a: u32, b: u32) -> i32
     requires { ⌜ (a < 2147483648) × (b < 2147483648) ⌝ }
@@ -129,16 +116,20 @@ fn high_low_of(set: usize, w: u32) -> HighLow
     high_low_by(1, w)
 }
 
-// High and low part of a coefficient: high × α + low is w modulo q.
+// High and low part of a coefficient: high × α + low is w modulo q. The answer is set anew at each yes, rather than returned at each no: so
+// the compiler keeps it in registers.
 pub fn parts(set: u32, w: u32) -> Decomposition
     ensures { λ r. ⌜ r ≡ partsCall set w ⌝ }
     ensures { λ r. ⌜ JoinTo set w r ⌝ }
 {
-    let no = parts_no(set, w);
-    if no != 0 {
-        return Decomposition::No(no);
+    let mut answer = Decomposition::No(SIDE_SET_OR_KIND);
+    if set < 2 {
+        answer = Decomposition::No(NOT_BELOW_Q);
+        if w < Q {
+            answer = Decomposition::Parts(high_low_of(set as usize, w));
+        }
     }
-    Decomposition::Parts(high_low_of(set as usize, w))
+    answer
 }
 
 // ---- Verdict
