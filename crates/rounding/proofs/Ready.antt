@@ -18,13 +18,14 @@ use Rattle.rounding.specs.Plain.{highLowOf, joined}
 use Rattle.rounding.specs.Calls.{partsNo, partsCall, JoinTo}
 use Rattle.rounding.proofs.Decompose.{join-is}
 
-pub parts-ready : (set w : ℕ) → partsNo set w ≡ 0 → (set < 2) × (w < q)
+parts-ready : (set w : ℕ) → partsNo set w ≡ 0 → (set < 2) × (w < q)
 unfolding partsNo
 parts-ready set w e =
     let one = passed (isBit set) 0 (ask (ltb w q) 6 0) e in
     let six = passed (ltb w q) 5 0 (one .1) in
     (ltb-true set 2 (one .0), ltb-true w q (six .0))
 
+-- parts that are given join to w
 parts-join : (set w : ℕ) → JoinTo set w (partsCall set w)
 unfolding partsCall
 parts-join set w parts given = go (eqb (partsNo set w) 0) refl given
