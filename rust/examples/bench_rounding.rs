@@ -166,32 +166,32 @@ fn main() -> ExitCode {
             i64::from(parts.high) * WEIGHT + i64::from(parts.low)
         })
     };
-    let equal = compare(
-        "parts",
-        passes,
-        |set, w| both(parts(set, w)),
-        |set, w| both(plain_parts(set, w)),
-    ) && compare(
-        "parts, constant steps, called",
-        passes,
-        |set, w| both(parts(set, w)),
-        |set, w| both(called_parts(set, w)),
-    ) && compare(
-        "parts, constant steps, inlined",
-        passes,
-        |set, w| both(parts(set, w)),
-        |set, w| both(constant_parts(set, w)),
-    ) && compare(
-        "high_part",
-        passes,
-        |set, w| value(high_part(set, w)),
-        |set, w| value(plain_high(set, w)),
-    ) && compare(
-        "low_part",
-        passes,
-        |set, w| signed(low_part(set, w)),
-        |set, w| signed(plain_low(set, w)),
-    );
+    let library = |set, w| both(parts(set, w));
+    let equal = compare("parts", passes, library, |set, w| both(plain_parts(set, w)))
+        && compare(
+            "parts, constant steps, called",
+            passes,
+            library,
+            |set, w| both(called_parts(set, w)),
+        )
+        && compare(
+            "parts, constant steps, inlined",
+            passes,
+            library,
+            |set, w| both(constant_parts(set, w)),
+        )
+        && compare(
+            "high_part",
+            passes,
+            |set, w| value(high_part(set, w)),
+            |set, w| value(plain_high(set, w)),
+        )
+        && compare(
+            "low_part",
+            passes,
+            |set, w| signed(low_part(set, w)),
+            |set, w| signed(plain_low(set, w)),
+        );
     if equal {
         println!("sums equal in every pass");
         ExitCode::SUCCESS

@@ -68,7 +68,7 @@ unfoldable pub signedText : ℤ → List ℕ
 signedText (pos n) = decimal n
 signedText (negsuc n) = 45 ∷ decimal (suc n)
 
--- request Two, "`parts SET W` prints high and low": one blank between
+-- both parts, as request Two gives them in one result: high, one blank, low
 unfoldable pub highLowText : HighLow → List ℕ
 highLowText parts = decimal (parts .high) ++ 32 ∷ signedText (parts .low)
 
