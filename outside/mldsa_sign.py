@@ -1,7 +1,7 @@
 #!/usr/bin/env python3
 """Signs with ML-DSA-44, -65 and -87, all rounding done by the phone's library, and has the signatures verified elsewhere.
 
-FIPS 204 key generation and signing in plain Python; HighBits and LowBits are `high_part` and `low_part` of libphone.
+FIPS 204 key generation and signing in plain Python; Decompose is `high_and_low` of libphone.
 The verifier is OpenSSL, through the Python package `cryptography` (version 47 or newer).
 
 Usage: outside/mldsa_sign.py [HOW MANY]      (after `rt staticlib phone`)
@@ -21,6 +21,12 @@ Q, D = 8380417, 13
 ROOT = pathlib.Path(__file__).resolve().parent.parent
 
 
+class PartsCode(ctypes.Structure):
+    """High and low part, each as the call for it alone gives it."""
+
+    _fields_ = [("high", ctypes.c_int64), ("low", ctypes.c_int64)]
+
+
 def load():
     """The static library as a shared one."""
     archive = ROOT / "target/staticlib/libphone.a"
@@ -29,9 +35,7 @@ def load():
     shared = pathlib.Path(tempfile.mkdtemp()) / "libphone.so"
     subprocess.run(["cc", "-shared", "-o", shared, "-Wl,--whole-archive", archive, "-Wl,--no-whole-archive"], check=True)
     lib = ctypes.CDLL(str(shared))
-    for name in ("high_part", "low_part"):
-        function = getattr(lib, name)
-        function.argtypes, function.restype = [ctypes.c_uint32, ctypes.c_uint32], ctypes.c_int64
+    lib.high_and_low.argtypes, lib.high_and_low.restype = [ctypes.c_uint32, ctypes.c_uint32], PartsCode
     return lib
 
 
@@ -88,15 +92,10 @@ class Parameters:
 
     # ---- rounding, by the library
 
-    def high(self, r):
-        value = LIB.high_part(self.set, r)
-        assert 0 <= value < 2**32, value
-        return value
-
-    def low(self, r):
-        value = LIB.low_part(self.set, r)
-        assert abs(value) < 2**32, value
-        return value
+    def decompose(self, r):
+        parts = LIB.high_and_low(self.set, r)
+        assert 0 <= parts.high < 2**32 and abs(parts.low) < 2**32, (parts.high, parts.low)
+        return parts.high, parts.low
 
     # ---- sampling
 
@@ -177,18 +176,20 @@ class Parameters:
             y = self.mask(seed, nonce)
             nonce += self.l
             w = self.times(matrix, [ntt([x % Q for x in poly]) for poly in y])
-            w1 = [[self.high(x) for x in poly] for poly in w]
+            w1 = [[self.decompose(x)[0] for x in poly] for poly in w]
             bits = ((Q - 1) // (2 * self.gamma2) - 1).bit_length()
             challenge = h(mu + b"".join(pack(poly, bits) for poly in w1), self.strength // 4)
             c = ntt([x % Q for x in self.ball(challenge)])
             cs1, cs2, ct0 = [[inverse_ntt([a * b % Q for a, b in zip(c, poly)]) for poly in v] for v in hats]
             z = [[centred((a + b) % Q, Q) for a, b in zip(p, r)] for p, r in zip(y, cs1)]
             rest = [[(a - b) % Q for a, b in zip(p, r)] for p, r in zip(w, cs2)]
-            if size(z) >= self.gamma1 - self.beta or size([[self.low(x) for x in poly] for poly in rest]) >= self.gamma2 - self.beta:
+            parts = [[self.decompose(x) for x in poly] for poly in rest]
+            if size(z) >= self.gamma1 - self.beta or size([[low for _, low in poly] for poly in parts]) >= self.gamma2 - self.beta:
                 continue
             if size([[centred(x, Q) for x in poly] for poly in ct0]) >= self.gamma2:
                 continue
-            hint = [[int(self.high((a + b) % Q) != self.high(a)) for a, b in zip(p, r)] for p, r in zip(rest, ct0)]
+            hinted = [[self.decompose((a + b) % Q) for a, b in zip(p, r)] for p, r in zip(rest, ct0)]
+            hint = [[int(a != b) for (a, _), (b, _) in zip(p, r)] for p, r in zip(parts, hinted)]
             if sum(map(sum, hint)) > self.omega:
                 continue
             zs = b"".join(pack([self.gamma1 - x for x in poly], self.gamma1.bit_length()) for poly in z)

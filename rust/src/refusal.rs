@@ -4,17 +4,17 @@ use std::fmt;
 /// Why a call was refused: the first of its questions that was answered no.
 ///
 /// The questions have fixed numbers from 1 up, and each call asks some of them in a fixed order.
-/// [`high_part`](crate::high_part) and [`low_part`](crate::low_part) ask 1 and 6,
-/// [`message_form`](crate::message_form) asks 1, 2, 3, 8, 10, 11 and 12. The others are asked by
-/// the calls of a side, the deal and the choice of a book.
+/// [`parts`](crate::parts), [`high_part`](crate::high_part) and [`low_part`](crate::low_part) ask
+/// 1 and 6, [`message_form`](crate::message_form) asks 1, 2, 3, 8, 10, 11 and 12. The others are
+/// asked by the calls of a side, the deal and the choice of a book.
 ///
 /// Later versions may ask further questions, so a `match` needs an arm for them:
 ///
 /// ```
-/// use paired_rounding::{high_part, Refusal};
+/// use paired_rounding::{parts, Parts, Refusal};
 ///
-/// let text = match high_part(2, 0) {
-///     Ok(high) => high.to_string(),
+/// let text = match parts(2, 0) {
+///     Ok(Parts { high, low }) => format!("{high} {low}"),
 ///     Err(Refusal::NotBelowQ) => "not a coefficient".to_string(),
 ///     Err(refusal) => refusal.to_string(),
 /// };
@@ -24,9 +24,9 @@ use std::fmt;
 /// # Examples
 ///
 /// ```
-/// use paired_rounding::{high_part, Refusal};
+/// use paired_rounding::{parts, Refusal};
 ///
-/// let refusal = high_part(0, 8_380_417).unwrap_err();
+/// let refusal = parts(0, 8_380_417).unwrap_err();
 /// assert_eq!(refusal, Refusal::NotBelowQ);
 /// assert_eq!(refusal.number(), 6);
 /// assert_eq!(
