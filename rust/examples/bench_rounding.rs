@@ -30,13 +30,20 @@ fn plain_high(set: u32, w: u32) -> Result<u32, Refusal> {
     Ok(if shifted == Q - 1 { 0 } else { shifted / alpha })
 }
 
+/// FIPS 204's w mod± α.
+fn centred(w: i32, alpha: i32) -> i32 {
+    let low = w % alpha;
+    if low > alpha / 2 {
+        low - alpha
+    } else {
+        low
+    }
+}
+
 fn plain_low(set: u32, w: u32) -> Result<i32, Refusal> {
     let alpha = step(set, w)? as i32;
     let w = w as i32;
-    let mut low = w % alpha;
-    if low > alpha / 2 {
-        low -= alpha;
-    }
+    let low = centred(w, alpha);
     Ok(if w - low == Q as i32 - 1 {
         low - 1
     } else {
@@ -48,10 +55,7 @@ fn plain_low(set: u32, w: u32) -> Result<i32, Refusal> {
 fn plain_parts(set: u32, w: u32) -> Result<Parts, Refusal> {
     let alpha = step(set, w)? as i32;
     let w = w as i32;
-    let mut low = w % alpha;
-    if low > alpha / 2 {
-        low -= alpha;
-    }
+    let low = centred(w, alpha);
     Ok(if w - low == Q as i32 - 1 {
         Parts {
             high: 0,
