@@ -2,10 +2,11 @@
 use Prim.Native.Nat.{ℕ, _+_, _-_, _*_, _/_, _%_, _≤_, _<_}
 use mathlib.Core.Logic.{_≢_}
 use mathlib.Core.Path.{_≡_}
-use mathlib.Core.Bool.{cond}
+use mathlib.Core.Bool.{Bool, true, cond, _&&_}
 use mathlib.Core.List.{List}
 use lib.Dec.{eqb}
 use lib.ListN.{length, getD}
+use Rattle.settings.specs.Sets.{scaleOf, topDigits}
 use Rattle.settings.specs.Sizes.{openings, mostOpenings, places}
 use Rattle.field.specs.Field.{q}
 use Rattle.field.specs.Forms.{value}
@@ -72,3 +73,12 @@ GatesHeld known κs work own =
 -- the masked numbers that a round's digits are of: in round 1 those just opened, later those that the slice holds
 abbrev pub maskedAfter : ℕ → (ℕ → ℕ) → List ℕ → ℕ → ℕ
 maskedAfter round opened work = cond (eqb round 1) opened (maskedIn work)
+
+-- does a round sum F and F′? Round 5 of HIGH does
+abbrev pub sumsTop : ℕ → ℕ → Bool
+sumsTop kind round = eqb kind 0 && eqb round 5
+
+-- the list that a round of gates is lent: where it sums F and F′, that of its set; no other sum reads it
+abbrev pub RoundList : Context → List ℕ → Type 0
+RoundList known tops =
+    sumsTop (known .settings .shape .kind) (known .round) ≡ true → tops ≡ topDigits (scaleOf (known .settings .shape .set) .parts)

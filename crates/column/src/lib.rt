@@ -3,7 +3,7 @@
 ghost use mathlib.Core.Path.{_≡_};
 ghost use mathlib.Core.Bool.{true};
 ghost use mathlib.Core.Logic.{_≢_};
-ghost use mathlib.Core.List.{List};
+ghost use mathlib.Core.List.{List, []};
 ghost use Prim.Native.Nat.{ℕ, _+_, _*_, _/_, _%_, _≤_, _<_};
 ghost use lib.ListN.{length, getD};
 ghost use Rattle.lists.specs.Lists.{fill, fillBy, allBelow};
@@ -15,14 +15,16 @@ ghost use Rattle.settings.specs.Questions.{Ready};
 ghost use Rattle.slice.specs.Layout.{ownAt, runningAt, column, maskedIn};
 ghost use Rattle.steps.specs.Work.{openingOn, runningOn, takenColumns, takenWork};
 ghost use Rattle.steps.specs.Context.{publicBy, ContextOf, SplitsBelow};
-ghost use Rattle.steps.specs.Gates.{GateFits, TermsFit, sumForm, openU, openV, resultForm};
-ghost use Rattle.column.specs.Held.{columnAt, Holds, HeldAll, Room, RegistersHeld, LateHeld, GatesHeld, maskedAfter};
+ghost use Rattle.steps.specs.Gates.{GateFits, TermsFit, Listed, sumForm, openU, openV, resultForm};
+ghost use Rattle.column.specs.Held.{columnAt, Holds, HeldAll, Room, RegistersHeld, LateHeld, GatesHeld, sumsTop, RoundList, maskedAfter};
 use lists::copy_numbers;
 use settings::MOST_OPENINGS;
 use settings::PLACES;
 use settings::Settings;
 use settings::WIDTH;
 use settings::openings_in;
+use settings::top_digits_0;
+use settings::top_digits_1;
 use slice::FIRST;
 use slice::MASKED;
 use slice::OWN;
@@ -167,22 +169,22 @@ fn u_into(out: &mut [u32], at: usize, work: &[u32], columns: ColumnChoice, gate:
 }
 
 // v − b.
-fn v_into(out: &mut [u32], at: usize, work: &[u32], columns: ColumnChoice, gate: Gate)
-    requires { ⌜ GateFits gate ⌝ }
+fn v_into(out: &mut [u32], at: usize, work: &[u32], columns: ColumnChoice, gate: Gate, tops: &[u32])
+    requires { ⌜ GateFits gate × Listed (gate .terms) (now tops) ⌝ }
     requires { ⌜ (at < mostOpenings) × (mostOpenings * columns .count ≤ length (now out)) × ((columns .count + columns .skip) * places ≤ length (now work)) × (columns .count + columns .skip ≤ 4294967296) ⌝ }
     ensures { λ _. ⌜ ((κ : ℕ → ℕ) → now (out .exit) ≡ fillBy mostOpenings (now (out .entry)) at (columns .count)
         (λ (f : ℕ). value q (κ f) (column (now (work .entry)) (columnAt (columns .skip) f)) (openV gate))) ⌝ }
 {
     let mut f = 0;
     while f < columns.count {
-        out[at + MOST_OPENINGS * f] = open_v(work, column_at(columns, f), gate);
+        out[at + MOST_OPENINGS * f] = open_v(work, column_at(columns, f), gate, tops);
         f += 1;
     }
 }
 
-// Rounds 2 to 5: gate by gate, each made once for all columns.
-fn prepare_gates(out: &mut [u32], work: &[u32], columns: ColumnChoice, known: Context)
-    requires { ⌜ Ready (known .settings) × SplitsBelow known ⌝ }
+// Rounds 2 to 5: gate by gate, each made once for all columns, with the round's list.
+fn prepare_gates(out: &mut [u32], work: &[u32], columns: ColumnChoice, known: Context, tops: &[u32])
+    requires { ⌜ Ready (known .settings) × SplitsBelow known × RoundList known (now tops) ⌝ }
     requires { ⌜ (2 ≤ known .round) × (known .round ≤ 5) ⌝ }
     requires { ⌜ (mostOpenings * columns .count ≤ length (now out)) × ((columns .count + columns .skip) * places ≤ length (now work)) × (columns .count + columns .skip ≤ 4294967296) ⌝ }
     ensures { λ _. ⌜ ((masked : ℕ → ℕ) (κs : List ℕ) → ContextOf (known .settings) (known .round) masked known
@@ -196,9 +198,39 @@ fn prepare_gates(out: &mut [u32], work: &[u32], columns: ColumnChoice, known: Co
         let split = known.splits[x];
         let gate = gate_of(shape, split, g, i);
         u_into(out, 2 * g, work, columns, gate);
-        v_into(out, 2 * g + 1, work, columns, gate);
+        v_into(out, 2 * g + 1, work, columns, gate, tops);
         g += 1;
     }
+}
+
+// Does the round sum F and F′?
+fn sums_top(kind: u32, round: u32) -> bool
+    ensures { λ r. ⌜ r ≡ sumsTop kind round ⌝ }
+{
+    if kind != 0 {
+        return false;
+    }
+    round == 5
+}
+
+// The same, with the list of the set where the round reads one. It is taken once for all gates.
+fn prepare_digits(out: &mut [u32], work: &[u32], columns: ColumnChoice, known: Context)
+    requires { ⌜ Ready (known .settings) × SplitsBelow known ⌝ }
+    requires { ⌜ (2 ≤ known .round) × (known .round ≤ 5) ⌝ }
+    requires { ⌜ (mostOpenings * columns .count ≤ length (now out)) × ((columns .count + columns .skip) * places ≤ length (now work)) × (columns .count + columns .skip ≤ 4294967296) ⌝ }
+    ensures { λ _. ⌜ ((masked : ℕ → ℕ) (κs : List ℕ) → ContextOf (known .settings) (known .round) masked known
+        → Holds (publicBy (known .settings) masked) (known .round) κs (now (work .entry)) columns (4 * known .settings .shape .n) (now (out .exit))) ⌝ }
+{
+    let shape = known.settings.shape;
+    if !sums_top(shape.kind, known.round) {
+        prepare_gates(out, work, columns, known, &[]);
+        return;
+    }
+    if shape.set == 0 {
+        prepare_gates(out, work, columns, known, &top_digits_0());
+        return;
+    }
+    prepare_gates(out, work, columns, known, &top_digits_1());
 }
 
 // A side's numbers for the openings of a round, in a choice of columns: 32 places of `out` for each. Crate opening asks for round 1 to 7,
@@ -224,7 +256,7 @@ pub fn prepare(
         return;
     }
     if round <= 5 {
-        prepare_gates(out, work, columns, known);
+        prepare_digits(out, work, columns, known);
         return;
     }
     let kind = settings.shape.kind;
@@ -243,13 +275,13 @@ pub fn prepare(
 
 // The sum of a gate in all columns, at a place of each: what round 1 makes of digit 0.
 fn sums_into(next: &mut [u32], at: usize, work: &[u32], columns: usize, terms: Weighted)
-    requires { ⌜ TermsFit terms ⌝ }
+    requires { ⌜ TermsFit terms × Listed terms [] ⌝ }
     requires { ⌜ (at < 16) × (16 * columns ≤ length (now next)) × (columns * places ≤ length (now work)) ⌝ }
     ensures { λ _. ⌜ ((κ : ℕ → ℕ) → now (next .exit) ≡ fillBy 16 (now (next .entry)) at columns (λ (c : ℕ). value q (κ c) (column (now (work .entry)) c) (sumForm terms 0))) ⌝ }
 {
     let mut c = 0;
     while c < columns {
-        next[at + 16 * c] = sum_value(work, c, terms);
+        next[at + 16 * c] = sum_value(work, c, terms, &[]);
         c += 1;
     }
 }
@@ -262,8 +294,9 @@ fn results_into(
     gate: Gate,
     own: &[u32],
     opened: &[u32],
+    tops: &[u32],
 )
-    requires { ⌜ GateFits gate ⌝ }
+    requires { ⌜ GateFits gate × Listed (gate .terms) (now tops) ⌝ }
     requires { ⌜ (16 * length (now weights) ≤ length (now next)) × (length (now work) ≡ length (now weights) * places) × (mostOpenings * length (now weights) ≤ length (now own)) ⌝ }
     requires { ⌜ (4 * gate .j + 2 * gate .which + 1 < length (now opened)) × ((o : ℕ) → getD (now opened) o 0 < q) ⌝ }
     requires { ⌜ ((c : ℕ) → c < length (now weights)
@@ -289,7 +322,7 @@ fn results_into(
             u: own[MOST_OPENINGS * c + o],
             v: own[MOST_OPENINGS * c + (o + 1)],
         };
-        next[at + 16 * c] = gate_value(work, col, gate, mine, joined);
+        next[at + 16 * c] = gate_value(work, col, gate, mine, joined, tops);
         c += 1;
     }
 }
@@ -312,8 +345,37 @@ fn first_registers(next: &mut [u32], work: &[u32], columns: usize, known: Contex
     }
 }
 
-// Rounds 2 to 5: gate by gate, each made once for all columns.
+// Rounds 2 to 5: gate by gate, each made once for all columns, with the round's list.
 fn gate_registers(
+    next: &mut [u32],
+    work: &[u32],
+    weights: &[u32],
+    known: Context,
+    own: &[u32],
+    opened: &[u32],
+    tops: &[u32],
+)
+    requires { ⌜ Ready (known .settings) × SplitsBelow known × RoundList known (now tops) ⌝ }
+    requires { ⌜ (2 ≤ known .round) × (known .round ≤ 5) × (16 * length (now weights) ≤ length (now next)) × (length (now work) ≡ length (now weights) * places) ⌝ }
+    requires { ⌜ (mostOpenings * length (now weights) ≤ length (now own)) × (4 * known .settings .shape .n ≤ length (now opened)) × ((o : ℕ) → getD (now opened) o 0 < q) ⌝ }
+    requires { ⌜ GatesHeld known (now weights) (now work) (now own) ⌝ }
+    ensures { λ _. ⌜ ((masked : ℕ → ℕ) → ContextOf (known .settings) (known .round) masked known
+        → RegistersHeld (publicBy (known .settings) masked) (known .round) (λ (o : ℕ). getD (now (opened .entry)) o 0) (now (weights .entry)) (now (work .entry)) (2 * known .settings .shape .n) (now (next .exit))) ⌝ }
+{
+    let shape = known.settings.shape;
+    let i = (known.round - 1) as usize;
+    let mut g = 0;
+    while g < 2 * shape.n as usize {
+        let x = split_place(shape.kind, g);
+        let split = known.splits[x];
+        let gate = gate_of(shape, split, g, i);
+        results_into(next, work, weights, gate, own, opened, tops);
+        g += 1;
+    }
+}
+
+// The same, with the list of the set where the round reads one. It is taken once for all gates.
+fn digit_registers(
     next: &mut [u32],
     work: &[u32],
     weights: &[u32],
@@ -329,15 +391,15 @@ fn gate_registers(
         → RegistersHeld (publicBy (known .settings) masked) (known .round) (λ (o : ℕ). getD (now (opened .entry)) o 0) (now (weights .entry)) (now (work .entry)) (2 * known .settings .shape .n) (now (next .exit))) ⌝ }
 {
     let shape = known.settings.shape;
-    let i = (known.round - 1) as usize;
-    let mut g = 0;
-    while g < 2 * shape.n as usize {
-        let x = split_place(shape.kind, g);
-        let split = known.splits[x];
-        let gate = gate_of(shape, split, g, i);
-        results_into(next, work, weights, gate, own, opened);
-        g += 1;
+    if !sums_top(shape.kind, known.round) {
+        gate_registers(next, work, weights, known, own, opened, &[]);
+        return;
     }
+    if shape.set == 0 {
+        gate_registers(next, work, weights, known, own, opened, &top_digits_0());
+        return;
+    }
+    gate_registers(next, work, weights, known, own, opened, &top_digits_1());
 }
 
 // Gate g's register after round 6 or 7: round 6 changes the first registers.
@@ -494,7 +556,7 @@ fn registers_into(
         return;
     }
     if round <= 5 {
-        gate_registers(next, work, weights, known, own, opened);
+        digit_registers(next, work, weights, known, own, opened);
         return;
     }
     late_registers(next, work, weights.len(), settings, round, opened);

@@ -17,10 +17,6 @@ difference-of s x = omega arith
 pub reduced-difference : (a b : ℕ) → sub q a b ≡ sub q (a % q) (b % q)
 reduced-difference a b = omega arith
 
--- of equal sums, what is left of either without the other's part
-pub turned-difference : (s t p x : ℕ) → t + x ≡ s + p → sub q (p % q) (x % q) ≡ sub q (t % q) (s % q)
-turned-difference s t p x e = solve q (omega arith) (red (at p) ⊖ red (at x)) (red (at t) ⊖ red (at s)) (omega arith) .path
-
 -- no more taken away than there is
 pub less-is : (m k x : ℕ) → k < m → x ≤ k → sub m (1 * k % m) x ≡ k - x
 less-is m k x h l = rw (one-mul k, mod-eq-of-lt {n = k} {m = m} h, mod-eq-of-lt {n = x} {m = m} (omega arith)) (mod-sub m k x h l)

@@ -106,23 +106,11 @@ sum-raised (suc n) at w v r same more = go (decLt at n) (decLt at (suc n)) (sum-
     go (no h) (no l) ih =
         rw (ih, le-ltb at n (omega arith), le-ltb at (suc n) (omega arith), same n (omega arith) (omega arith)) (omega arith)
 
--- every weight grows by 1, but for one that grows by 1 less s
-pub sum-turned : (n s at : ℕ) (w v r : ℕ → ℕ) → ((j : ℕ) → j < n → j ≢ at → v j ≡ w j + 1) → (at < n → v at + s ≡ w at + 1)
-    → sumTo n (λ j. v j * r j) + s * cond (ltb at n) (r at) 0 ≡ sumTo n (λ j. w j * r j) + sumTo n r
+-- weights w and what they grow by to become v, m added to each so that no difference is below 0
+pub sum-risen : (n m : ℕ) (w v r : ℕ → ℕ) → ((j : ℕ) → j < n → w j ≤ m)
+    → sumTo n (λ j. w j * r j) + sumTo n (λ j. (v j + m - w j) * r j) ≡ sumTo n (λ j. v j * r j) + m * sumTo n r
 unfolding sumTo
-sum-turned zero s at w v r more turned = rw (le-ltb at 0 (omega arith)) (omega arith)
-sum-turned (suc n) s at w v r more turned = go (decLt at n) (decLt at (suc n)) (sum-turned n s at w v r (λ j l. more j (omega arith)) (λ l. turned (omega arith)))
-  where
-    go : Dec (at < n) → Dec (at < suc n) → sumTo n (λ j. v j * r j) + s * cond (ltb at n) (r at) 0 ≡ sumTo n (λ j. w j * r j) + sumTo n r
-        → sumTo n (λ j. v j * r j) + v n * r n + s * cond (ltb at (suc n)) (r at) 0 ≡ sumTo n (λ j. w j * r j) + w n * r n + (sumTo n r + r n)
-    go (yes h) l ih =
-        let ih′ : sumTo n (λ j. v j * r j) + s * r at ≡ sumTo n (λ j. w j * r j) + sumTo n r = rw (lt-ltb at n h) at ih in
-        rw (lt-ltb at (suc n) (omega arith), more n (omega arith) (omega arith)) (omega (arith, ih′))
-    go (no h) (yes l) ih =
-        let ih′ : sumTo n (λ j. v j * r j) + s * 0 ≡ sumTo n (λ j. w j * r j) + sumTo n r = rw (le-ltb at n (omega arith)) at ih in
-        let e : at ≡ n = omega arith in
-        let here : v n + s ≡ w n + 1 = rw e at (turned l) in
-        rw (lt-ltb at (suc n) l, e) (omega (arith, ih′, ap (λ (x : ℕ). x * r n) here))
-    go (no h) (no l) ih =
-        let ih′ : sumTo n (λ j. v j * r j) + s * 0 ≡ sumTo n (λ j. w j * r j) + sumTo n r = rw (le-ltb at n (omega arith)) at ih in
-        rw (le-ltb at (suc n) (omega arith), more n (omega arith) (omega arith)) (omega (arith, ih′))
+sum-risen zero m w v r most = omega arith
+sum-risen (suc n) m w v r most =
+    let here : w n + (v n + m - w n) ≡ v n + m = omega (arith, most n (omega arith)) in
+    omega (arith, sum-risen n m w v r (λ j l. most j (omega arith)), ap (λ (x : ℕ). x * r n) here)

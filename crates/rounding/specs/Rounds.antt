@@ -7,12 +7,10 @@ use Rattle.field.specs.Field.{add, sub}
 use Rattle.field.specs.Sums.{sumTo}
 use Rattle.settings.specs.Sets.{Scale, base}
 use Rattle.rounding.specs.Digits.{digit}
-
 -- ---- HIGH: the digits of y + r, from those of y and r
 
--- "t(d) = d below s, else d − s"
-unfoldable pub top : ℕ → ℕ → ℕ
-top s d = cond (ltb d s) d (d - s)
+-- "t(d) = d below s, else d − s" stands with the constants of the sets
+unfoldable pub use Rattle.settings.specs.Sets.{top}
 
 -- G sums "where d > s"
 abbrev pub over : ℕ → ℕ → ℕ

@@ -1,14 +1,17 @@
 -- What holds of the constants of both sets.
 use mathlib.Core.Path.{_≡_, refl}
-use mathlib.Core.Bool.{Bool, true, _&&_}
-use Prim.Native.Nat.{ℕ, zero, suc, _≤_, _<_}
+use mathlib.Core.Bool.{Bool, true, false, cond, _&&_}
+use mathlib.Core.List.{List}
+use Prim.Native.Nat.{ℕ, zero, suc, _+_, _-_, _*_, _≤_, _<_}
 use native.Mathlib.Omega.{arith}
-use lib.Dec.{leb}
+use lib.Dec.{leb, ltb}
+use lib.ListN.{length, getD}
 use borrow.Author.Tests.{leb-true}
 use Rattle.lists.specs.Lists.{allTo}
+use Rattle.lists.proofs.Lists.{length-listFrom, getD-listTo}
 use Rattle.lists.proofs.Questions.{both-yes}
 use Rattle.lists.proofs.Every.{allTo-at}
-use Rattle.settings.specs.Sets.{scaleOf, base}
+use Rattle.settings.specs.Sets.{scaleOf, base, top, topDigits}
 use Rattle.settings.specs.Theorems.{Lawful}
 
 -- both sets are lawful: the bases multiply to α, s × α = q − 1, and so on
@@ -42,3 +45,20 @@ alpha-range set h = within-is 2 523776 (scaleOf set .alpha) (allTo-at 2 (λ (s :
 pub parts-range : (set : ℕ) → set < 2 → (1 ≤ scaleOf set .parts) × (scaleOf set .parts ≤ 44)
 unfolding within allTo
 parts-range set h = within-is 1 44 (scaleOf set .parts) (allTo-at 2 (λ (s : ℕ). within 1 44 (scaleOf s .parts)) set refl h)
+
+-- a list that passed the test of the rule: how long it is, and each entry
+pub top-length : (s : ℕ) → length (topDigits s) ≡ 2 * s + 2
+unfolding topDigits
+top-length s = length-listFrom 0 (2 * s + 2) (top s)
+
+pub top-entry : (list : List ℕ) (s d : ℕ) → list ≡ topDigits s → d ≤ 2 * s + 1 → getD list d 0 ≡ top s d
+unfolding topDigits
+top-entry list s d e h = rw e (getD-listTo (2 * s + 2) (top s) d 0 (omega arith))
+
+pub top-le : (s d : ℕ) → top s d ≤ d
+unfolding top
+top-le s d = go (ltb d s)
+  where
+    go : (b : Bool) → cond b d (d - s) ≤ d
+    go true = omega arith
+    go false = omega arith

@@ -1,7 +1,10 @@
 -- Constants.
-use Prim.Native.Nat.{ℕ}
+use Prim.Native.Nat.{ℕ, _+_, _-_, _*_}
+use mathlib.Core.Bool.{cond}
 use mathlib.Core.List.{List, [], _∷_}
+use lib.Dec.{ltb}
 use lib.ListN.{getD}
+use Rattle.lists.specs.Lists.{listTo}
 use Rattle.field.specs.Field.{q}
 
 -- "Each set carries its own constants: step α, parts s, and five digit bases, lowest first":
@@ -29,3 +32,13 @@ scaleOf set =
 -- how many values digit i has
 abbrev pub base : Scale → ℕ → ℕ
 base p i = getD (p .bases) i 0
+
+-- ---- The top digit
+
+-- "t(d) = d below s, else d − s"
+unfoldable pub top : ℕ → ℕ → ℕ
+top s d = cond (ltb d s) d (d - s)
+
+-- "such a list, 90 entries for set 0 and 34 for set 1" (02): t(d) for d from 0 to 2s + 1
+unfoldable pub topDigits : ℕ → List ℕ
+topDigits s = listTo (2 * s + 2) (top s)

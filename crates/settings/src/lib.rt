@@ -6,7 +6,7 @@ ghost use mathlib.Core.List.{_∷_, _++_};
 ghost use Prim.Native.Nat.{_+_, _*_, _≤_, _<_};
 ghost use lib.ListN.{getD};
 ghost use Rattle.field.specs.Sums.{sumTo};
-ghost use Rattle.settings.specs.Sets.{scaleOf, base};
+ghost use Rattle.settings.specs.Sets.{scaleOf, base, topDigits};
 ghost use Rattle.settings.specs.Settings.{paramsOf};
 ghost use Rattle.settings.specs.Questions.{boundOk, keyOk, keysOk, askShape, askSettings, shapeOk, ShapeReady};
 ghost use Rattle.settings.specs.Schedule.{rounds, steps, roundAfter, sendsAfter, takenBy, stepsIn};
@@ -99,6 +99,137 @@ const ALPHAS: [u32; 2] = [190464, 523776];
 
 const PARTS: [u32; 2] = [44, 16];
 
+// By set: t(d), with d behind each entry, from 0 to 2 s + 1.
+const TOP_DIGITS_0: [u32; 90] = [
+    0, // 0
+    1, // 1
+    2, // 2
+    3, // 3
+    4, // 4
+    5, // 5
+    6, // 6
+    7, // 7
+    8, // 8
+    9, // 9
+    10, // 10
+    11, // 11
+    12, // 12
+    13, // 13
+    14, // 14
+    15, // 15
+    16, // 16
+    17, // 17
+    18, // 18
+    19, // 19
+    20, // 20
+    21, // 21
+    22, // 22
+    23, // 23
+    24, // 24
+    25, // 25
+    26, // 26
+    27, // 27
+    28, // 28
+    29, // 29
+    30, // 30
+    31, // 31
+    32, // 32
+    33, // 33
+    34, // 34
+    35, // 35
+    36, // 36
+    37, // 37
+    38, // 38
+    39, // 39
+    40, // 40
+    41, // 41
+    42, // 42
+    43, // 43
+    0, // 44
+    1, // 45
+    2, // 46
+    3, // 47
+    4, // 48
+    5, // 49
+    6, // 50
+    7, // 51
+    8, // 52
+    9, // 53
+    10, // 54
+    11, // 55
+    12, // 56
+    13, // 57
+    14, // 58
+    15, // 59
+    16, // 60
+    17, // 61
+    18, // 62
+    19, // 63
+    20, // 64
+    21, // 65
+    22, // 66
+    23, // 67
+    24, // 68
+    25, // 69
+    26, // 70
+    27, // 71
+    28, // 72
+    29, // 73
+    30, // 74
+    31, // 75
+    32, // 76
+    33, // 77
+    34, // 78
+    35, // 79
+    36, // 80
+    37, // 81
+    38, // 82
+    39, // 83
+    40, // 84
+    41, // 85
+    42, // 86
+    43, // 87
+    44, // 88
+    45, // 89
+];
+
+const TOP_DIGITS_1: [u32; 34] = [
+    0, // 0
+    1, // 1
+    2, // 2
+    3, // 3
+    4, // 4
+    5, // 5
+    6, // 6
+    7, // 7
+    8, // 8
+    9, // 9
+    10, // 10
+    11, // 11
+    12, // 12
+    13, // 13
+    14, // 14
+    15, // 15
+    0, // 16
+    1, // 17
+    2, // 18
+    3, // 19
+    4, // 20
+    5, // 21
+    6, // 22
+    7, // 23
+    8, // 24
+    9, // 25
+    10, // 26
+    11, // 27
+    12, // 28
+    13, // 29
+    14, // 30
+    15, // 31
+    16, // 32
+    17, // 33
+];
+
 // How many values a digit has.
 pub fn base_of(set: usize, digit: usize) -> u32
     requires { ⌜ (set < 2) × (digit < 5) ⌝ }
@@ -121,6 +252,19 @@ pub fn parts_of(set: usize) -> u32
     ensures { λ r. ⌜ (r ≡ scaleOf set .parts) × (1 ≤ r) × (r ≤ 44) ⌝ }
 {
     PARTS[set]
+}
+
+// The lists of t(d). Round 5 takes its list once and lends it to every sum: naming a constant list writes it out anew.
+pub fn top_digits_0() -> [u32; 90]
+    ensures { λ r. ⌜ r ≡ topDigits (scaleOf 0 .parts) ⌝ }
+{
+    TOP_DIGITS_0
+}
+
+pub fn top_digits_1() -> [u32; 34]
+    ensures { λ r. ⌜ r ≡ topDigits (scaleOf 1 .parts) ⌝ }
+{
+    TOP_DIGITS_1
 }
 
 // ---- Questions that several calls ask

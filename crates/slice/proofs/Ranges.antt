@@ -1,20 +1,19 @@
 -- Sums that go through the entries of weight 1 alone.
-use mathlib.Core.Path.{_≡_, refl, ap, ap₂, _∙_}
+use mathlib.Core.Path.{_≡_, refl, ap, _∙_}
 use mathlib.Core.Bool.{cond}
 use mathlib.Core.Logic.{_⊎_, inl, inr, _≢_}
 use Prim.Native.Nat.{ℕ, suc, _+_, _*_, _-_, _%_, _≤_, _<_, min}
-use native.Mathlib.Nat.{zero-add}
 use native.Mathlib.Omega.{arith}
 use native.Mathlib.Decide.{decLt, decLe}
 use lib.Dec.{leb, ltb}
 use borrow.Author.Tests.{lt-ltb, le-ltb, le-leb, lt-leb, ne-eqb}
 use Rattle.lists.specs.Answers.{bit}
-use Rattle.field.specs.Field.{q, sub, mul}
+use Rattle.field.specs.Field.{q, sub}
 use Rattle.field.specs.Sums.{sumTo}
 use Rattle.field.proofs.Division.{mod-elim}
-use Rattle.field.proofs.Congruence.{mul-mod-mod}
-use Rattle.field.proofs.Sums.{sum-cong, sum-one, sum-from, sum-below, sum-raised, sum-turned}
-use Rattle.field.proofs.Differences.{difference-of, turned-difference}
+use Rattle.field.proofs.Sums.{sum-one, sum-from, sum-below, sum-raised, sum-risen}
+use Rattle.field.proofs.Differences.{difference-of}
+use Rattle.settings.proofs.Sets.{top-le}
 use Rattle.rounding.specs.Rounds.{top}
 use Rattle.slice.specs.Weights.{weigh}
 use Rattle.slice.specs.declared.Rule.{Rule}
@@ -140,34 +139,13 @@ module _ (n b d : ℕ) (r : ℕ → ℕ) where
       same : (j : ℕ) → j < n → j ≢ d → weigh Below b (d + 1) j ≡ weigh Below b d j
       same j l ne = equal j ne (decLt j d)
 
-pub top-raised : (n b d : ℕ) (r : ℕ → ℕ) (at : ℕ) → at ≡ cond (leb (d + 1) b) (b - (d + 1)) n
-    → sub q (sumTo (n - 0) (λ j. r (0 + j)) % q) (mul q b (cond (ltb at n) (r at) 0 % q)) ≡ sub q (sumTo n (λ j. top b (j + (d + 1)) * r j) % q) (sumTo n (λ j. top b (j + d) * r j) % q)
-unfolding top
-top-raised n b d r at e =
-    ap₂ (sub q) (ap (λ (x : ℕ). x % q) whole) (mul-mod-mod b (cond (ltb at n) (r at) 0) q)
-    ∙ turned-difference _ _ _ _ (sum-turned n b at (λ j. top b (j + d)) (λ j. top b (j + (d + 1))) r more turned)
+-- F′ − F, entry by entry
+pub top-raised : (n s d : ℕ) (r : ℕ → ℕ) → n + d ≤ q
+    → sumTo n (λ j. (top s (j + (d + 1)) + q - top s (j + d)) * r j) % q ≡ sub q (sumTo n (λ j. top s (j + (d + 1)) * r j) % q) (sumTo n (λ j. top s (j + d) * r j) % q)
+top-raised n s d r h =
+    difference-of low _
+    ∙ ap (λ (x : ℕ). sub q x (low % q))
+    (ap (λ (x : ℕ). x % q) (sum-risen n q (λ j. top s (j + d)) (λ j. top s (j + (d + 1))) r (λ j l. omega (arith, top-le s (j + d)))) ∙ omega arith)
   where
-    whole : sumTo (n - 0) (λ j. r (0 + j)) ≡ sumTo n r
-    whole =
-        let l : n - 0 ≡ n = omega arith in
-        rw l (sum-cong n (λ j. r (0 + j)) r (λ j h. ap r (zero-add j)))
-
-    here : Dec (d + 1 ≤ b) → at < n → at + (d + 1) ≡ b
-    here (yes h) l = omega (arith, rw (le-leb (d + 1) b h) at e)
-    here (no h) l = omega (arith, rw (lt-leb (d + 1) b (omega arith)) at e)
-
-    other : Dec (d + 1 ≤ b) → (j : ℕ) → j ≢ at → j + (d + 1) ≢ b
-    other (yes h) j ne p = ne (omega (arith, rw (le-leb (d + 1) b h) at e))
-    other (no h) j ne p = omega arith
-
-    grows : (j : ℕ) → j + (d + 1) ≢ b → Dec (j + d < b) → top b (j + (d + 1)) ≡ top b (j + d) + 1
-    grows j ne (yes h) = rw (lt-ltb (j + d) b h, lt-ltb (j + (d + 1)) b (omega (arith, ne))) (omega arith)
-    grows j ne (no h) = rw (le-ltb (j + d) b (omega arith), le-ltb (j + (d + 1)) b (omega arith)) (omega arith)
-
-    more : (j : ℕ) → j < n → j ≢ at → top b (j + (d + 1)) ≡ top b (j + d) + 1
-    more j l ne = grows j (other (decLe (d + 1) b) j ne) (decLt (j + d) b)
-
-    turned : at < n → top b (at + (d + 1)) + b ≡ top b (at + d) + 1
-    turned l =
-        let p = here (decLe (d + 1) b) l in
-        rw (le-ltb (at + (d + 1)) b (omega arith), lt-ltb (at + d) b (omega arith)) (omega arith)
+    low : ℕ
+    low = sumTo n (λ j. top s (j + d) * r j)

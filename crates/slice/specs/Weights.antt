@@ -1,11 +1,15 @@
 -- Public weights: how the entries of a digit's vector are summed, for the public digit d. Entry x stands for the digit x of r.
-use Prim.Native.Nat.{ℕ, _+_, _%_}
+use Prim.Native.Nat.{ℕ, _+_, _%_, _≤_}
+use mathlib.Core.Path.{_≡_}
 use mathlib.Core.Bool.{cond}
+use mathlib.Core.List.{List}
 use lib.Dec.{eqb, leb, ltb}
 use Rattle.lists.specs.Answers.{bit}
+use Rattle.settings.specs.Sets.{topDigits}
 use Rattle.rounding.specs.Rounds.{top, over}
 use Rattle.slice.specs.declared.Rule.{Rule}
 use Rattle.slice.specs.declared.Rule.the-variants.{Carry, Zero, Top, Over, Below}
+use Rattle.slice.specs.declared.Weighted.{Weighted}
 
 -- b is the digit's base; for Top and Over it is s
 unfoldable pub weigh : Rule → ℕ → ℕ → ℕ → ℕ
@@ -23,3 +27,7 @@ weigh Below b d x = bit (ltb x d)
 -- the rule of a gate (0 first, 1 second) of digit i: HIGH's A and Z, in round 5 F and G; BOUND's hi and lo alike
 unfoldable pub ruleOf : ℕ → ℕ → ℕ → Rule
 ruleOf kind i which = cond (eqb kind 0) (cond (ltb i 4) (cond (eqb which 0) Carry Zero) (cond (eqb which 0) Top Over)) Below
+
+-- what Top's terms are read with: the list for their s; r's digit and y's are at most s. So d is at most 2s, and 2s + 1 with a carry
+abbrev pub TopFits : Weighted → List ℕ → Type 0
+TopFits t tops = (tops ≡ topDigits (t .limit)) × (t .n ≤ t .limit + 1) × (t .digit ≤ t .limit)

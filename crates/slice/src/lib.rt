@@ -8,19 +8,19 @@ ghost use Prim.Native.Nat.{ℕ, _+_, _*_, _-_, _%_, _≤_, _<_};
 ghost use lib.Dec.{leb, ltb};
 ghost use lib.ListN.{length, getD};
 ghost use Rattle.lists.specs.Lists.{fill};
-ghost use Rattle.field.specs.Field.{q};
+ghost use Rattle.field.specs.Field.{q, sub};
 ghost use Rattle.field.specs.Forms.{value, sum, _⊟_};
 ghost use Rattle.field.specs.Sums.{sumTo};
 ghost use Rattle.rounding.specs.Rounds.{top};
 ghost use Rattle.settings.specs.Questions.{ShapeReady};
+ghost use Rattle.settings.specs.Sets.{topDigits};
 ghost use Rattle.settings.specs.Settings.{paramsOf};
 ghost use Rattle.settings.specs.Sizes.{keyCount, width, mostOpenings, shared, places, workLength};
 ghost use Rattle.slice.specs.Layout.{ownAt, column, ownIn, maskedIn, begunPlace, begunWork, weights};
-ghost use Rattle.slice.specs.Weights.{weigh};
-ghost use Rattle.slice.specs.declared.Rule.the-variants.{Zero};
+ghost use Rattle.slice.specs.Weights.{weigh, TopFits};
+ghost use Rattle.slice.specs.declared.Rule.the-variants.{Zero, Top};
 use field::Q;
 use field::Q64;
-use field::mul_mod;
 use field::sub_mod;
 use lists::copy_numbers;
 use lists::least;
@@ -181,16 +181,18 @@ fn less_by(a: u32, b: u32) -> u32
     a - b
 }
 
-// t(d).
-fn top_of(s: u32, d: u32) -> u32
+// t(d), read from the list for s.
+fn top_of(tops: &[u32], s: u32, d: usize) -> u32
+    requires { ⌜ (now tops ≡ topDigits s) × (d ≤ 2 * s + 1) ⌝ }
     ensures { λ r. ⌜ (r ≡ top s d) × (r ≤ d) ⌝ }
 {
-    if d < s { d } else { d - s }
+    tops[d]
 }
 
+// A weight times an entry.
 fn times(a: u32, b: u32) -> u64
-    requires { ⌜ a < 131072 ⌝ }
-    ensures { λ r. ⌜ (r ≡ a * b) × (r < 562949953421312) ⌝ }
+    requires { ⌜ a < 16777216 ⌝ }
+    ensures { λ r. ⌜ (r ≡ a * b) × (r < 72057594037927936) ⌝ }
 {
     a as u64 * b as u64
 }
@@ -217,15 +219,35 @@ fn part_sum(work: &[u32], col: usize, place: usize, from: usize, to: usize) -> u
     (total % Q64) as u32
 }
 
-// The n entries of the vector at a place, entry x times t(x + d).
-fn top_sum(work: &[u32], col: usize, place: usize, n: usize, s: u32, d: u32) -> u32
-    requires { ⌜ ((col + 1) * places ≤ length (now work)) × (place + n ≤ ownAt 0) × (n ≤ 64) × (d ≤ 65536) ⌝ }
-    ensures { λ r. ⌜ r ≡ sumTo n (λ (x : ℕ). top s (x + d) * column (now (work .entry)) col (place + x)) % q ⌝ }
+// F: each entry times its t(d), as the list has it.
+fn top_sum(work: &[u32], col: usize, terms: Weighted, tops: &[u32]) -> u32
+    requires { ⌜ ((col + 1) * places ≤ length (now work)) × (terms .place + terms .n ≤ ownAt 0) × (terms .limit ≤ 45) × TopFits terms (now tops) ⌝ }
+    ensures { λ r. ⌜ r ≡ sumTo (terms .n) (λ (x : ℕ). top (terms .limit) (x + terms .digit) * column (now (work .entry)) col (terms .place + x)) % q ⌝ }
 {
+    let s = terms.limit;
+    let d = terms.digit as usize;
     let mut total: u64 = 0;
     let mut j = 0;
-    while j < n {
-        total = total + times(top_of(s, j as u32 + d), register(work, col, place + j));
+    while j < terms.n {
+        total = total + times(top_of(tops, s, j + d), register(work, col, terms.place + j));
+        j += 1;
+    }
+    (total % Q64) as u32
+}
+
+// F′ − F: each entry times what its t(d) grows by, from d to d + 1, as the list has both. q keeps the difference from falling below 0.
+fn top_rise(work: &[u32], col: usize, terms: Weighted, tops: &[u32]) -> u32
+    requires { ⌜ ((col + 1) * places ≤ length (now work)) × (terms .place + terms .n ≤ ownAt 0) × (terms .limit ≤ 45) × TopFits terms (now tops) ⌝ }
+    ensures { λ r. ⌜ r ≡ sub q (sumTo (terms .n) (λ (x : ℕ). top (terms .limit) (x + (terms .digit + 1)) * column (now (work .entry)) col (terms .place + x)) % q)
+        (sumTo (terms .n) (λ (x : ℕ). top (terms .limit) (x + terms .digit) * column (now (work .entry)) col (terms .place + x)) % q) ⌝ }
+{
+    let s = terms.limit;
+    let d = terms.digit as usize;
+    let mut total: u64 = 0;
+    let mut j = 0;
+    while j < terms.n {
+        let rise = top_of(tops, s, j + (d + 1)) + Q - top_of(tops, s, j + d);
+        total = total + times(rise, register(work, col, terms.place + j));
         j += 1;
     }
     (total % Q64) as u32
@@ -243,10 +265,10 @@ fn zero_entry(b: u32, d: u32) -> usize
 }
 
 // The entries of the vector, each times its weight by the rule. But for Top's, weights are 0 or 1: the sum goes through the entries
-// of weight 1 alone.
-pub fn weighted_sum(work: &[u32], col: usize, terms: Weighted) -> u32
-    requires { ⌜ ((col + 1) * places ≤ length (now work)) × (terms .place + terms .n ≤ ownAt 0) × (terms .n ≤ 64) × (1 ≤ terms .limit) × (terms .limit ≤ 45) × (terms .digit ≤ 65536) ⌝ }
-    requires { ⌜ (terms .rule ≡ Zero → (terms .n ≡ terms .limit) × (terms .digit ≤ terms .limit)) ⌝ }
+// of weight 1 alone. Top's stand in the list `tops`, which no other rule reads.
+pub fn weighted_sum(work: &[u32], col: usize, terms: Weighted, tops: &[u32]) -> u32
+    requires { ⌜ ((col + 1) * places ≤ length (now work)) × (terms .place + terms .n ≤ ownAt 0) × (terms .n ≤ 64) × (1 ≤ terms .limit) × (terms .limit ≤ 45) ⌝ }
+    requires { ⌜ (terms .rule ≡ Zero → (terms .n ≡ terms .limit) × (terms .digit ≤ terms .limit)) × (terms .rule ≡ Top → TopFits terms (now tops)) ⌝ }
     ensures { λ r. ⌜ ((κ : ℕ) → r ≡ value q κ (column (now (work .entry)) col) (sum (terms .n) (terms .place) (weigh (terms .rule) (terms .limit) (terms .digit)))) ⌝ }
 {
     let rule = terms.rule;
@@ -257,7 +279,7 @@ pub fn weighted_sum(work: &[u32], col: usize, terms: Weighted) -> u32
     match rule {
         Rule::Carry => part_sum(work, col, place, less_by(b, d) as usize, n),
         Rule::Zero => register(work, col, place + zero_entry(b, d)) % Q,
-        Rule::Top => top_sum(work, col, place, n, b, d),
+        Rule::Top => top_sum(work, col, terms, tops),
         Rule::Over => part_sum(work, col, place, less_by(b + 1, d) as usize, n),
         Rule::Below => part_sum(work, col, place, 0, least(d as usize, n)),
     }
@@ -284,11 +306,11 @@ fn back_from(b: u32, d: u32, n: usize) -> usize
     n
 }
 
-// What the weighted sum grows by where the digit is one higher: one weight becomes 1, for Zero one becomes 0 too. For Top all grow by
-// 1, but for the one that falls from s - 1 to 0.
-pub fn raised_by(work: &[u32], col: usize, terms: Weighted) -> u32
+// What the weighted sum grows by where the digit is one higher: one weight becomes 1, for Zero one becomes 0 too. For Top any may change:
+// `tops` has them.
+pub fn raised_by(work: &[u32], col: usize, terms: Weighted, tops: &[u32]) -> u32
     requires { ⌜ ((col + 1) * places ≤ length (now work)) × (terms .place + terms .n ≤ ownAt 0) × (terms .n ≤ 64) × (1 ≤ terms .limit) × (terms .limit ≤ 45) × (terms .digit < 65536) ⌝ }
-    requires { ⌜ (terms .rule ≡ Zero → (terms .n ≡ terms .limit) × (terms .digit + 1 ≤ terms .limit)) ⌝ }
+    requires { ⌜ (terms .rule ≡ Zero → (terms .n ≡ terms .limit) × (terms .digit + 1 ≤ terms .limit)) × (terms .rule ≡ Top → TopFits terms (now tops)) ⌝ }
     ensures { λ r. ⌜ ((κ : ℕ) → r
         ≡ value q κ (column (now (work .entry)) col) (sum (terms .n) (terms .place) (weigh (terms .rule) (terms .limit) (terms .digit + 1)) ⊟ sum (terms .n) (terms .place) (weigh (terms .rule) (terms .limit) (terms .digit)))) ⌝ }
 {
@@ -303,10 +325,7 @@ pub fn raised_by(work: &[u32], col: usize, terms: Weighted) -> u32
             register(work, col, place + zero_entry(b, d + 1)),
             register(work, col, place + zero_entry(b, d)),
         ),
-        Rule::Top => {
-            let turned = entry_at(work, col, place, n, back_from(b, d + 1, n));
-            sub_mod(part_sum(work, col, place, 0, n), mul_mod(b, turned))
-        }
+        Rule::Top => top_rise(work, col, terms, tops),
         Rule::Over => entry_at(work, col, place, n, back_from(b, d, n)),
         Rule::Below => entry_at(work, col, place, n, d as usize),
     }

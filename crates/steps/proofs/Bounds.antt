@@ -1,15 +1,16 @@
 -- Bounds that the functions need: places in a column, digits, thresholds, indices, and how many openings a round has.
-use mathlib.Core.Path.{_≡_, refl, ap}
+use mathlib.Core.Path.{_≡_, refl, sym, ap, _∙_}
 use mathlib.Core.Logic.{_≢_}
-use mathlib.Core.Bool.{Bool, true, false, cond, false≢true}
+use mathlib.Core.Bool.{Bool, true, false, cond, _&&_}
 use Prim.Native.Nat.{ℕ, zero, suc, _+_, _-_, _*_, _/_, _%_, _≤_, _<_}
 use native.Mathlib.Nat.{mod-lt, mul-le-mul-left, mul-le-mul-right, le-div-iff-mul-le}
 use native.Mathlib.Decide.{decLt}
 use native.Mathlib.Omega.{arith}
 use lib.Dec.{eqb, leb, ltb}
-use borrow.Author.Tests.{leb-true, ne-eqb, eq-eqb, le-leb, lt-leb, lt-ltb, le-ltb}
+use borrow.Author.Tests.{leb-true, ltb-true, eqb-true, ne-eqb, eq-eqb, le-leb, lt-leb, lt-ltb, le-ltb}
 use Rattle.lists.specs.Lists.{allTo}
 use Rattle.lists.proofs.Every.{allTo-at}
+use Rattle.lists.proofs.Questions.{both-yes}
 use Rattle.field.specs.Field.{q}
 use Rattle.field.specs.Sums.{sumTo}
 use Rattle.field.proofs.Division.{Split, split}
@@ -59,24 +60,38 @@ limit-range set i hs hi = go (decLt i 4)
     go (yes p) = rw (lt-ltb i 4 p) (base-range set i hs hi)
     go (no p) = rw (le-ltb i 4 (omega arith)) (parts set hs)
 
--- ---- The rule Zero: digits 0 to 3 of HIGH alone have it
+-- ---- Which digits have a rule: of HIGH, Carry and Zero those below the top, Top and Over the top digit
 
-isZero : Rule → Bool
-isZero Carry = false
-isZero Zero = true
-isZero Top = false
-isZero Over = false
-isZero Below = false
+has : Rule → Bool → ℕ → Bool
+has Carry high i = ltb i 4
+has Zero high i = ltb i 4
+has Top high i = high && leb 4 i
+has Over high i = leb 4 i
+has Below high i = true
+
+rule-has : (kind i k : ℕ) → has (ruleOf kind i k) (eqb kind 0) i ≡ true
+unfolding ruleOf has
+rule-has kind i k = go (eqb kind 0) (eqb k 0) (decLt i 4)
+  where
+    go : (high b : Bool) → Dec (i < 4) → has (cond high (cond (ltb i 4) (cond b Carry Zero) (cond b Top Over)) Below) high i ≡ true
+    go true true (yes h) = rw (lt-ltb i 4 h) (lt-ltb i 4 h)
+    go true false (yes h) = rw (lt-ltb i 4 h) (lt-ltb i 4 h)
+    go true true (no h) = rw (le-ltb i 4 (omega arith)) (le-leb 4 i (omega arith))
+    go true false (no h) = rw (le-ltb i 4 (omega arith)) (le-leb 4 i (omega arith))
+    go false b h = refl
+
+rule-is : (kind i k : ℕ) (rule : Rule) → ruleOf kind i k ≡ rule → has rule (eqb kind 0) i ≡ true
+rule-is kind i k rule e = ap (λ (x : Rule). has x (eqb kind 0) i) (sym e) ∙ rule-has kind i k
 
 pub zero-low : (kind i k : ℕ) → ruleOf kind i k ≡ Zero → i < 4
-unfolding ruleOf isZero
-zero-low kind i k e = go (eqb kind 0) (eqb k 0) (decLt i 4) (ap isZero e)
-  where
-    go : (a b : Bool) → Dec (i < 4) → isZero (cond a (cond (ltb i 4) (cond b Carry Zero) (cond b Top Over)) Below) ≡ true → i < 4
-    go a b (yes h) t = h
-    go true true (no h) t = absurd (false≢true (rw (le-ltb i 4 (omega arith)) at t))
-    go true false (no h) t = absurd (false≢true (rw (le-ltb i 4 (omega arith)) at t))
-    go false b (no h) t = absurd (false≢true t)
+unfolding has
+zero-low kind i k e = ltb-true i 4 (rule-is kind i k Zero e)
+
+pub top-last : (kind i k : ℕ) → ruleOf kind i k ≡ Top → (kind ≡ 0) × (4 ≤ i)
+unfolding has
+top-last kind i k e =
+    let both = both-yes (eqb kind 0) (leb 4 i) (rule-is kind i k Top e) in
+    (eqb-true kind 0 (both .0), leb-true 4 i (both .1))
 
 -- a threshold is below q
 pub threshold-below : (bound k y : ℕ) → threshold q bound k y < q

@@ -1,31 +1,32 @@
 -- A gate as the code has it: it fits its column, its forms are those of the steps, and its result from the numbers that a side holds.
 use mathlib.Core.Path.{_≡_, refl, sym, ap, _∙_}
+use mathlib.Core.List.{List}
 use Prim.Native.Nat.{ℕ, _+_, _-_, _*_, _/_, _%_, _≤_, _<_}
 use native.Mathlib.Nat.{add-zero}
 use native.Mathlib.Omega.{arith}
 use lib.Dec.{lit<}
 use lib.ListN.{getD}
-use borrow.Author.Tests.{lt-ltb}
+use borrow.Author.Tests.{lt-ltb, le-ltb}
 use Rattle.field.specs.Field.{q, add, sub, mul}
 use Rattle.field.specs.Forms.{Form}
 use Rattle.field.proofs.Solve.{at, _⊕_, _⊖_, _⊗_, neg, red, solve}
 use Rattle.settings.specs.declared.Shape.{Shape}
 use Rattle.settings.specs.declared.Settings.{Settings}
-use Rattle.settings.specs.Sets.{scaleOf, base}
+use Rattle.settings.specs.Sets.{scaleOf, base, topDigits}
 use Rattle.settings.specs.Settings.{paramsOf}
 use Rattle.settings.specs.Questions.{ShapeReady}
 use Rattle.book.specs.Book.{tripleAt}
-use Rattle.settings.proofs.Sets.{base-range}
+use Rattle.settings.proofs.Sets.{lawful, base-range}
 use Rattle.rounding.specs.declared.Split.{Split}
 use Rattle.rounding.specs.Digits.{splitOf}
-use Rattle.slice.specs.Weights.{ruleOf}
+use Rattle.slice.specs.Weights.{ruleOf, TopFits}
 use Rattle.slice.specs.declared.Weighted.{Weighted}
-use Rattle.slice.specs.declared.Rule.the-variants.{Zero}
+use Rattle.slice.specs.declared.Rule.the-variants.{Zero, Top}
 use Rattle.steps.specs.declared.Gate.{Gate}
 use Rattle.steps.specs.Steps.{lookedAt, limitOf, vectorSum, addend, factorU, factorV, openFactor, gateResult}
 use Rattle.steps.specs.Context.{publicBy}
-use Rattle.steps.specs.Gates.{termsAt, gateAt, sumForm, addendForm, uForm, vForm, openU, openV, resultForm, TermsFit}
-use Rattle.steps.proofs.Bounds.{vector-room, zero-low, limit-range}
+use Rattle.steps.specs.Gates.{termsAt, gateAt, sumForm, addendForm, uForm, vForm, openU, openV, resultForm, TermsFit, Listed}
+use Rattle.steps.proofs.Bounds.{vector-room, zero-low, top-last, limit-range}
 
 -- ---- Bounds
 
@@ -42,10 +43,30 @@ terms-fit shape split g i ready hg hi below =
       limit-most = l .1;
       digit-below = below;
       zero-fits = λ rule. limit-low (zero-low (shape .kind) i (g % 2) rule);
+      top-fits = λ rule. limit-last (top-last (shape .kind) i (g % 2) rule .1);
     }
   where
     limit-low : i < 4 → base (scaleOf (shape .set)) i ≡ limitOf (scaleOf (shape .set)) i
     limit-low low = rw (lt-ltb i 4 low)
+
+    limit-last : 4 ≤ i → base (scaleOf (shape .set)) i ≡ limitOf (scaleOf (shape .set)) i + 1
+    limit-last last =
+        let e : i ≡ 4 = omega arith in
+        rw (le-ltb i 4 last, e) (lawful (shape .set) (ready .sets) .last)
+
+-- the list of the set is that of its gates (`Listed` of `termsAt`): Top is HIGH's at digit 4, whose limit is s
+pub listed : (shape : Shape) (g i : ℕ) (tops : List ℕ) → (shape .kind ≡ 0 → 4 ≤ i → tops ≡ topDigits (scaleOf (shape .set) .parts))
+    → ruleOf (shape .kind) i (g % 2) ≡ Top → tops ≡ topDigits (limitOf (scaleOf (shape .set)) i)
+unfolding limitOf
+listed shape g i tops e rule =
+    let last = top-last (shape .kind) i (g % 2) rule in
+    rw (le-ltb i 4 (last .1)) (e (last .0) (last .1))
+
+-- and what a sum over it asks for
+pub top-ready : (t : Weighted) (tops : List ℕ) → TermsFit t → Listed t tops → t .rule ≡ Top → TopFits t tops
+top-ready t tops fits list rule =
+    let n = fits .top-fits rule in
+    (list rule, omega (arith, n), omega (arith, n, fits .digit-below))
 
 -- ---- The forms of a gate that looks at the number of its coefficient
 

@@ -3,19 +3,20 @@
 use Prim.Native.Nat.{ℕ, _+_, _-_, _*_, _/_, _%_, _≤_, _<_}
 use mathlib.Core.Path.{_≡_}
 use mathlib.Core.Bool.{cond, _&&_}
+use mathlib.Core.List.{List}
 use lib.Dec.{eqb}
 use lib.ListN.{getD}
 use Rattle.field.specs.Field.{q}
 use Rattle.field.specs.Forms.{Form, num, reg, sum, _⊞_, _⊟_, _⊠_}
 use Rattle.settings.specs.declared.Shape.{Shape}
-use Rattle.settings.specs.Sets.{scaleOf, base}
+use Rattle.settings.specs.Sets.{scaleOf, base, topDigits}
 use Rattle.settings.specs.Settings.{paramsOf}
 use Rattle.rounding.specs.declared.Split.{Split}
 use Rattle.book.specs.Book.{vectorAt, tripleAt}
 use Rattle.slice.specs.Layout.{inputAt, runningAt}
 use Rattle.slice.specs.Weights.{weigh, ruleOf}
 use Rattle.slice.specs.declared.Weighted.{Weighted}
-use Rattle.slice.specs.declared.Rule.the-variants.{Zero}
+use Rattle.slice.specs.declared.Rule.the-variants.{Zero, Top}
 use Rattle.steps.specs.declared.Gate.{Gate}
 use Rattle.steps.specs.Steps.{limitOf}
 
@@ -77,9 +78,14 @@ pub record TermsFit (t : Weighted) : Type 0 where
   pub limit-most : t .limit ≤ 45
   pub digit-below : t .digit < t .n
   pub zero-fits : t .rule ≡ Zero → t .n ≡ t .limit
+  pub top-fits : t .rule ≡ Top → t .n ≡ t .limit + 1
 
 pub record GateFits (gate : Gate) : Type 0 where
   pub coefficient : gate .j < 8
   pub which-two : gate .which < 2
   pub triple-room : gate .triple ≤ inputAt 0
   pub terms-fit : TermsFit (gate .terms)
+
+-- the list that the code is lent with a sum: F and F′ read t(d) there, no other sum reads it
+abbrev pub Listed : Weighted → List ℕ → Type 0
+Listed t tops = t .rule ≡ Top → tops ≡ topDigits (t .limit)

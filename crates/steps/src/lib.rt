@@ -20,7 +20,7 @@ ghost use Rattle.slice.specs.Layout.{runningAt, column};
 ghost use Rattle.slice.specs.Weights.{ruleOf};
 ghost use Rattle.steps.specs.Steps.{limitOf, shiftOf, openInput, insides, groupOf, checkEntry, afterCheck};
 ghost use Rattle.steps.specs.Context.{publicBy, looksAt, numberAt, splitCount, splitPlace, ContextOf};
-ghost use Rattle.steps.specs.Gates.{termsAt, gateAt, TermsFit, GateFits, sumForm, addendForm, uForm, vForm, openU, openV, resultForm};
+ghost use Rattle.steps.specs.Gates.{termsAt, gateAt, TermsFit, GateFits, Listed, sumForm, addendForm, uForm, vForm, openU, openV, resultForm};
 use book::group_at;
 use book::group_gap;
 use book::group_k;
@@ -232,24 +232,24 @@ pub fn gate_of(shape: Shape, split: Split, g: usize, i: usize) -> Gate
     }
 }
 
-// ---- A gate on one column. No public number is added to addend, u and v: the weight does not matter.
+// ---- A gate on one column. No public number is added to addend, u and v: the weight does not matter. F and F′ read t(d) in the list `tops`.
 
 // The gate's sum alone: what round 1 makes of digit 0.
-pub fn sum_value(work: &[u32], col: usize, terms: Weighted) -> u32
+pub fn sum_value(work: &[u32], col: usize, terms: Weighted, tops: &[u32]) -> u32
     requires { ⌜ TermsFit terms ⌝ }
-    requires { ⌜ (col + 1) * places ≤ length (now work) ⌝ }
+    requires { ⌜ ((col + 1) * places ≤ length (now work)) × Listed terms (now tops) ⌝ }
     ensures { λ r. ⌜ ((κ : ℕ) → r ≡ value q κ (column (now (work .entry)) col) (sumForm terms 0)) ⌝ }
 {
-    weighted_sum(work, col, terms)
+    weighted_sum(work, col, terms, tops)
 }
 
-fn addend_value(work: &[u32], col: usize, gate: Gate) -> u32
+fn addend_value(work: &[u32], col: usize, gate: Gate, tops: &[u32]) -> u32
     requires { ⌜ GateFits gate ⌝ }
-    requires { ⌜ (col + 1) * places ≤ length (now work) ⌝ }
+    requires { ⌜ ((col + 1) * places ≤ length (now work)) × Listed (gate .terms) (now tops) ⌝ }
     ensures { λ r. ⌜ ((κ : ℕ) → r ≡ value q κ (column (now (work .entry)) col) (addendForm gate)) ⌝ }
 {
     let terms = gate.terms;
-    let a = sum_value(work, col, terms);
+    let a = sum_value(work, col, terms, tops);
     if gate.kind == 0 {
         if gate.which == 1 {
             return add_mod(register(work, col, SECOND + gate.j), a);
@@ -270,14 +270,14 @@ fn u_value(work: &[u32], col: usize, gate: Gate) -> u32
     register(work, col, gate.terms.place + gate.terms.digit as usize)
 }
 
-fn v_value(work: &[u32], col: usize, gate: Gate) -> u32
+fn v_value(work: &[u32], col: usize, gate: Gate, tops: &[u32]) -> u32
     requires { ⌜ GateFits gate ⌝ }
-    requires { ⌜ (col + 1) * places ≤ length (now work) ⌝ }
+    requires { ⌜ ((col + 1) * places ≤ length (now work)) × Listed (gate .terms) (now tops) ⌝ }
     ensures { λ r. ⌜ ((κ : ℕ) → r ≡ value q κ (column (now (work .entry)) col) (vForm gate)) ⌝ }
 {
     if gate.kind == 0 {
         let terms = gate.terms;
-        return raised_by(work, col, terms);
+        return raised_by(work, col, terms, tops);
     }
     register(work, col, FIRST + 8 * gate.which + gate.j)
 }
@@ -293,12 +293,12 @@ pub fn open_u(work: &[u32], col: usize, gate: Gate) -> u32
 }
 
 // v − b.
-pub fn open_v(work: &[u32], col: usize, gate: Gate) -> u32
+pub fn open_v(work: &[u32], col: usize, gate: Gate, tops: &[u32]) -> u32
     requires { ⌜ GateFits gate ⌝ }
-    requires { ⌜ (col + 1) * places ≤ length (now work) ⌝ }
+    requires { ⌜ ((col + 1) * places ≤ length (now work)) × Listed (gate .terms) (now tops) ⌝ }
     ensures { λ r. ⌜ ((κ : ℕ) → r ≡ value q κ (column (now (work .entry)) col) (openV gate)) ⌝ }
 {
-    let v = v_value(work, col, gate);
+    let v = v_value(work, col, gate, tops);
     sub_mod(v, register(work, col, gate.triple + 1))
 }
 
@@ -318,13 +318,20 @@ pub struct Factors {
 
 // addend + e × v + f × u + third − e × f, e and f the opened numbers. u and v are not worked out again: they are this side's own numbers for
 // the two openings, with a and b added. The end alone is reduced: − e × f is q less e × f modulo q, times the weight.
-pub fn gate_value(work: &[u32], col: Column, gate: Gate, own: Factors, opened: Factors) -> u32
+pub fn gate_value(
+    work: &[u32],
+    col: Column,
+    gate: Gate,
+    own: Factors,
+    opened: Factors,
+    tops: &[u32],
+) -> u32
     requires { ⌜ GateFits gate ⌝ }
-    requires { ⌜ ((col .index + 1) * places ≤ length (now work)) × (opened .u < q) × (opened .v < q) ⌝ }
+    requires { ⌜ ((col .index + 1) * places ≤ length (now work)) × (opened .u < q) × (opened .v < q) × Listed (gate .terms) (now tops) ⌝ }
     requires { ⌜ (own .u ≡ value q (col .weight) (column (now work) (col .index)) (openU gate)) × (own .v ≡ value q (col .weight) (column (now work) (col .index)) (openV gate)) ⌝ }
     ensures { λ r. ⌜ r ≡ value q (col .weight) (column (now (work .entry)) (col .index)) (resultForm gate (opened .u) (opened .v)) ⌝ }
 {
-    let addend = addend_value(work, col.index, gate);
+    let addend = addend_value(work, col.index, gate, tops);
     let u = own.u as u64 + register(work, col.index, gate.triple) as u64;
     let v = own.v as u64 + register(work, col.index, gate.triple + 1) as u64;
     let third = register(work, col.index, gate.triple + 2);

@@ -7,44 +7,46 @@ use Rattle.steps.specs.Context.{publicBy, ContextOf}
 use Rattle.slice.specs.Layout.{column}
 use Rattle.lists.proofs.Strides.{length-stride}
 use Rattle.steps.proofs.Contexts.{place-in, count-most}
+use Rattle.steps.proofs.Gates.{listed}
 use Prim.Native.Nat.{ℕ, _≤_, _-_, _*_, _%_, _/_}
 use mathlib.Core.Path.{_≡_, refl, ap, _∙_}
 use native.Mathlib.Omega.{arith}
 use borrow.Author.Needs.{needs}
+use borrow.Author.Tests.{eq-eqb}
 use lib.ListN.{length, getD}
 use Rattle.column.proofs.gate_registers.Statement.{statement}
 use Rattle.column.proofs.gate_registers.Tie as tie
 
 abbrev Inv-loop : tie.InvT-loop
-Inv-loop next₀ work weights own opened known shape i g₀ next g = (g ≤ 2 * known .settings .shape .n) ×
+Inv-loop next₀ work weights own opened tops known shape i g₀ next g = (g ≤ 2 * known .settings .shape .n) ×
     ((masked : ℕ → ℕ) → ContextOf (known .settings) (known .round) masked known → RegistersHeld (publicBy (known .settings) masked) (known .round)
     (λ (o : ℕ). getD opened o 0) weights work g next) × (length next ≡ length next₀)
 
 abbrev μ-loop : tie.MeasureT-loop
-μ-loop next₀ work weights own opened known shape i g₀ next g = 2 * known .settings .shape .n - g
+μ-loop next₀ work weights own opened tops known shape i g₀ next g = 2 * known .settings .shape .n - g
 
 loop-holds : tie.Need-loop-holds Inv-loop μ-loop
 loop-holds c = (omega arith, λ masked made d o h l. absurd (omega arith), refl)
 
 mul-split : tie.Need-mul-split Inv-loop μ-loop
 mul-split c =
-    let a = c .before .before .before .before .before .before .before .before .before .before .args in
+    let a = c .before .before .before .before .before .before .before .before .before .before .before .args in
     let at = c .before .before .before .loop in
-    let p = c .before .before .before .before .before .before .before .before .before .before .pre in
+    let p = c .before .before .before .before .before .before .before .before .before .before .before .pre in
     omega (arith, place-in (a .t4 .settings .shape) (at .g) (omega arith), count-most (a .t4 .settings .shape) (p .0 .0 .shape .most), c .split-place .ensures)
 
 element-copy-out-split : tie.Need-element-copy-out-split Inv-loop μ-loop
 element-copy-out-split c =
-    let a = c .before .before .before .before .before .before .before .before .before .before .args in
+    let a = c .before .before .before .before .before .before .before .before .before .before .before .args in
     let at = c .before .before .before .loop in
-    let p = c .before .before .before .before .before .before .before .before .before .before .pre in
+    let p = c .before .before .before .before .before .before .before .before .before .before .before .pre in
     omega (arith, place-in (a .t4 .settings .shape) (at .g) (omega arith), count-most (a .t4 .settings .shape) (p .0 .0 .shape .most), c .split-place .ensures)
 
 gate-of-requires : tie.Need-gate-of-requires Inv-loop μ-loop
 gate-of-requires c κs =
-    let a = c .before .before .before .before .before .before .before .before .before .before .before .args in
+    let a = c .before .before .before .before .before .before .before .before .before .before .before .before .args in
     let at = c .before .before .before .before .loop in
-    let p = c .before .before .before .before .before .before .before .before .before .before .before .pre in
+    let p = c .before .before .before .before .before .before .before .before .before .before .before .before .pre in
     let known = a .t4 in
     let in-count = place-in (known .settings .shape) (at .g) (omega arith) in (
       p .0 .0 .shape,
@@ -60,12 +62,13 @@ gate-of-requires c κs =
 results-into-requires : tie.Need-results-into-requires Inv-loop μ-loop
 results-into-requires c κs =
     let at = c .before .before .before .before .before .before .loop in
-    let p = c .before .before .before .before .before .before .before .before .before .before .before .before .before .pre in
+    let p = c .before .before .before .before .before .before .before .before .before .before .before .before .before .before .pre in
     let split-place = c .before .before .before .split-place in
-    let a = c .before .before .before .before .before .before .before .before .before .before .before .before .before .args in
+    let a = c .before .before .before .before .before .before .before .before .before .before .before .before .before .before .args in
     let known = a .t4 in
-    let g = at .g in (
-      c .before .gate-of .ensures .1,
+    let g = at .g in
+    let fifth : 4 ≤ known .round - 1 → known .round ≡ 5 = λ last. omega (arith, last, p .1 .0) in (
+      (c .before .gate-of .ensures .1, rw (c .before .gate-of .ensures .0) (listed (known .settings .shape) _ (known .round - 1) _ (λ kind last. p .0 .2 (rw (eq-eqb _ _ kind, eq-eqb _ _ (fifth last)) refl)))),
       (
         omega (arith, p .1, at .inv .2),
         (
@@ -80,11 +83,11 @@ results-into-requires c κs =
 loop-again : tie.Need-loop-again Inv-loop μ-loop
 loop-again c =
     let at = c .before .before .before .before .before .before .before .before .before .loop in
-    let p = c .before .before .before .before .before .before .before .before .before .before .before .before .before .before .before .before .pre in
+    let p = c .before .before .before .before .before .before .before .before .before .before .before .before .before .before .before .before .before .pre in
     let split-place = c .before .before .before .before .before .before .split-place in
     let gate-of = c .before .before .before .before .gate-of in
     let results-into = c .before .before .results-into in
-    let a = c .before .before .before .before .before .before .before .before .before .before .before .before .before .before .before .before .args in
+    let a = c .before .before .before .before .before .before .before .before .before .before .before .before .before .before .before .before .before .args in
     let known = a .t4 in
     let g = at .g in
     let opened : ℕ → ℕ = λ (o : ℕ). getD (a .opened .now) o 0 in

@@ -11,8 +11,8 @@ use Rattle.column.proofs.prepare.Tie as tie
 returns : tie.Need-returns
 returns c = c .before .before .prepare-plain .ensures (maskedIn (c .before .before .before .before .before .before .before .before .before .args .work .now))
 
-prepare-gates-requires : tie.Need-prepare-gates-requires
-prepare-gates-requires c κs =
+prepare-digits-requires : tie.Need-prepare-digits-requires
+prepare-digits-requires c κs =
     let p = c .before .before .before .before .before .before .before .pre in
     let if1 = c .before .before .if1 in
     let a = c .before .before .before .before .before .before .before .args in
@@ -25,11 +25,11 @@ returns-2 : tie.Need-returns-2
 returns-2 c =
     let if1 = c .before .before .before .before .before .if1 in
     let if2 = c .before .before .before .before .if2 in
-    let prepare-gates = c .before .before .prepare-gates in
+    let prepare-digits = c .before .before .prepare-digits in
     let p = c .before .before .before .before .before .before .before .before .before .before .pre in
     let a = c .before .before .before .before .before .before .before .before .before .before .args in
     let known = a .known in
-    rw (open-middle (paramsOf (known .settings .shape)) (known .round) (if1 .left) (if2 .taken)) (prepare-gates .ensures (maskedIn (a .work .now)) (a .weights .now) (p .1 .1 .1))
+    rw (open-middle (paramsOf (known .settings .shape)) (known .round) (if1 .left) (if2 .taken)) (prepare-digits .ensures (maskedIn (a .work .now)) (a .weights .now) (p .1 .1 .1))
 
 returns-3 : tie.Need-returns-3
 returns-3 c = c .before .before .prepare-plain2 .ensures (maskedIn (c .before .before .before .before .before .before .before .before .before .before .before .args .work .now))
@@ -56,7 +56,7 @@ prepare-spec =
     (λ c κs. search needs)
     (λ c. search needs)
     returns
-    prepare-gates-requires
+    prepare-digits-requires
     (λ c. search needs)
     returns-2
     (λ c κs. search needs)

@@ -8,6 +8,7 @@ use Rattle.field.specs.Field.{q}
 use Rattle.lists.proofs.Strides.{length-stride}
 use Rattle.lists.specs.Lists.{fillBy}
 use Rattle.steps.proofs.Contexts.{place-in, count-most}
+use Rattle.steps.proofs.Gates.{listed}
 use Rattle.column.specs.Held.{columnAt, openingIn, Holds}
 use Rattle.steps.specs.Context.{publicBy, ContextOf}
 use mathlib.Core.List.{List}
@@ -15,63 +16,66 @@ use Prim.Native.Nat.{ℕ, _≤_, _-_, _+_, _*_}
 use mathlib.Core.Path.{_≡_, refl, ap, _∙_}
 use native.Mathlib.Omega.{arith}
 use borrow.Author.Needs.{needs}
+use borrow.Author.Tests.{eq-eqb}
 use lib.ListN.{length, getD}
 use Rattle.column.proofs.prepare_gates.Statement.{statement}
 use Rattle.column.proofs.prepare_gates.Tie as tie
 
 abbrev Inv-loop : tie.InvT-loop
-Inv-loop out₀ work columns known shape i g₀ out g = (g ≤ 2 * known .settings .shape .n) × ((masked : ℕ → ℕ) (κs : List ℕ) → ContextOf (known .settings) (known .round) masked known → Holds
+Inv-loop out₀ work columns tops known shape i g₀ out g = (g ≤ 2 * known .settings .shape .n) × ((masked : ℕ → ℕ) (κs : List ℕ) → ContextOf (known .settings) (known .round) masked known → Holds
     (publicBy (known .settings) masked) (known .round) κs work columns (2 * g) out) × (length out ≡ length out₀)
 
 abbrev μ-loop : tie.MeasureT-loop
-μ-loop out₀ work columns known shape i g₀ out g = 2 * known .settings .shape .n - g
+μ-loop out₀ work columns tops known shape i g₀ out g = 2 * known .settings .shape .n - g
 
 loop-holds : tie.Need-loop-holds Inv-loop μ-loop
 loop-holds c = (omega arith, λ masked κs made d o h l. absurd (omega arith), refl)
 
 mul-split : tie.Need-mul-split Inv-loop μ-loop
 mul-split c =
-    let a = c .before .before .before .before .before .before .before .args in
+    let a = c .before .before .before .before .before .before .before .before .args in
     let at = c .before .before .before .loop in
-    let p = c .before .before .before .before .before .before .before .pre in
+    let p = c .before .before .before .before .before .before .before .before .pre in
     omega (arith, place-in (a .t4 .settings .shape) (at .g) (omega arith), count-most (a .t4 .settings .shape) (p .0 .0 .shape .most), c .split-place .ensures)
 
 element-copy-out-split : tie.Need-element-copy-out-split Inv-loop μ-loop
 element-copy-out-split c =
-    let a = c .before .before .before .before .before .before .before .args in
+    let a = c .before .before .before .before .before .before .before .before .args in
     let at = c .before .before .before .loop in
-    let p = c .before .before .before .before .before .before .before .pre in
+    let p = c .before .before .before .before .before .before .before .before .pre in
     omega (arith, place-in (a .t4 .settings .shape) (at .g) (omega arith), count-most (a .t4 .settings .shape) (p .0 .0 .shape .most), c .split-place .ensures)
 
 gate-of-requires : tie.Need-gate-of-requires Inv-loop μ-loop
 gate-of-requires c κs =
-    let a = c .before .before .before .before .before .before .before .before .args in
+    let a = c .before .before .before .before .before .before .before .before .before .args in
     let at = c .before .before .before .before .loop in
-    let p = c .before .before .before .before .before .before .before .before .pre in
+    let p = c .before .before .before .before .before .before .before .before .before .pre in
     let known = a .t4 in
     let in-count = place-in (known .settings .shape) (at .g) (omega arith) in
     (p .0 .0 .shape, (omega arith, omega arith, omega arith, p .0 .1 (c .before .split-place .result) _ (rw (c .before .split-place .ensures) in-count) (omega arith)))
 
 u-into-requires : tie.Need-u-into-requires Inv-loop μ-loop
 u-into-requires c κs =
-    let p = c .before .before .before .before .before .before .before .before .before .before .pre in
+    let p = c .before .before .before .before .before .before .before .before .before .before .before .pre in
     (c .before .gate-of .ensures .1, (omega (arith, p .0 .0 .shape .most), omega arith, omega arith, omega arith))
 
 v-into-requires : tie.Need-v-into-requires Inv-loop μ-loop
 v-into-requires c κs =
     let gate-of = c .before .before .before .before .before .gate-of in
-    let p = c .before .before .before .before .before .before .before .before .before .before .before .before .before .before .pre in
-    (gate-of .ensures .1, (omega (arith, p .0 .0 .shape .most), omega arith, omega arith, omega arith))
+    let p = c .before .before .before .before .before .before .before .before .before .before .before .before .before .before .before .pre in
+    let known = c .before .before .before .before .before .before .before .before .before .before .before .before .before .before .before .args .t4 in
+    let fifth : 4 ≤ known .round - 1 → known .round ≡ 5 = λ last. omega (arith, last, p .1 .0) in
+    ((gate-of .ensures .1, rw (gate-of .ensures .0) (listed (known .settings .shape) _ (known .round - 1) _ (λ kind last. p .0 .2 (rw (eq-eqb _ _ kind, eq-eqb _ _ (fifth last)) refl)))), (omega (arith, p .0 .0 .shape .most), omega arith, omega arith, omega arith))
 
 loop-again : tie.Need-loop-again Inv-loop μ-loop
 loop-again c =
     let at = c .before .before .before .before .before .before .before .before .before .before .before .before .before .loop in
-    let p = c .before .before .before .before .before .before .before .before .before .before .before .before .before .before .before .before .before .pre in
+    let p = c .before .before .before .before .before .before .before .before .before .before .before .before .before .before .before .before .before .before .pre in
     let split-place = c .before .before .before .before .before .before .before .before .before .before .split-place in
     let gate-of = c .before .before .before .before .before .before .before .before .gate-of in
     let u-into = c .before .before .before .before .before .before .u-into in
     let v-into = c .before .before .v-into in
-    let a = c .before .before .before .before .before .before .before .before .before .before .before .before .before .before .before .before .before .args in
+    let a = c .before .before .before .before .before .before .before .before .before .before .before .before .before .before .before .before .before .before .args in
     let known = a .t4 in
     let g = at .g in
     let later : 2 ≤ known .round = p .1 .0 .0 in

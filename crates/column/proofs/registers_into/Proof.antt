@@ -40,8 +40,8 @@ returns c = let a = c .before .before .before .before .before .before .before .b
     rw (c .before .before .before .before .before .if1 .taken)
     (rw (made .settings-kept) at (c .before .before .first-registers .ensures numbers numbers (a .weights .now) refl (settled made)))
 
-gate-registers-requires : tie.Need-gate-registers-requires
-gate-registers-requires c κs =
+digit-registers-requires : tie.Need-digit-registers-requires
+digit-registers-requires c κs =
     let p = c .before .before .before .before .before .before .before .before .before .pre in
     let if1 = c .before .before .if1 in
     let a = c .before .before .before .before .before .before .before .before .before .args in
@@ -60,10 +60,10 @@ gate-registers-requires c κs =
 returns-2 : tie.Need-returns-2
 returns-2 c =
     let if1 = c .before .before .before .before .before .if1 in
-    let gate-registers = c .before .before .gate-registers in
+    let digit-registers = c .before .before .digit-registers in
     let p = c .before .before .before .before .before .before .before .before .before .before .before .before .pre in
     let a = c .before .before .before .before .before .before .before .before .before .before .before .before .args in
-    rw (ne-eqb (a .known .round) 1 (if1 .left)) (gate-registers .ensures (maskedIn (a .work .now)) (p .1 .1 .1 .1 .0))
+    rw (ne-eqb (a .known .round) 1 (if1 .left)) (digit-registers .ensures (maskedIn (a .work .now)) (p .1 .1 .1 .1 .0))
 
 late-registers-requires : tie.Need-late-registers-requires
 late-registers-requires c κs =
@@ -83,7 +83,7 @@ registers-into-spec =
     first-registers-requires
     (λ c. search needs)
     returns
-    gate-registers-requires
+    digit-registers-requires
     (λ c. search needs)
     returns-2
     late-registers-requires

@@ -14,62 +14,77 @@ use Rattle.column.proofs.results_into.Statement.{statement}
 use Rattle.column.proofs.results_into.Tie as tie
 
 abbrev Inv-loop : tie.InvT-loop
-Inv-loop next₀ work weights gate own opened o at joined c₀ next c = (c ≤ length weights) × (next ≡ fillBy 16 next₀ at c
+Inv-loop next₀ work weights gate own opened tops o at joined c₀ next c = (c ≤ length weights) × (next ≡ fillBy 16 next₀ at c
     (λ (d : ℕ). value q (getD weights d 0) (column work d) (resultForm gate (joined .u) (joined .v)))) × (length next ≡ length next₀)
 
 abbrev μ-loop : tie.MeasureT-loop
-μ-loop next₀ work weights gate own opened o at joined c₀ next c = length weights - c
+μ-loop next₀ work weights gate own opened tops o at joined c₀ next c = length weights - c
 
 loop-holds : tie.Need-loop-holds Inv-loop μ-loop
 loop-holds c = (omega arith, sym (stride-none 16 _ _ _), refl)
 
-gate-value-requires : tie.Need-gate-value-requires Inv-loop μ-loop
-gate-value-requires c κs =
-    let p = c .before .before .before .before .before .before .before .before .before .before .before .before .before .before .before .before .pre in
-    let at = c .before .before .before .before .loop in
-    (p .0, ((omega arith, p .1 .1 .0 .1 _, p .1 .1 .0 .1 _), p .1 .1 .1 (at .c) (omega arith)))
+shared-slice-read-t17 : tie.Need-shared-slice-read-t17 Inv-loop μ-loop
+shared-slice-read-t17 c = omega (arith, c .before .before .before .before .before .before .before .before .before .before .before .pre .1 .1 .0 .0)
+
+shared-slice-read-t20 : tie.Need-shared-slice-read-t20 Inv-loop μ-loop
+shared-slice-read-t20 c = omega (arith, c .before .before .before .before .before .before .before .before .before .before .before .before .pre .1 .1 .0 .0)
+
+mul-next : tie.Need-mul-next Inv-loop μ-loop
+mul-next c = omega (arith, c .before .before .before .before .before .before .before .before .before .before .before .before .before .before .pre .0 .0 .which-two, c .before .before .before .before .before .before .before .before .before .before .before .before .before .before .pre .0 .0 .coefficient, c .before .before .before .before .before .before .before .before .before .before .before .before .before .before .pre .1 .0, c .before .loop .inv .0, c .before .loop .inv .2, c .loop-test .taken, c .before .before .before .before .before .before .before .before .before .before .before .before .before .before .good .0, c .before .before .before .before .before .before .before .before .before .before .before .before .before .before .good .1 .1 .0, c .before .before .before .before .before .before .before .before .before .before .before .before .before .before .good .1 .1 .1 .1 .0)
+
+shared-slice-read-next : tie.Need-shared-slice-read-next Inv-loop μ-loop
+shared-slice-read-next c = omega (arith, c .before .before .before .before .before .before .before .before .before .before .before .before .before .before .before .pre .0 .0 .which-two, c .before .before .before .before .before .before .before .before .before .before .before .before .before .before .before .pre .0 .0 .coefficient, c .before .before .before .before .before .before .before .before .before .before .before .before .before .before .before .pre .1 .0, c .before .before .loop .inv .0, c .before .before .loop .inv .2, c .before .loop-test .taken, c .before .before .before .before .before .before .before .before .before .before .before .before .before .before .before .good .0, c .before .before .before .before .before .before .before .before .before .before .before .before .before .before .before .good .1 .1 .0, c .before .before .before .before .before .before .before .before .before .before .before .before .before .before .before .good .1 .1 .1 .1 .0)
+
+mul-next-2 : tie.Need-mul-next-2 Inv-loop μ-loop
+mul-next-2 c = omega (arith, c .before .before .before .before .before .before .before .before .before .before .before .before .before .before .before .pre .0 .0 .which-two, c .before .before .before .before .before .before .before .before .before .before .before .before .before .before .before .pre .0 .0 .coefficient, c .before .before .before .before .before .before .before .before .before .before .before .before .before .before .before .pre .1 .0, c .before .before .loop .inv .0, c .before .before .loop .inv .2, c .before .loop-test .taken, c .before .before .before .before .before .before .before .before .before .before .before .before .before .before .before .good .0, c .before .before .before .before .before .before .before .before .before .before .before .before .before .before .before .good .1 .1 .0, c .before .before .before .before .before .before .before .before .before .before .before .before .before .before .before .good .1 .1 .1 .1 .0)
+
+add-next : tie.Need-add-next Inv-loop μ-loop
+add-next c = omega (arith, c .before .before .before .before .before .before .before .before .before .before .before .before .before .before .before .pre .0 .0 .which-two, c .before .before .before .before .before .before .before .before .before .before .before .before .before .before .before .pre .0 .0 .coefficient, c .before .before .before .before .before .before .before .before .before .before .before .before .before .before .before .pre .1 .0, c .before .before .loop .inv .0, c .before .before .loop .inv .2, c .before .loop-test .taken, c .before .before .before .before .before .before .before .before .before .before .before .before .before .before .before .good .0, c .before .before .before .before .before .before .before .before .before .before .before .before .before .before .before .good .1 .1 .0, c .before .before .before .before .before .before .before .before .before .before .before .before .before .before .before .good .1 .1 .1 .1 .0)
+
+mul-next-3 : tie.Need-mul-next-3 Inv-loop μ-loop
+mul-next-3 c = omega (arith, c .before .before .before .before .before .before .before .before .before .before .before .before .before .before .before .pre .0 .0 .which-two, c .before .before .before .before .before .before .before .before .before .before .before .before .before .before .before .pre .0 .0 .coefficient, c .before .before .before .before .before .before .before .before .before .before .before .before .before .before .before .pre .1 .0, c .before .before .loop .inv .0, c .before .before .loop .inv .2, c .before .loop-test .taken, c .before .before .before .before .before .before .before .before .before .before .before .before .before .before .before .good .0, c .before .before .before .before .before .before .before .before .before .before .before .before .before .before .before .good .1 .1 .0, c .before .before .before .before .before .before .before .before .before .before .before .before .before .before .before .good .1 .1 .1 .1 .0)
+
+shared-slice-read-next-2 : tie.Need-shared-slice-read-next-2 Inv-loop μ-loop
+shared-slice-read-next-2 c = omega (arith, c .before .before .before .before .before .before .before .before .before .before .before .before .before .before .before .before .pre .0 .0 .which-two, c .before .before .before .before .before .before .before .before .before .before .before .before .before .before .before .before .pre .0 .0 .coefficient, c .before .before .before .before .before .before .before .before .before .before .before .before .before .before .before .before .pre .1 .0, c .before .before .before .loop .inv .0, c .before .before .before .loop .inv .2, c .before .before .loop-test .taken, c .before .before .before .before .before .before .before .before .before .before .before .before .before .before .before .before .good .0, c .before .before .before .before .before .before .before .before .before .before .before .before .before .before .before .before .good .1 .1 .0, c .before .before .before .before .before .before .before .before .before .before .before .before .before .before .before .before .good .1 .1 .1 .1 .0)
+
+mul-t28 : tie.Need-mul-t28 Inv-loop μ-loop
+mul-t28 c = omega (arith, c .before .before .before .before .before .before .before .before .before .before .before .before .before .before .before .before .pre .0 .0 .which-two, c .before .before .before .before .before .before .before .before .before .before .before .before .before .before .before .before .pre .0 .0 .coefficient, c .before .before .before .before .before .before .before .before .before .before .before .before .before .before .before .before .pre .1 .0, c .before .before .before .loop .inv .0, c .before .before .before .loop .inv .2, c .before .before .loop-test .taken, c .before .before .before .before .before .before .before .before .before .before .before .before .before .before .before .before .good .0, c .before .before .before .before .before .before .before .before .before .before .before .before .before .before .before .before .good .1 .1 .0, c .before .before .before .before .before .before .before .before .before .before .before .before .before .before .before .before .good .1 .1 .1 .1 .0)
+
+add-t29 : tie.Need-add-t29 Inv-loop μ-loop
+add-t29 c = omega (arith, c .before .before .before .before .before .before .before .before .before .before .before .before .before .before .before .before .pre .0 .0 .which-two, c .before .before .before .before .before .before .before .before .before .before .before .before .before .before .before .before .pre .0 .0 .coefficient, c .before .before .before .before .before .before .before .before .before .before .before .before .before .before .before .before .pre .1 .0, c .before .before .before .loop .inv .0, c .before .before .before .loop .inv .2, c .before .before .loop-test .taken, c .before .before .before .before .before .before .before .before .before .before .before .before .before .before .before .before .good .0, c .before .before .before .before .before .before .before .before .before .before .before .before .before .before .before .before .good .1 .1 .0, c .before .before .before .before .before .before .before .before .before .before .before .before .before .before .before .before .good .1 .1 .1 .1 .0)
+
+add-t30 : tie.Need-add-t30 Inv-loop μ-loop
+add-t30 c = omega (arith, c .before .before .before .before .before .before .before .before .before .before .before .before .before .before .before .before .pre .0 .0 .which-two, c .before .before .before .before .before .before .before .before .before .before .before .before .before .before .before .before .pre .0 .0 .coefficient, c .before .before .before .before .before .before .before .before .before .before .before .before .before .before .before .before .pre .1 .0, c .before .before .before .loop .inv .0, c .before .before .before .loop .inv .2, c .before .before .loop-test .taken, c .before .before .before .before .before .before .before .before .before .before .before .before .before .before .before .before .good .0, c .before .before .before .before .before .before .before .before .before .before .before .before .before .before .before .before .good .1 .1 .0, c .before .before .before .before .before .before .before .before .before .before .before .before .before .before .before .before .good .1 .1 .1 .1 .0)
+
+mul-t31 : tie.Need-mul-t31 Inv-loop μ-loop
+mul-t31 c = omega (arith, c .before .before .before .before .before .before .before .before .before .before .before .before .before .before .before .before .pre .0 .0 .which-two, c .before .before .before .before .before .before .before .before .before .before .before .before .before .before .before .before .pre .0 .0 .coefficient, c .before .before .before .before .before .before .before .before .before .before .before .before .before .before .before .before .pre .1 .0, c .before .before .before .loop .inv .0, c .before .before .before .loop .inv .2, c .before .before .loop-test .taken, c .before .before .before .before .before .before .before .before .before .before .before .before .before .before .before .before .good .0, c .before .before .before .before .before .before .before .before .before .before .before .before .before .before .before .before .good .1 .1 .0, c .before .before .before .before .before .before .before .before .before .before .before .before .before .before .before .before .good .1 .1 .1 .1 .0)
+
+shared-slice-read-t33 : tie.Need-shared-slice-read-t33 Inv-loop μ-loop
+shared-slice-read-t33 c = omega (arith, c .before .before .before .before .before .before .before .before .before .before .before .before .before .before .before .before .before .pre .0 .0 .which-two, c .before .before .before .before .before .before .before .before .before .before .before .before .before .before .before .before .before .pre .0 .0 .coefficient, c .before .before .before .before .before .before .before .before .before .before .before .before .before .before .before .before .before .pre .1 .0, c .before .before .before .before .loop .inv .0, c .before .before .before .before .loop .inv .2, c .before .before .before .loop-test .taken, c .before .before .before .before .before .before .before .before .before .before .before .before .before .before .before .before .before .good .0, c .before .before .before .before .before .before .before .before .before .before .before .before .before .before .before .before .before .good .1 .1 .0, c .before .before .before .before .before .before .before .before .before .before .before .before .before .before .before .before .before .good .1 .1 .1 .1 .0)
 
 mul-next-4 : tie.Need-mul-next-4 Inv-loop μ-loop
-mul-next-4 c =
-    let p = c .before .before .before .before .before .before .before .before .before .before .before .before .before .before .before .before .before .pre in
-    let at = c .before .before .before .before .before .loop in
-    let loop-test = c .before .before .before .before .loop-test in
-    omega (arith, p .0 .which-two, p .0 .coefficient, p .1 .0, at .inv .0, at .inv .2, loop-test .taken)
+mul-next-4 c = omega (arith, c .before .before .before .before .before .before .before .before .before .before .before .before .before .before .before .before .before .before .pre .0 .0 .which-two, c .before .before .before .before .before .before .before .before .before .before .before .before .before .before .before .before .before .before .pre .0 .0 .coefficient, c .before .before .before .before .before .before .before .before .before .before .before .before .before .before .before .before .before .before .pre .1 .0, c .before .before .before .before .before .loop .inv .0, c .before .before .before .before .before .loop .inv .2, c .before .before .before .before .loop-test .taken, c .before .before .before .before .before .before .before .before .before .before .before .before .before .before .before .before .before .before .good .0, c .before .before .before .before .before .before .before .before .before .before .before .before .before .before .before .before .before .before .good .1 .1 .0, c .before .before .before .before .before .before .before .before .before .before .before .before .before .before .before .before .before .before .good .1 .1 .1 .1 .0)
 
 add-next-2 : tie.Need-add-next-2 Inv-loop μ-loop
-add-next-2 c =
-    let p = c .before .before .before .before .before .before .before .before .before .before .before .before .before .before .before .before .before .pre in
-    let at = c .before .before .before .before .before .loop in
-    let loop-test = c .before .before .before .before .loop-test in
-    omega (arith, p .0 .which-two, p .0 .coefficient, p .1 .0, at .inv .0, at .inv .2, loop-test .taken)
+add-next-2 c = omega (arith, c .before .before .before .before .before .before .before .before .before .before .before .before .before .before .before .before .before .before .pre .0 .0 .which-two, c .before .before .before .before .before .before .before .before .before .before .before .before .before .before .before .before .before .before .pre .0 .0 .coefficient, c .before .before .before .before .before .before .before .before .before .before .before .before .before .before .before .before .before .before .pre .1 .0, c .before .before .before .before .before .loop .inv .0, c .before .before .before .before .before .loop .inv .2, c .before .before .before .before .loop-test .taken, c .before .before .before .before .before .before .before .before .before .before .before .before .before .before .before .before .before .before .good .0, c .before .before .before .before .before .before .before .before .before .before .before .before .before .before .before .before .before .before .good .1 .1 .0, c .before .before .before .before .before .before .before .before .before .before .before .before .before .before .before .before .before .before .good .1 .1 .1 .1 .0)
 
 mul-next-5 : tie.Need-mul-next-5 Inv-loop μ-loop
-mul-next-5 c =
-    let p = c .before .before .before .before .before .before .before .before .before .before .before .before .before .before .before .before .before .pre in
-    let at = c .before .before .before .before .before .loop in
-    let loop-test = c .before .before .before .before .loop-test in
-    omega (arith, p .0 .which-two, p .0 .coefficient, p .1 .0, at .inv .0, at .inv .2, loop-test .taken)
+mul-next-5 c = omega (arith, c .before .before .before .before .before .before .before .before .before .before .before .before .before .before .before .before .before .before .pre .0 .0 .which-two, c .before .before .before .before .before .before .before .before .before .before .before .before .before .before .before .before .before .before .pre .0 .0 .coefficient, c .before .before .before .before .before .before .before .before .before .before .before .before .before .before .before .before .before .before .pre .1 .0, c .before .before .before .before .before .loop .inv .0, c .before .before .before .before .before .loop .inv .2, c .before .before .before .before .loop-test .taken, c .before .before .before .before .before .before .before .before .before .before .before .before .before .before .before .before .before .before .good .0, c .before .before .before .before .before .before .before .before .before .before .before .before .before .before .before .before .before .before .good .1 .1 .0, c .before .before .before .before .before .before .before .before .before .before .before .before .before .before .before .before .before .before .good .1 .1 .1 .1 .0)
 
 slice-write-next : tie.Need-slice-write-next Inv-loop μ-loop
-slice-write-next c =
-    let p = c .before .before .before .before .before .before .before .before .before .before .before .before .before .before .before .before .before .pre in
-    let at = c .before .before .before .before .before .loop in
-    let loop-test = c .before .before .before .before .loop-test in
-    omega (arith, p .0 .which-two, p .0 .coefficient, p .1 .0, at .inv .0, at .inv .2, loop-test .taken)
+slice-write-next c = omega (arith, c .before .before .before .before .before .before .before .before .before .before .before .before .before .before .before .before .before .before .pre .0 .0 .which-two, c .before .before .before .before .before .before .before .before .before .before .before .before .before .before .before .before .before .before .pre .0 .0 .coefficient, c .before .before .before .before .before .before .before .before .before .before .before .before .before .before .before .before .before .before .pre .1 .0, c .before .before .before .before .before .loop .inv .0, c .before .before .before .before .before .loop .inv .2, c .before .before .before .before .loop-test .taken, c .before .before .before .before .before .before .before .before .before .before .before .before .before .before .before .before .before .before .good .0, c .before .before .before .before .before .before .before .before .before .before .before .before .before .before .before .before .before .before .good .1 .1 .0, c .before .before .before .before .before .before .before .before .before .before .before .before .before .before .before .before .before .before .good .1 .1 .1 .1 .0)
 
 add-c : tie.Need-add-c Inv-loop μ-loop
-add-c c =
-    let p = c .before .before .before .before .before .before .before .before .before .before .before .before .before .before .before .before .before .pre in
-    let at = c .before .before .before .before .before .loop in
-    let loop-test = c .before .before .before .before .loop-test in
-    omega (arith, p .0 .which-two, p .0 .coefficient, p .1 .0, at .inv .0, at .inv .2, loop-test .taken)
+add-c c = omega (arith, c .before .before .before .before .before .before .before .before .before .before .before .before .before .before .before .before .before .before .pre .0 .0 .which-two, c .before .before .before .before .before .before .before .before .before .before .before .before .before .before .before .before .before .before .pre .0 .0 .coefficient, c .before .before .before .before .before .before .before .before .before .before .before .before .before .before .before .before .before .before .pre .1 .0, c .before .before .before .before .before .loop .inv .0, c .before .before .before .before .before .loop .inv .2, c .before .before .before .before .loop-test .taken, c .before .before .before .before .before .before .before .before .before .before .before .before .before .before .before .before .before .before .good .0, c .before .before .before .before .before .before .before .before .before .before .before .before .before .before .before .before .before .before .good .1 .1 .0, c .before .before .before .before .before .before .before .before .before .before .before .before .before .before .before .before .before .before .good .1 .1 .1 .1 .0)
 
 loop-less : tie.Need-loop-less Inv-loop μ-loop
-loop-less c =
+loop-less c = omega (arith, c .before .before .before .before .before .before .before .before .before .before .before .before .before .before .before .before .before .before .pre .0 .0 .which-two, c .before .before .before .before .before .before .before .before .before .before .before .before .before .before .before .before .before .before .pre .0 .0 .coefficient, c .before .before .before .before .before .before .before .before .before .before .before .before .before .before .before .before .before .before .pre .1 .0, c .before .before .before .before .before .loop .inv .0, c .before .before .before .before .before .loop .inv .2, c .before .before .before .before .loop-test .taken, c .before .before .before .before .before .before .before .before .before .before .before .before .before .before .before .before .before .before .good .0, c .before .before .before .before .before .before .before .before .before .before .before .before .before .before .before .before .before .before .good .1 .1 .0, c .before .before .before .before .before .before .before .before .before .before .before .before .before .before .before .before .before .before .good .1 .1 .1 .1 .0)
+
+gate-value-requires : tie.Need-gate-value-requires Inv-loop μ-loop
+gate-value-requires c κs =
     let p = c .before .before .before .before .before .before .before .before .before .before .before .before .before .before .before .before .before .pre in
-    let at = c .before .before .before .before .before .loop in
-    let loop-test = c .before .before .before .before .loop-test in
-    omega (arith, p .0 .which-two, p .0 .coefficient, p .1 .0, at .inv .0, at .inv .2, loop-test .taken)
+    let at = c .before .before .before .before .loop in
+    (p .0 .0, ((omega arith, p .1 .1 .0 .1 _, p .1 .1 .0 .1 _, p .0 .1), p .1 .1 .1 (at .c) (omega arith)))
 
 loop-again : tie.Need-loop-again Inv-loop μ-loop
 loop-again c =
@@ -78,7 +93,7 @@ loop-again c =
 
 returns : tie.Need-returns Inv-loop μ-loop
 returns c =
-    let a = c .before .before .before .before .before .before .before .before .before .before .before .before .before .args in
+    let a = c .before .before .before .before .before .before .before .before .before .before .before .before .before .before .args in
     let e : c .before .loop .c ≡ length (a .weights .now) = omega arith in rw e at (c .before .loop .inv .1)
 
 pub results-into-spec : {M : Type 1} → statement M
@@ -93,22 +108,22 @@ results-into-spec =
     (λ c. omega arith)
     (λ c. omega arith)
     (λ c. omega arith)
+    shared-slice-read-t17
     (λ c. omega arith)
     (λ c. omega arith)
-    (λ c. omega arith)
-    (λ c. omega arith)
+    shared-slice-read-t20
     loop-holds
-    (λ c. omega arith)
-    (λ c. omega arith)
-    (λ c. omega arith)
-    (λ c. omega arith)
-    (λ c. omega arith)
-    (λ c. omega arith)
-    (λ c. omega arith)
-    (λ c. omega arith)
-    (λ c. omega arith)
-    (λ c. omega arith)
-    (λ c. omega arith)
+    mul-next
+    shared-slice-read-next
+    mul-next-2
+    add-next
+    mul-next-3
+    shared-slice-read-next-2
+    mul-t28
+    add-t29
+    add-t30
+    mul-t31
+    shared-slice-read-t33
     gate-value-requires
     mul-next-4
     add-next-2

@@ -16,22 +16,22 @@ use Rattle.column.proofs.v_into.Statement.{statement}
 use Rattle.column.proofs.v_into.Tie as tie
 
 abbrev Inv-loop : tie.InvT-loop
-Inv-loop out₀ at work columns gate f₀ out f = (f ≤ columns .count) × ((κ : ℕ → ℕ) → out ≡ fillBy mostOpenings out₀ at f
+Inv-loop out₀ at work columns gate tops f₀ out f = (f ≤ columns .count) × ((κ : ℕ → ℕ) → out ≡ fillBy mostOpenings out₀ at f
     (λ (d : ℕ). value q (κ d) (column work (columnAt (columns .skip) d)) (openV gate))) × (length out ≡ length out₀)
 
 abbrev μ-loop : tie.MeasureT-loop
-μ-loop out₀ at work columns gate f₀ out f = columns .count - f
+μ-loop out₀ at work columns gate tops f₀ out f = columns .count - f
 
 loop-holds : tie.Need-loop-holds Inv-loop μ-loop
 loop-holds c = (omega arith, λ κ. sym (stride-none mostOpenings _ _ _), refl)
 
 open-v-requires : tie.Need-open-v-requires Inv-loop μ-loop
-open-v-requires c κs = (c .before .before .before .before .before .before .pre .0, omega (arith, c .column-at .ensures .1))
+open-v-requires c κs = (c .before .before .before .before .before .before .before .pre .0 .0, (omega (arith, c .column-at .ensures .1), c .before .before .before .before .before .before .before .pre .0 .1))
 
 loop-again : tie.Need-loop-again Inv-loop μ-loop
 loop-again c =
     let at = c .before .before .before .before .loop in
-    let a = c .before .before .before .before .before .before .before .args in
+    let a = c .before .before .before .before .before .before .before .before .args in
     let column-at = c .before .column-at in (
       omega arith,
       λ κ. stride-more mostOpenings _ _ _ _ _ _ (at .inv .1 κ)
@@ -40,7 +40,7 @@ loop-again c =
     )
 
 returns : tie.Need-returns Inv-loop μ-loop
-returns c = λ κ. let e : c .before .before .loop .f ≡ c .before .before .before .before .before .args .columns .count = omega arith in rw e at (c .before .before .loop .inv .1 κ)
+returns c = λ κ. let e : c .before .before .loop .f ≡ c .before .before .before .before .before .before .args .columns .count = omega arith in rw e at (c .before .before .loop .inv .1 κ)
 
 pub v-into-spec : {M : Type 1} → statement M
 v-into-spec =

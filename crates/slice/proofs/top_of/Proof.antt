@@ -1,17 +1,22 @@
--- `slice::top_of` meets its contract.
+-- `slice::top_of` meets its contract: the law of the lists.
+use mathlib.Core.Path.{_≡_, ap, _∙_}
+use Prim.Native.Nat.{_+_, _*_}
 use native.Mathlib.Omega.{arith}
-use borrow.Author.Tests.{lt-ltb, le-ltb}
-use Rattle.rounding.specs.Rounds.{top}
+use lib.ListN.{length}
+use Rattle.settings.proofs.Sets.{top-length, top-entry, top-le}
 use Rattle.slice.proofs.top_of.Statement.{statement}
 use Rattle.slice.proofs.top_of.Tie as tie
 
-returns : tie.Need-returns
-unfolding top
-returns c = (rw (lt-ltb _ _ (c .if1 .taken)), omega arith)
+inside : tie.Need-shared-slice-read-result
+inside c =
+    let long : length (c .before .args .tops .now) ≡ 2 * c .before .args .s + 2 = ap length (c .before .pre .0) ∙ top-length (c .before .args .s) in
+    omega (arith, long)
 
-returns-2 : tie.Need-returns-2
-unfolding top
-returns-2 c = (rw (le-ltb _ _ (c .if1 .left)), omega arith)
+returns : tie.Need-returns
+returns c =
+    let a = c .before .args in
+    let t = top-entry (a .tops .now) (a .s) (a .d) (c .before .pre .0) (c .before .pre .1) in
+    (t, omega (arith, t, top-le (a .s) (a .d)))
 
 pub top-of-spec : {M : Type 1} → statement M
-top-of-spec = tie.close (tie.spec returns returns-2)
+top-of-spec = tie.close (tie.spec (λ c. omega arith) inside returns)

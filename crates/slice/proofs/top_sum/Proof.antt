@@ -11,25 +11,30 @@ use Rattle.slice.proofs.top_sum.Statement.{statement}
 use Rattle.slice.proofs.top_sum.Tie as tie
 
 abbrev Inv-loop : tie.InvT-loop
-Inv-loop work col place n s d total₀ j₀ total j =
-    (j ≤ n) × (total ≡ sumTo j (λ (i : ℕ). top s (i + d) * column work col (place + i))) × (total ≤ j * 562949953421312)
+Inv-loop work col terms tops s d total₀ j₀ total j =
+    (j ≤ terms .n) × (total ≡ sumTo j (λ (i : ℕ). top s (i + d) * column work col (terms .place + i))) × (total ≤ j * 72057594037927936)
 
 abbrev μ-loop : tie.MeasureT-loop
-μ-loop work col place n s d total₀ j₀ total j = n - j
+μ-loop work col terms tops s d total₀ j₀ total j = terms .n - j
 
 loop-holds : tie.Need-loop-holds Inv-loop μ-loop
 unfolding sumTo
 loop-holds c = (omega arith, refl, omega arith)
 
+top-of-requires : tie.Need-top-of-requires Inv-loop μ-loop
+top-of-requires c κs =
+    let fits = c .before .before .before .before .before .before .pre .3 in
+    (fits .0, omega (arith, fits))
+
 loop-again : tie.Need-loop-again Inv-loop μ-loop
 unfolding sumTo
 loop-again c =
-    (omega arith, rw (add-one, ← c .before .before .top-of .ensures .0, ← c .before .register .ensures, ← c .times .ensures .0, ← c .before .before .before .before .loop .inv .1), omega arith)
+    (omega arith, rw (add-one, ← c .before .before .before .top-of .ensures .0, ← c .before .register .ensures, ← c .times .ensures .0, ← c .before .before .before .before .before .before .loop .inv .1), omega arith)
 
 returns : tie.Need-returns Inv-loop μ-loop
 returns c =
-    let e : c .before .loop .j ≡ c .before .before .before .args .n = omega arith in
-    rw (← e) (ap (λ (x : ℕ). x % q) (c .before .loop .inv .1))
+    let e : c .before .before .loop .j ≡ c .before .before .before .before .before .before .args .terms .n = omega arith in
+    rw (← e) (ap (λ (x : ℕ). x % q) (c .before .before .loop .inv .1))
 
 pub top-sum-spec : {M : Type 1} → statement M
 top-sum-spec =
@@ -37,10 +42,10 @@ top-sum-spec =
     (tie.spec
     Inv-loop
     μ-loop
+    (λ c. omega arith)
     loop-holds
     (λ c. omega arith)
-    (λ c. omega arith)
-    (λ c κs. tt)
+    top-of-requires
     (λ c. omega arith)
     (λ c κs. omega arith)
     (λ c κs. omega arith)

@@ -11,23 +11,28 @@ use Rattle.slice.proofs.weighted_sum.Statement.{statement}
 use Rattle.slice.proofs.weighted_sum.Tie as tie
 
 zero-entry-requires : tie.Need-zero-entry-requires
-zero-entry-requires c κs = omega (arith, c .before .before .before .pre .1 (c .enum-told2 .given .1))
+zero-entry-requires c κs = omega (arith, c .before .before .before .before .pre .1 .0 (c .enum-told2 .given .1))
 
 register-requires : tie.Need-register-requires
-register-requires c κs = omega (arith, c .before .before .before .before .pre .1 (c .before .enum-told2 .given .1))
+register-requires c κs = omega (arith, c .before .before .before .before .before .pre .1 .0 (c .before .enum-told2 .given .1))
+
+top-sum-requires : tie.Need-top-sum-requires
+top-sum-requires c κs =
+    let fits = c .before .before .before .before .pre .1 .1 (c .enum-told3 .given .1) in
+    (omega arith, omega arith, omega arith, fits)
 
 returns : tie.Need-returns
 returns c κ =
-    let a = c .before .before .before .before .before .args in
+    let a = c .before .before .before .before .before .before .args in
     rw (c .before .before .enum-told .given .1)
     (c .part-sum .ensures ∙ rw (c .before .less-by .ensures) (ap (λ (x : ℕ). x % q)
     (sym (carry-sum (a .terms .n) (a .terms .limit) (a .terms .digit) (λ (j : ℕ). column (a .work .now) (a .col) (a .terms .place + j))))))
 
 returns-2 : tie.Need-returns-2
 returns-2 c κ =
-    let a = c .before .before .before .before .before .args in
+    let a = c .before .before .before .before .before .before .args in
     let told = c .before .before .enum-told2 .given .1 in
-    let z = c .before .before .before .before .before .pre .1 told in
+    let z = c .before .before .before .before .before .before .pre .1 .0 told in
     let entry = c .before .zero-entry in
     rw (told, z .0)
     (ap (λ (x : ℕ). x % q) (c .register .ensures ∙ sym (zero-sum (a .terms .limit) (a .terms .digit) (entry .result) (z .1) (entry .ensures .0)
@@ -39,14 +44,14 @@ returns-3 c κ = rw (c .before .enum-told3 .given .1) (c .top-sum .ensures)
 
 returns-4 : tie.Need-returns-4
 returns-4 c κ =
-    let a = c .before .before .before .before .before .args in
+    let a = c .before .before .before .before .before .before .args in
     rw (c .before .before .enum-told4 .given .1)
     (c .part-sum2 .ensures ∙ rw (c .before .less-by2 .ensures) (ap (λ (x : ℕ). x % q)
     (sym (over-sum (a .terms .n) (a .terms .limit) (a .terms .digit) (λ (j : ℕ). column (a .work .now) (a .col) (a .terms .place + j))))))
 
 returns-5 : tie.Need-returns-5
 returns-5 c κ =
-    let a = c .before .before .before .before .before .args in
+    let a = c .before .before .before .before .before .before .args in
     rw (c .before .before .enum-told5 .given .1)
     (c .part-sum3 .ensures ∙ rw (c .before .least .ensures .0) (ap (λ (x : ℕ). x % q)
     (sym (below-sum (a .terms .n) (a .terms .limit) (a .terms .digit) (λ (j : ℕ). column (a .work .now) (a .col) (a .terms .place + j))))))
@@ -64,7 +69,7 @@ weighted-sum-spec =
     (λ c. search needs)
     register-requires
     (λ c. search needs)
-    (λ c κs. search needs)
+    top-sum-requires
     (λ c. search needs)
     (λ c. search needs)
     (λ c κs. search needs)

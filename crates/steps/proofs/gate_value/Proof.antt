@@ -17,8 +17,8 @@ returns c =
     let register2 = c .before .before .before .before .before .before .before .register2 in
     let register3 = c .before .before .before .before .before .register3 in
     let addend-value = c .before .before .before .before .before .before .before .before .before .before .before .before .addend-value in
-    let p = c .before .before .before .before .before .before .before .before .before .before .before .before .before .before .pre in
-    let a = c .before .before .before .before .before .before .before .before .before .before .before .before .before .before .args in
+    let p = c .before .before .before .before .before .before .before .before .before .before .before .before .before .before .before .pre in
+    let a = c .before .before .before .before .before .before .before .before .before .before .before .before .before .before .before .args in
     let κ = a .col .weight in
     let r = column (a .work .now) (a .col .index) in
     rw (c .times3 .ensures .0, c .before .before .mul-mod .ensures, times .ensures .0, times2 .ensures .0, register .ensures, register2 .ensures, register3 .ensures, addend-value .ensures κ)

@@ -4,15 +4,14 @@ use native.Mathlib.Nat.{add-zero}
 use native.Mathlib.Omega.{arith}
 use borrow.Author.Tests.{eq-eqb, ne-eqb}
 use borrow.Author.Needs.{needs}
+use Rattle.steps.proofs.Gates.{top-ready}
 use Rattle.steps.proofs.v_value.Statement.{statement}
 use Rattle.steps.proofs.v_value.Tie as tie
 
 raised-by-requires : tie.Need-raised-by-requires
-raised-by-requires c κs = (
-  omega arith,
-  λ rule.
-      (c .before .before .before .before .pre .0 .terms-fit .zero-fits rule, omega (arith, c .before .before .before .before .pre .0 .terms-fit .zero-fits rule)),
-)
+raised-by-requires c κs =
+    let fits = c .before .before .before .before .before .pre .0 .terms-fit in
+    (omega arith, (λ rule. (fits .zero-fits rule, omega (arith, fits .zero-fits rule)), top-ready _ _ fits (c .before .before .before .before .before .pre .1 .1)))
 
 returns : tie.Need-returns
 unfolding vForm
