@@ -1,16 +1,13 @@
 -- The parts of a result put one behind another.
 use Prim.Native.Nat.{ℕ, _<_}
-use mathlib.Core.Path.{_≡_, refl, sym, ap, _∙_}
+use mathlib.Core.Path.{_≡_, refl}
 use mathlib.Core.List.{List, [], _∷_, _++_}
 use native.Mathlib.Omega.{arith}
 use lib.ListN.{length, getD, drop}
-use Rattle.text.specs.Text.{Text, puts, decimal, numbersText}
-use Rattle.text.proofs.Puts.{puts-append}
+use Rattle.text.specs.Text.{decimal, numbersText}
 use Rattle.desk.specs.Desk.{partText}
-
 -- one part behind another
-pub put-then : {a b : Text} (s : Text) (xs ys : List ℕ) → a ≡ puts s xs → b ≡ puts a ys → b ≡ puts s (xs ++ ys)
-put-then s xs ys p q = q ∙ ap (λ (t : Text). puts t ys) p ∙ puts-append s xs ys
+pub use Rattle.text.proofs.Puts.{put-then}
 
 -- the numbers of a part
 pub part-none : (part : List ℕ) → length part ≡ 0 → partText part ≡ []

@@ -17,6 +17,10 @@ unfolding puts
 puts-append t [] bs = refl
 puts-append t (a ∷ xs) bs = puts-append (put t a) xs bs
 
+-- one part behind another
+pub put-then : {a b : Text} (s : Text) (xs ys : List ℕ) → a ≡ puts s xs → b ≡ puts a ys → b ≡ puts s (xs ++ ys)
+put-then s xs ys p q = q ∙ ap (λ (t : Text). puts t ys) p ∙ puts-append s xs ys
+
 -- ---- room
 
 put-length : (t : Text) (b : ℕ) → length (put t b .bytes) ≡ length (t .bytes)

@@ -19,10 +19,8 @@ use Rattle.settings.specs.Schedule.{rounds}
 use Rattle.state.specs.declared.Side.{Side}
 use Rattle.state.specs.State.{AfterAnswer}
 use Rattle.transcript.specs.Transcript.{roundOf, sizeOf, messageLine, messageLines, answerLeft, answerOrRefusal, answersText}
-
 -- one part behind another
-pub put-then : {a b : Text} (s : Text) (xs ys : List ℕ) → a ≡ puts s xs → b ≡ puts a ys → b ≡ puts s (xs ++ ys)
-put-then s xs ys p q = q ∙ ap (λ (t : Text). puts t ys) p ∙ puts-append s xs ys
+pub use Rattle.text.proofs.Puts.{put-then}
 
 -- ---- A list as far as there are so many members
 

@@ -1,0 +1,2 @@
+-- The page of t(d).
+pub mod Page
