@@ -6,7 +6,7 @@ use mathlib.Core.Bool.{Bool, true, cond, _&&_}
 use mathlib.Core.List.{List}
 use lib.Dec.{eqb}
 use lib.ListN.{length, getD}
-use Rattle.settings.specs.Sets.{scaleOf, topDigits}
+use Rattle.settings.specs.Sets.{scaleOf}
 use Rattle.settings.specs.Sizes.{openings, mostOpenings, places}
 use Rattle.field.specs.Field.{q}
 use Rattle.field.specs.Forms.{value}
@@ -78,7 +78,7 @@ maskedAfter round opened work = cond (eqb round 1) opened (maskedIn work)
 abbrev pub sumsTop : ℕ → ℕ → Bool
 sumsTop kind round = eqb kind 0 && eqb round 5
 
--- the list that a round of gates is lent: where it sums F and F′, that of its set; no other sum reads it
-abbrev pub RoundList : Context → List ℕ → Type 0
-RoundList known tops =
-    sumsTop (known .settings .shape .kind) (known .round) ≡ true → tops ≡ topDigits (scaleOf (known .settings .shape .set) .parts)
+-- the list that a round of gates is lent: where it sums F and F′, the one for s of its set; no other sum reads it
+abbrev pub RoundList : (ℕ → List ℕ) → Context → List ℕ → Type 0
+RoundList lists known list =
+    sumsTop (known .settings .shape .kind) (known .round) ≡ true → list ≡ lists (scaleOf (known .settings .shape .set) .parts)

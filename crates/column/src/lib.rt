@@ -9,9 +9,11 @@ ghost use lib.ListN.{length, getD};
 ghost use Rattle.lists.specs.Lists.{fill, fillBy, allBelow};
 ghost use Rattle.field.specs.Field.{q};
 ghost use Rattle.field.specs.Forms.{value};
+ghost use Rattle.settings.specs.Sets.{topDigits};
 ghost use Rattle.settings.specs.Settings.{paramsOf, termsOf};
 ghost use Rattle.settings.specs.Sizes.{openings, mostOpenings, places, width};
 ghost use Rattle.settings.specs.Questions.{Ready};
+ghost use Rattle.slice.specs.Weights.{topRises};
 ghost use Rattle.slice.specs.Layout.{ownAt, runningAt, column, maskedIn};
 ghost use Rattle.steps.specs.Work.{openingOn, runningOn, takenColumns, takenWork};
 ghost use Rattle.steps.specs.Context.{publicBy, ContextOf, SplitsBelow};
@@ -31,6 +33,7 @@ use slice::OWN;
 use slice::SECOND;
 use slice::Weighted;
 use slice::register;
+use slice::rises_into;
 use steps::Column;
 use steps::Context;
 use steps::Factors;
@@ -169,22 +172,35 @@ fn u_into(out: &mut [u32], at: usize, work: &[u32], columns: ColumnChoice, gate:
 }
 
 // v − b.
-fn v_into(out: &mut [u32], at: usize, work: &[u32], columns: ColumnChoice, gate: Gate, tops: &[u32])
-    requires { ⌜ GateFits gate × Listed (gate .terms) (now tops) ⌝ }
+fn v_into(
+    out: &mut [u32],
+    at: usize,
+    work: &[u32],
+    columns: ColumnChoice,
+    gate: Gate,
+    rises: &[u32],
+)
+    requires { ⌜ GateFits gate × Listed topRises (gate .terms) (now rises) ⌝ }
     requires { ⌜ (at < mostOpenings) × (mostOpenings * columns .count ≤ length (now out)) × ((columns .count + columns .skip) * places ≤ length (now work)) × (columns .count + columns .skip ≤ 4294967296) ⌝ }
     ensures { λ _. ⌜ ((κ : ℕ → ℕ) → now (out .exit) ≡ fillBy mostOpenings (now (out .entry)) at (columns .count)
         (λ (f : ℕ). value q (κ f) (column (now (work .entry)) (columnAt (columns .skip) f)) (openV gate))) ⌝ }
 {
     let mut f = 0;
     while f < columns.count {
-        out[at + MOST_OPENINGS * f] = open_v(work, column_at(columns, f), gate, tops);
+        out[at + MOST_OPENINGS * f] = open_v(work, column_at(columns, f), gate, rises);
         f += 1;
     }
 }
 
-// Rounds 2 to 5: gate by gate, each made once for all columns, with the round's list.
-fn prepare_gates(out: &mut [u32], work: &[u32], columns: ColumnChoice, known: Context, tops: &[u32])
-    requires { ⌜ Ready (known .settings) × SplitsBelow known × RoundList known (now tops) ⌝ }
+// Rounds 2 to 5: gate by gate, each made once for all columns, with the round's list for F′ − F.
+fn prepare_gates(
+    out: &mut [u32],
+    work: &[u32],
+    columns: ColumnChoice,
+    known: Context,
+    rises: &[u32],
+)
+    requires { ⌜ Ready (known .settings) × SplitsBelow known × RoundList topRises known (now rises) ⌝ }
     requires { ⌜ (2 ≤ known .round) × (known .round ≤ 5) ⌝ }
     requires { ⌜ (mostOpenings * columns .count ≤ length (now out)) × ((columns .count + columns .skip) * places ≤ length (now work)) × (columns .count + columns .skip ≤ 4294967296) ⌝ }
     ensures { λ _. ⌜ ((masked : ℕ → ℕ) (κs : List ℕ) → ContextOf (known .settings) (known .round) masked known
@@ -198,7 +214,7 @@ fn prepare_gates(out: &mut [u32], work: &[u32], columns: ColumnChoice, known: Co
         let split = known.splits[x];
         let gate = gate_of(shape, split, g, i);
         u_into(out, 2 * g, work, columns, gate);
-        v_into(out, 2 * g + 1, work, columns, gate, tops);
+        v_into(out, 2 * g + 1, work, columns, gate, rises);
         g += 1;
     }
 }
@@ -227,10 +243,14 @@ fn prepare_digits(out: &mut [u32], work: &[u32], columns: ColumnChoice, known: C
         return;
     }
     if shape.set == 0 {
-        prepare_gates(out, work, columns, known, &top_digits_0());
+        let mut rises = [0u32; 89];
+        rises_into(&mut rises, &top_digits_0());
+        prepare_gates(out, work, columns, known, &rises);
         return;
     }
-    prepare_gates(out, work, columns, known, &top_digits_1());
+    let mut rises = [0u32; 33];
+    rises_into(&mut rises, &top_digits_1());
+    prepare_gates(out, work, columns, known, &rises);
 }
 
 // A side's numbers for the openings of a round, in a choice of columns: 32 places of `out` for each. Crate opening asks for round 1 to 7,
@@ -275,7 +295,7 @@ pub fn prepare(
 
 // The sum of a gate in all columns, at a place of each: what round 1 makes of digit 0.
 fn sums_into(next: &mut [u32], at: usize, work: &[u32], columns: usize, terms: Weighted)
-    requires { ⌜ TermsFit terms × Listed terms [] ⌝ }
+    requires { ⌜ TermsFit terms × Listed topDigits terms [] ⌝ }
     requires { ⌜ (at < 16) × (16 * columns ≤ length (now next)) × (columns * places ≤ length (now work)) ⌝ }
     ensures { λ _. ⌜ ((κ : ℕ → ℕ) → now (next .exit) ≡ fillBy 16 (now (next .entry)) at columns (λ (c : ℕ). value q (κ c) (column (now (work .entry)) c) (sumForm terms 0))) ⌝ }
 {
@@ -296,7 +316,7 @@ fn results_into(
     opened: &[u32],
     tops: &[u32],
 )
-    requires { ⌜ GateFits gate × Listed (gate .terms) (now tops) ⌝ }
+    requires { ⌜ GateFits gate × Listed topDigits (gate .terms) (now tops) ⌝ }
     requires { ⌜ (16 * length (now weights) ≤ length (now next)) × (length (now work) ≡ length (now weights) * places) × (mostOpenings * length (now weights) ≤ length (now own)) ⌝ }
     requires { ⌜ (4 * gate .j + 2 * gate .which + 1 < length (now opened)) × ((o : ℕ) → getD (now opened) o 0 < q) ⌝ }
     requires { ⌜ ((c : ℕ) → c < length (now weights)
@@ -345,7 +365,7 @@ fn first_registers(next: &mut [u32], work: &[u32], columns: usize, known: Contex
     }
 }
 
-// Rounds 2 to 5: gate by gate, each made once for all columns, with the round's list.
+// Rounds 2 to 5: gate by gate, each made once for all columns, with the round's list for F.
 fn gate_registers(
     next: &mut [u32],
     work: &[u32],
@@ -355,7 +375,7 @@ fn gate_registers(
     opened: &[u32],
     tops: &[u32],
 )
-    requires { ⌜ Ready (known .settings) × SplitsBelow known × RoundList known (now tops) ⌝ }
+    requires { ⌜ Ready (known .settings) × SplitsBelow known × RoundList topDigits known (now tops) ⌝ }
     requires { ⌜ (2 ≤ known .round) × (known .round ≤ 5) × (16 * length (now weights) ≤ length (now next)) × (length (now work) ≡ length (now weights) * places) ⌝ }
     requires { ⌜ (mostOpenings * length (now weights) ≤ length (now own)) × (4 * known .settings .shape .n ≤ length (now opened)) × ((o : ℕ) → getD (now opened) o 0 < q) ⌝ }
     requires { ⌜ GatesHeld known (now weights) (now work) (now own) ⌝ }

@@ -1,21 +1,26 @@
 -- Sums that go through the entries of weight 1 alone.
-use mathlib.Core.Path.{_≡_, refl, ap, _∙_}
+use mathlib.Core.Path.{_≡_, refl, ap, ap₂, _∙_}
 use mathlib.Core.Bool.{cond}
+use mathlib.Core.List.{List}
 use mathlib.Core.Logic.{_⊎_, inl, inr, _≢_}
 use Prim.Native.Nat.{ℕ, suc, _+_, _*_, _-_, _%_, _≤_, _<_, min}
 use native.Mathlib.Omega.{arith}
 use native.Mathlib.Decide.{decLt, decLe}
 use lib.Dec.{leb, ltb}
+use lib.ListN.{length, getD}
 use borrow.Author.Tests.{lt-ltb, le-ltb, le-leb, lt-leb, ne-eqb}
 use Rattle.lists.specs.Answers.{bit}
+use Rattle.lists.specs.Lists.{listTo}
+use Rattle.lists.proofs.Lists.{length-listFrom, getD-listTo, listTo-cong}
 use Rattle.field.specs.Field.{q, sub}
 use Rattle.field.specs.Sums.{sumTo}
 use Rattle.field.proofs.Division.{mod-elim}
-use Rattle.field.proofs.Sums.{sum-one, sum-from, sum-below, sum-raised, sum-risen}
+use Rattle.field.proofs.Sums.{sum-cong, sum-one, sum-from, sum-below, sum-raised, sum-risen}
 use Rattle.field.proofs.Differences.{difference-of}
-use Rattle.settings.proofs.Sets.{top-le}
+use Rattle.settings.specs.Sets.{topDigits}
+use Rattle.settings.proofs.Sets.{top-length, top-entry, top-le}
 use Rattle.rounding.specs.Rounds.{top}
-use Rattle.slice.specs.Weights.{weigh}
+use Rattle.slice.specs.Weights.{weigh, topRises}
 use Rattle.slice.specs.declared.Rule.{Rule}
 use Rattle.slice.specs.declared.Rule.the-variants.{Carry, Zero, Over, Below}
 
@@ -139,13 +144,52 @@ module _ (n b d : ℕ) (r : ℕ → ℕ) where
       same : (j : ℕ) → j < n → j ≢ d → weigh Below b (d + 1) j ≡ weigh Below b d j
       same j l ne = equal j ne (decLt j d)
 
--- F′ − F, entry by entry
-pub top-raised : (n s d : ℕ) (r : ℕ → ℕ) → n + d ≤ q
-    → sumTo n (λ j. (top s (j + (d + 1)) + q - top s (j + d)) * r j) % q ≡ sub q (sumTo n (λ j. top s (j + (d + 1)) * r j) % q) (sumTo n (λ j. top s (j + d) * r j) % q)
-top-raised n s d r h =
-    difference-of low _
-    ∙ ap (λ (x : ℕ). sub q x (low % q))
-    (ap (λ (x : ℕ). x % q) (sum-risen n q (λ j. top s (j + d)) (λ j. top s (j + (d + 1))) r (λ j l. omega (arith, top-le s (j + d)))) ∙ omega arith)
-  where
-    low : ℕ
-    low = sumTo n (λ j. top s (j + d) * r j)
+-- ---- weights from a list: t(d) for F, its growth for F′ − F
+
+module _ (n s d : ℕ) (r : ℕ → ℕ) (list : List ℕ) (room : n ≤ s + 1) (most : d ≤ s) where
+  pub top-listed : list ≡ topDigits s → sumTo n (λ x. getD list (x + d) 0 * r x) ≡ sumTo n (λ x. top s (x + d) * r x)
+  top-listed e = sum-cong n _ _ (λ x l. ap (λ (t : ℕ). t * r x) (top-entry list s (x + d) e (omega arith)))
+
+  risen : list ≡ topRises s → sumTo n (λ x. getD list (x + d) 0 * r x) ≡ sumTo n (λ x. (top s (x + (d + 1)) + q - top s (x + d)) * r x)
+  unfolding topRises
+  risen e =
+      sum-cong n _ _
+      (λ x l.
+      let same : x + d + 1 ≡ x + (d + 1) = omega arith in
+      ap (λ (t : ℕ). t * r x)
+      (rw e (getD-listTo (2 * s + 1) (λ (k : ℕ). top s (k + 1) + q - top s k) (x + d) 0 (omega arith)) ∙ ap (λ (k : ℕ). top s k + q - top s (x + d)) same))
+
+  pub top-raised : s ≤ 45 → list ≡ topRises s
+      → sumTo n (λ x. getD list (x + d) 0 * r x) % q ≡ sub q (sumTo n (λ x. top s (x + (d + 1)) * r x) % q) (sumTo n (λ x. top s (x + d) * r x) % q)
+  top-raised small e =
+      ap (λ (x : ℕ). x % q) (risen e)
+      ∙ difference-of low _
+      ∙ ap (λ (x : ℕ). sub q x (low % q))
+      (ap (λ (x : ℕ). x % q) (sum-risen n q (λ j. top s (j + d)) (λ j. top s (j + (d + 1))) r (λ j l. omega (arith, top-le s (j + d)))) ∙ omega arith)
+    where
+      low : ℕ
+      low = sumTo n (λ j. top s (j + d) * r j)
+
+-- how long the lists are, and that no entry is large
+pub rises-length : (s : ℕ) → length (topRises s) ≡ 2 * s + 1
+unfolding topRises
+rises-length s = length-listFrom 0 (2 * s + 1) (λ (d : ℕ). top s (d + 1) + q - top s d)
+
+pub tops-small : (s : ℕ) (list : List ℕ) → s ≤ 45 → list ≡ topDigits s → (i : ℕ) → i < length list → getD list i 0 ≤ q
+tops-small s list small e i h =
+    let l = ap length e ∙ top-length s in
+    omega (arith, top-entry list s i e (omega arith), top-le s i, l)
+
+pub rises-small : (s : ℕ) (list : List ℕ) → s ≤ 45 → list ≡ topRises s → (i : ℕ) → i < length list → getD list i 0 < 16777216
+unfolding topRises
+rises-small s list small e i h =
+    let l = ap length e ∙ rises-length s in
+    let t : getD list i 0 ≡ top s (i + 1) + q - top s i = rw e (getD-listTo (2 * s + 1) (λ (d : ℕ). top s (d + 1) + q - top s d) i 0 (omega arith)) in
+    rw t (omega (arith, top-le s (i + 1), l))
+
+-- the growth of a list of t(d)
+pub rises-are : (s n : ℕ) (list : List ℕ) → n ≡ 2 * s + 1 → list ≡ topDigits s → listTo n (λ (d : ℕ). getD list (d + 1) 0 + q - getD list d 0) ≡ topRises s
+unfolding topRises
+rises-are s n list long e =
+    rw long
+    (listTo-cong (2 * s + 1) _ _ (λ d h. ap₂ (λ (x y : ℕ). x + q - y) (top-entry list s (d + 1) e (omega arith)) (top-entry list s d e (omega arith))))

@@ -1,11 +1,12 @@
 -- Public weights: how the entries of a digit's vector are summed, for the public digit d. Entry x stands for the digit x of r.
-use Prim.Native.Nat.{ℕ, _+_, _%_, _≤_}
+use Prim.Native.Nat.{ℕ, _+_, _-_, _*_, _%_, _≤_}
 use mathlib.Core.Path.{_≡_}
 use mathlib.Core.Bool.{cond}
 use mathlib.Core.List.{List}
 use lib.Dec.{eqb, leb, ltb}
 use Rattle.lists.specs.Answers.{bit}
-use Rattle.settings.specs.Sets.{topDigits}
+use Rattle.lists.specs.Lists.{listTo}
+use Rattle.field.specs.Field.{q}
 use Rattle.rounding.specs.Rounds.{top, over}
 use Rattle.slice.specs.declared.Rule.{Rule}
 use Rattle.slice.specs.declared.Rule.the-variants.{Carry, Zero, Top, Over, Below}
@@ -28,6 +29,11 @@ weigh Below b d x = bit (ltb x d)
 unfoldable pub ruleOf : ℕ → ℕ → ℕ → Rule
 ruleOf kind i which = cond (eqb kind 0) (cond (ltb i 4) (cond (eqb which 0) Carry Zero) (cond (eqb which 0) Top Over)) Below
 
--- what Top's terms are read with: the list for their s; r's digit and y's are at most s. So d is at most 2s, and 2s + 1 with a carry
-abbrev pub TopFits : Weighted → List ℕ → Type 0
-TopFits t tops = (tops ≡ topDigits (t .limit)) × (t .n ≤ t .limit + 1) × (t .digit ≤ t .limit)
+-- F′ − F in the same way: what t(d) grows by from d to d + 1, modulo q, for d from 0 to 2s
+unfoldable pub topRises : ℕ → List ℕ
+topRises s = listTo (2 * s + 1) (λ (d : ℕ). top s (d + 1) + q - top s d)
+
+-- what the code reads Top's weights with: a list for their s, of t(d) or of its growth. r's digit and y's are at most s, so d is at
+-- most 2s, and 2s + 1 with a carry
+abbrev pub TopFits : (ℕ → List ℕ) → Weighted → List ℕ → Type 0
+TopFits lists t list = (list ≡ lists (t .limit)) × (t .n ≤ t .limit + 1) × (t .digit ≤ t .limit)

@@ -7,17 +7,16 @@ ghost use mathlib.Core.Logic.{_⊎_};
 ghost use Prim.Native.Nat.{ℕ, _+_, _*_, _-_, _%_, _≤_, _<_};
 ghost use lib.Dec.{leb, ltb};
 ghost use lib.ListN.{length, getD};
-ghost use Rattle.lists.specs.Lists.{fill};
-ghost use Rattle.field.specs.Field.{q, sub};
+ghost use Rattle.lists.specs.Lists.{fill, listTo};
+ghost use Rattle.field.specs.Field.{q};
 ghost use Rattle.field.specs.Forms.{value, sum, _⊟_};
 ghost use Rattle.field.specs.Sums.{sumTo};
-ghost use Rattle.rounding.specs.Rounds.{top};
 ghost use Rattle.settings.specs.Questions.{ShapeReady};
 ghost use Rattle.settings.specs.Sets.{topDigits};
 ghost use Rattle.settings.specs.Settings.{paramsOf};
 ghost use Rattle.settings.specs.Sizes.{keyCount, width, mostOpenings, shared, places, workLength};
 ghost use Rattle.slice.specs.Layout.{ownAt, column, ownIn, maskedIn, begunPlace, begunWork, weights};
-ghost use Rattle.slice.specs.Weights.{weigh, TopFits};
+ghost use Rattle.slice.specs.Weights.{weigh, topRises, TopFits};
 ghost use Rattle.slice.specs.declared.Rule.the-variants.{Zero, Top};
 use field::Q;
 use field::Q64;
@@ -181,14 +180,6 @@ fn less_by(a: u32, b: u32) -> u32
     a - b
 }
 
-// t(d), read from the list for s.
-fn top_of(tops: &[u32], s: u32, d: usize) -> u32
-    requires { ⌜ (now tops ≡ topDigits s) × (d ≤ 2 * s + 1) ⌝ }
-    ensures { λ r. ⌜ (r ≡ top s d) × (r ≤ d) ⌝ }
-{
-    tops[d]
-}
-
 // A weight times an entry.
 fn times(a: u32, b: u32) -> u64
     requires { ⌜ a < 16777216 ⌝ }
@@ -219,38 +210,33 @@ fn part_sum(work: &[u32], col: usize, place: usize, from: usize, to: usize) -> u
     (total % Q64) as u32
 }
 
-// F: each entry times its t(d), as the list has it.
-fn top_sum(work: &[u32], col: usize, terms: Weighted, tops: &[u32]) -> u32
-    requires { ⌜ ((col + 1) * places ≤ length (now work)) × (terms .place + terms .n ≤ ownAt 0) × (terms .limit ≤ 45) × TopFits terms (now tops) ⌝ }
-    ensures { λ r. ⌜ r ≡ sumTo (terms .n) (λ (x : ℕ). top (terms .limit) (x + terms .digit) * column (now (work .entry)) col (terms .place + x)) % q ⌝ }
+// The entries of the vector, entry x times entry x + d of the list, d the digit. Sums are reduced once.
+fn listed_sum(work: &[u32], col: usize, terms: Weighted, list: &[u32]) -> u32
+    requires { ⌜ ((col + 1) * places ≤ length (now work)) × (terms .place + terms .n ≤ ownAt 0) × (terms .n ≤ 64) × (terms .n + terms .digit ≤ length (now list)) ⌝ }
+    requires { ⌜ ((i : ℕ) → i < length (now list) → getD (now list) i 0 < 16777216) ⌝ }
+    ensures { λ r. ⌜ r ≡ sumTo (terms .n) (λ (x : ℕ). getD (now (list .entry)) (x + terms .digit) 0 * column (now (work .entry)) col (terms .place + x)) % q ⌝ }
 {
-    let s = terms.limit;
     let d = terms.digit as usize;
     let mut total: u64 = 0;
     let mut j = 0;
     while j < terms.n {
-        total = total + times(top_of(tops, s, j + d), register(work, col, terms.place + j));
+        total = total + times(list[j + d], register(work, col, terms.place + j));
         j += 1;
     }
     (total % Q64) as u32
 }
 
-// F′ − F: each entry times what its t(d) grows by, from d to d + 1, as the list has both. q keeps the difference from falling below 0.
-fn top_rise(work: &[u32], col: usize, terms: Weighted, tops: &[u32]) -> u32
-    requires { ⌜ ((col + 1) * places ≤ length (now work)) × (terms .place + terms .n ≤ ownAt 0) × (terms .limit ≤ 45) × TopFits terms (now tops) ⌝ }
-    ensures { λ r. ⌜ r ≡ sub q (sumTo (terms .n) (λ (x : ℕ). top (terms .limit) (x + (terms .digit + 1)) * column (now (work .entry)) col (terms .place + x)) % q)
-        (sumTo (terms .n) (λ (x : ℕ). top (terms .limit) (x + terms .digit) * column (now (work .entry)) col (terms .place + x)) % q) ⌝ }
+// What each entry of a list grows by to become the next, with q added, so that no difference falls below 0.
+pub fn rises_into(rises: &mut [u32], list: &[u32])
+    requires { ⌜ length (now list) ≡ length (now rises) + 1 ⌝ }
+    requires { ⌜ ((i : ℕ) → i < length (now list) → getD (now list) i 0 ≤ q) ⌝ }
+    ensures { λ _. ⌜ now (rises .exit) ≡ listTo (length (now (rises .entry))) (λ (d : ℕ). getD (now (list .entry)) (d + 1) 0 + q - getD (now (list .entry)) d 0) ⌝ }
 {
-    let s = terms.limit;
-    let d = terms.digit as usize;
-    let mut total: u64 = 0;
-    let mut j = 0;
-    while j < terms.n {
-        let rise = top_of(tops, s, j + (d + 1)) + Q - top_of(tops, s, j + d);
-        total = total + times(rise, register(work, col, terms.place + j));
-        j += 1;
+    let mut d = 0;
+    while d < rises.len() {
+        rises[d] = list[d + 1] + Q - list[d];
+        d += 1;
     }
-    (total % Q64) as u32
 }
 
 // The entry x below b with (x + d) mod b = 0.
@@ -265,10 +251,10 @@ fn zero_entry(b: u32, d: u32) -> usize
 }
 
 // The entries of the vector, each times its weight by the rule. But for Top's, weights are 0 or 1: the sum goes through the entries
-// of weight 1 alone. Top's stand in the list `tops`, which no other rule reads.
+// of weight 1 alone. Top's stand in the list of t(d), `tops`, which no other rule reads.
 pub fn weighted_sum(work: &[u32], col: usize, terms: Weighted, tops: &[u32]) -> u32
     requires { ⌜ ((col + 1) * places ≤ length (now work)) × (terms .place + terms .n ≤ ownAt 0) × (terms .n ≤ 64) × (1 ≤ terms .limit) × (terms .limit ≤ 45) ⌝ }
-    requires { ⌜ (terms .rule ≡ Zero → (terms .n ≡ terms .limit) × (terms .digit ≤ terms .limit)) × (terms .rule ≡ Top → TopFits terms (now tops)) ⌝ }
+    requires { ⌜ (terms .rule ≡ Zero → (terms .n ≡ terms .limit) × (terms .digit ≤ terms .limit)) × (terms .rule ≡ Top → TopFits topDigits terms (now tops)) ⌝ }
     ensures { λ r. ⌜ ((κ : ℕ) → r ≡ value q κ (column (now (work .entry)) col) (sum (terms .n) (terms .place) (weigh (terms .rule) (terms .limit) (terms .digit)))) ⌝ }
 {
     let rule = terms.rule;
@@ -279,7 +265,7 @@ pub fn weighted_sum(work: &[u32], col: usize, terms: Weighted, tops: &[u32]) -> 
     match rule {
         Rule::Carry => part_sum(work, col, place, less_by(b, d) as usize, n),
         Rule::Zero => register(work, col, place + zero_entry(b, d)) % Q,
-        Rule::Top => top_sum(work, col, terms, tops),
+        Rule::Top => listed_sum(work, col, terms, tops),
         Rule::Over => part_sum(work, col, place, less_by(b + 1, d) as usize, n),
         Rule::Below => part_sum(work, col, place, 0, least(d as usize, n)),
     }
@@ -307,10 +293,10 @@ fn back_from(b: u32, d: u32, n: usize) -> usize
 }
 
 // What the weighted sum grows by where the digit is one higher: one weight becomes 1, for Zero one becomes 0 too. For Top any may change:
-// `tops` has them.
-pub fn raised_by(work: &[u32], col: usize, terms: Weighted, tops: &[u32]) -> u32
+// `rises` has by how much, and no other rule reads it.
+pub fn raised_by(work: &[u32], col: usize, terms: Weighted, rises: &[u32]) -> u32
     requires { ⌜ ((col + 1) * places ≤ length (now work)) × (terms .place + terms .n ≤ ownAt 0) × (terms .n ≤ 64) × (1 ≤ terms .limit) × (terms .limit ≤ 45) × (terms .digit < 65536) ⌝ }
-    requires { ⌜ (terms .rule ≡ Zero → (terms .n ≡ terms .limit) × (terms .digit + 1 ≤ terms .limit)) × (terms .rule ≡ Top → TopFits terms (now tops)) ⌝ }
+    requires { ⌜ (terms .rule ≡ Zero → (terms .n ≡ terms .limit) × (terms .digit + 1 ≤ terms .limit)) × (terms .rule ≡ Top → TopFits topRises terms (now rises)) ⌝ }
     ensures { λ r. ⌜ ((κ : ℕ) → r
         ≡ value q κ (column (now (work .entry)) col) (sum (terms .n) (terms .place) (weigh (terms .rule) (terms .limit) (terms .digit + 1)) ⊟ sum (terms .n) (terms .place) (weigh (terms .rule) (terms .limit) (terms .digit)))) ⌝ }
 {
@@ -325,7 +311,7 @@ pub fn raised_by(work: &[u32], col: usize, terms: Weighted, tops: &[u32]) -> u32
             register(work, col, place + zero_entry(b, d + 1)),
             register(work, col, place + zero_entry(b, d)),
         ),
-        Rule::Top => top_rise(work, col, terms, tops),
+        Rule::Top => listed_sum(work, col, terms, rises),
         Rule::Over => entry_at(work, col, place, n, back_from(b, d, n)),
         Rule::Below => entry_at(work, col, place, n, d as usize),
     }

@@ -12,7 +12,7 @@ use Rattle.field.specs.Forms.{Form}
 use Rattle.field.proofs.Solve.{at, _⊕_, _⊖_, _⊗_, neg, red, solve}
 use Rattle.settings.specs.declared.Shape.{Shape}
 use Rattle.settings.specs.declared.Settings.{Settings}
-use Rattle.settings.specs.Sets.{scaleOf, base, topDigits}
+use Rattle.settings.specs.Sets.{scaleOf, base}
 use Rattle.settings.specs.Settings.{paramsOf}
 use Rattle.settings.specs.Questions.{ShapeReady}
 use Rattle.book.specs.Book.{tripleAt}
@@ -54,19 +54,19 @@ terms-fit shape split g i ready hg hi below =
         let e : i ≡ 4 = omega arith in
         rw (le-ltb i 4 last, e) (lawful (shape .set) (ready .sets) .last)
 
--- the list of the set is that of its gates (`Listed` of `termsAt`): Top is HIGH's at digit 4, whose limit is s
-pub listed : (shape : Shape) (g i : ℕ) (tops : List ℕ) → (shape .kind ≡ 0 → 4 ≤ i → tops ≡ topDigits (scaleOf (shape .set) .parts))
-    → ruleOf (shape .kind) i (g % 2) ≡ Top → tops ≡ topDigits (limitOf (scaleOf (shape .set)) i)
+-- a list of the set is that of its gates (`Listed` of `termsAt`): Top is HIGH's at digit 4, whose limit is s
+pub listed : (lists : ℕ → List ℕ) (shape : Shape) (g i : ℕ) (list : List ℕ) → (shape .kind ≡ 0 → 4 ≤ i → list ≡ lists (scaleOf (shape .set) .parts))
+    → ruleOf (shape .kind) i (g % 2) ≡ Top → list ≡ lists (limitOf (scaleOf (shape .set)) i)
 unfolding limitOf
-listed shape g i tops e rule =
+listed lists shape g i list e rule =
     let last = top-last (shape .kind) i (g % 2) rule in
     rw (le-ltb i 4 (last .1)) (e (last .0) (last .1))
 
 -- and what a sum over it asks for
-pub top-ready : (t : Weighted) (tops : List ℕ) → TermsFit t → Listed t tops → t .rule ≡ Top → TopFits t tops
-top-ready t tops fits list rule =
+pub top-ready : (lists : ℕ → List ℕ) (t : Weighted) (list : List ℕ) → TermsFit t → Listed lists t list → t .rule ≡ Top → TopFits lists t list
+top-ready lists t list fits is rule =
     let n = fits .top-fits rule in
-    (list rule, omega (arith, n), omega (arith, n, fits .digit-below))
+    (is rule, omega (arith, n), omega (arith, n, fits .digit-below))
 
 -- ---- The forms of a gate that looks at the number of its coefficient
 

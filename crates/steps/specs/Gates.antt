@@ -9,7 +9,7 @@ use lib.ListN.{getD}
 use Rattle.field.specs.Field.{q}
 use Rattle.field.specs.Forms.{Form, num, reg, sum, _⊞_, _⊟_, _⊠_}
 use Rattle.settings.specs.declared.Shape.{Shape}
-use Rattle.settings.specs.Sets.{scaleOf, base, topDigits}
+use Rattle.settings.specs.Sets.{scaleOf, base}
 use Rattle.settings.specs.Settings.{paramsOf}
 use Rattle.rounding.specs.declared.Split.{Split}
 use Rattle.book.specs.Book.{vectorAt, tripleAt}
@@ -86,6 +86,6 @@ pub record GateFits (gate : Gate) : Type 0 where
   pub triple-room : gate .triple ≤ inputAt 0
   pub terms-fit : TermsFit (gate .terms)
 
--- the list that the code is lent with a sum: F and F′ read t(d) there, no other sum reads it
-abbrev pub Listed : Weighted → List ℕ → Type 0
-Listed t tops = t .rule ≡ Top → tops ≡ topDigits (t .limit)
+-- the list that the code is lent with a sum: F reads t(d) there, F′ − F the growth of t(d); no other sum reads it
+abbrev pub Listed : (ℕ → List ℕ) → Weighted → List ℕ → Type 0
+Listed lists t list = t .rule ≡ Top → list ≡ lists (t .limit)

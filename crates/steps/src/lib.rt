@@ -10,14 +10,14 @@ ghost use lib.ListN.{length, getD};
 ghost use Rattle.lists.specs.Answers.{bit};
 ghost use Rattle.field.specs.Field.{q};
 ghost use Rattle.field.specs.Forms.{value, Form, reg, num, _⊟_, _⊞_, _⊠_};
-ghost use Rattle.settings.specs.Sets.{scaleOf, base};
+ghost use Rattle.settings.specs.Sets.{scaleOf, base, topDigits};
 ghost use Rattle.settings.specs.Settings.{paramsOf, termsOf};
 ghost use Rattle.settings.specs.Questions.{Ready, ShapeReady};
 ghost use Rattle.settings.specs.Sizes.{places};
 ghost use Rattle.rounding.specs.Rounds.{threshold};
 ghost use Rattle.book.specs.Book.{groupK, groupGap, groupAt};
 ghost use Rattle.slice.specs.Layout.{runningAt, column};
-ghost use Rattle.slice.specs.Weights.{ruleOf};
+ghost use Rattle.slice.specs.Weights.{topRises, ruleOf};
 ghost use Rattle.steps.specs.Steps.{limitOf, shiftOf, openInput, insides, groupOf, checkEntry, afterCheck};
 ghost use Rattle.steps.specs.Context.{publicBy, looksAt, numberAt, splitCount, splitPlace, ContextOf};
 ghost use Rattle.steps.specs.Gates.{termsAt, gateAt, TermsFit, GateFits, Listed, sumForm, addendForm, uForm, vForm, openU, openV, resultForm};
@@ -232,12 +232,13 @@ pub fn gate_of(shape: Shape, split: Split, g: usize, i: usize) -> Gate
     }
 }
 
-// ---- A gate on one column. No public number is added to addend, u and v: the weight does not matter. F and F′ read t(d) in the list `tops`.
+// ---- A gate on one column. No public number is added to addend, u and v: the weight does not matter. F reads t(d) in the list
+// `tops`, and F′ − F in the list `rises` what t(d) grows by.
 
 // The gate's sum alone: what round 1 makes of digit 0.
 pub fn sum_value(work: &[u32], col: usize, terms: Weighted, tops: &[u32]) -> u32
     requires { ⌜ TermsFit terms ⌝ }
-    requires { ⌜ ((col + 1) * places ≤ length (now work)) × Listed terms (now tops) ⌝ }
+    requires { ⌜ ((col + 1) * places ≤ length (now work)) × Listed topDigits terms (now tops) ⌝ }
     ensures { λ r. ⌜ ((κ : ℕ) → r ≡ value q κ (column (now (work .entry)) col) (sumForm terms 0)) ⌝ }
 {
     weighted_sum(work, col, terms, tops)
@@ -245,7 +246,7 @@ pub fn sum_value(work: &[u32], col: usize, terms: Weighted, tops: &[u32]) -> u32
 
 fn addend_value(work: &[u32], col: usize, gate: Gate, tops: &[u32]) -> u32
     requires { ⌜ GateFits gate ⌝ }
-    requires { ⌜ ((col + 1) * places ≤ length (now work)) × Listed (gate .terms) (now tops) ⌝ }
+    requires { ⌜ ((col + 1) * places ≤ length (now work)) × Listed topDigits (gate .terms) (now tops) ⌝ }
     ensures { λ r. ⌜ ((κ : ℕ) → r ≡ value q κ (column (now (work .entry)) col) (addendForm gate)) ⌝ }
 {
     let terms = gate.terms;
@@ -270,14 +271,14 @@ fn u_value(work: &[u32], col: usize, gate: Gate) -> u32
     register(work, col, gate.terms.place + gate.terms.digit as usize)
 }
 
-fn v_value(work: &[u32], col: usize, gate: Gate, tops: &[u32]) -> u32
+fn v_value(work: &[u32], col: usize, gate: Gate, rises: &[u32]) -> u32
     requires { ⌜ GateFits gate ⌝ }
-    requires { ⌜ ((col + 1) * places ≤ length (now work)) × Listed (gate .terms) (now tops) ⌝ }
+    requires { ⌜ ((col + 1) * places ≤ length (now work)) × Listed topRises (gate .terms) (now rises) ⌝ }
     ensures { λ r. ⌜ ((κ : ℕ) → r ≡ value q κ (column (now (work .entry)) col) (vForm gate)) ⌝ }
 {
     if gate.kind == 0 {
         let terms = gate.terms;
-        return raised_by(work, col, terms, tops);
+        return raised_by(work, col, terms, rises);
     }
     register(work, col, FIRST + 8 * gate.which + gate.j)
 }
@@ -293,12 +294,12 @@ pub fn open_u(work: &[u32], col: usize, gate: Gate) -> u32
 }
 
 // v − b.
-pub fn open_v(work: &[u32], col: usize, gate: Gate, tops: &[u32]) -> u32
+pub fn open_v(work: &[u32], col: usize, gate: Gate, rises: &[u32]) -> u32
     requires { ⌜ GateFits gate ⌝ }
-    requires { ⌜ ((col + 1) * places ≤ length (now work)) × Listed (gate .terms) (now tops) ⌝ }
+    requires { ⌜ ((col + 1) * places ≤ length (now work)) × Listed topRises (gate .terms) (now rises) ⌝ }
     ensures { λ r. ⌜ ((κ : ℕ) → r ≡ value q κ (column (now (work .entry)) col) (openV gate)) ⌝ }
 {
-    let v = v_value(work, col, gate, tops);
+    let v = v_value(work, col, gate, rises);
     sub_mod(v, register(work, col, gate.triple + 1))
 }
 
@@ -327,7 +328,7 @@ pub fn gate_value(
     tops: &[u32],
 ) -> u32
     requires { ⌜ GateFits gate ⌝ }
-    requires { ⌜ ((col .index + 1) * places ≤ length (now work)) × (opened .u < q) × (opened .v < q) × Listed (gate .terms) (now tops) ⌝ }
+    requires { ⌜ ((col .index + 1) * places ≤ length (now work)) × (opened .u < q) × (opened .v < q) × Listed topDigits (gate .terms) (now tops) ⌝ }
     requires { ⌜ (own .u ≡ value q (col .weight) (column (now work) (col .index)) (openU gate)) × (own .v ≡ value q (col .weight) (column (now work) (col .index)) (openV gate)) ⌝ }
     ensures { λ r. ⌜ r ≡ value q (col .weight) (column (now (work .entry)) (col .index)) (resultForm gate (opened .u) (opened .v)) ⌝ }
 {

@@ -12,6 +12,7 @@ use Rattle.lists.proofs.Strides.{length-stride}
 use Rattle.lists.specs.Lists.{fillBy}
 use Rattle.steps.proofs.Contexts.{place-in, count-most}
 use Rattle.steps.proofs.Gates.{listed}
+use Rattle.settings.specs.Sets.{topDigits}
 use Prim.Native.Nat.{ℕ, _≤_, _-_, _*_, _%_, _/_}
 use mathlib.Core.Path.{_≡_, refl, ap, _∙_}
 use native.Mathlib.Omega.{arith}
@@ -58,7 +59,7 @@ sums-into-requires c κs =
     let p = c .before .before .before .before .before .before .before .before .before .before .pre in
     let at = c .before .before .before .before .before .before .loop in
     let never : 4 ≤ 0 → ⊥ = λ last. omega (arith, last) in
-    ((c .before .terms-of .ensures .1, rw (c .before .terms-of .ensures .0) (listed (c .before .before .before .before .before .before .before .before .before .before .args .t4 .settings .shape) _ 0 [] (λ kind last. absurd (never last)))), (omega (arith, p .0 .0 .shape .most), omega (arith, p .1, at .inv .2), omega (arith, p .1)))
+    ((c .before .terms-of .ensures .1, rw (c .before .terms-of .ensures .0) (listed topDigits (c .before .before .before .before .before .before .before .before .before .before .args .t4 .settings .shape) _ 0 [] (λ kind last. absurd (never last)))), (omega (arith, p .0 .0 .shape .most), omega (arith, p .1, at .inv .2), omega (arith, p .1)))
 
 loop-again : tie.Need-loop-again Inv-loop μ-loop
 loop-again c =

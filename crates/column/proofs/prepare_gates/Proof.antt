@@ -9,6 +9,7 @@ use Rattle.lists.proofs.Strides.{length-stride}
 use Rattle.lists.specs.Lists.{fillBy}
 use Rattle.steps.proofs.Contexts.{place-in, count-most}
 use Rattle.steps.proofs.Gates.{listed}
+use Rattle.slice.specs.Weights.{topRises}
 use Rattle.column.specs.Held.{columnAt, openingIn, Holds}
 use Rattle.steps.specs.Context.{publicBy, ContextOf}
 use mathlib.Core.List.{List}
@@ -22,11 +23,11 @@ use Rattle.column.proofs.prepare_gates.Statement.{statement}
 use Rattle.column.proofs.prepare_gates.Tie as tie
 
 abbrev Inv-loop : tie.InvT-loop
-Inv-loop out₀ work columns tops known shape i g₀ out g = (g ≤ 2 * known .settings .shape .n) × ((masked : ℕ → ℕ) (κs : List ℕ) → ContextOf (known .settings) (known .round) masked known → Holds
+Inv-loop out₀ work columns rises known shape i g₀ out g = (g ≤ 2 * known .settings .shape .n) × ((masked : ℕ → ℕ) (κs : List ℕ) → ContextOf (known .settings) (known .round) masked known → Holds
     (publicBy (known .settings) masked) (known .round) κs work columns (2 * g) out) × (length out ≡ length out₀)
 
 abbrev μ-loop : tie.MeasureT-loop
-μ-loop out₀ work columns tops known shape i g₀ out g = 2 * known .settings .shape .n - g
+μ-loop out₀ work columns rises known shape i g₀ out g = 2 * known .settings .shape .n - g
 
 loop-holds : tie.Need-loop-holds Inv-loop μ-loop
 loop-holds c = (omega arith, λ masked κs made d o h l. absurd (omega arith), refl)
@@ -65,7 +66,7 @@ v-into-requires c κs =
     let p = c .before .before .before .before .before .before .before .before .before .before .before .before .before .before .before .pre in
     let known = c .before .before .before .before .before .before .before .before .before .before .before .before .before .before .before .args .t4 in
     let fifth : 4 ≤ known .round - 1 → known .round ≡ 5 = λ last. omega (arith, last, p .1 .0) in
-    ((gate-of .ensures .1, rw (gate-of .ensures .0) (listed (known .settings .shape) _ (known .round - 1) _ (λ kind last. p .0 .2 (rw (eq-eqb _ _ kind, eq-eqb _ _ (fifth last)) refl)))), (omega (arith, p .0 .0 .shape .most), omega arith, omega arith, omega arith))
+    ((gate-of .ensures .1, rw (gate-of .ensures .0) (listed topRises (known .settings .shape) _ (known .round - 1) _ (λ kind last. p .0 .2 (rw (eq-eqb _ _ kind, eq-eqb _ _ (fifth last)) refl)))), (omega (arith, p .0 .0 .shape .most), omega arith, omega arith, omega arith))
 
 loop-again : tie.Need-loop-again Inv-loop μ-loop
 loop-again c =

@@ -16,11 +16,11 @@ use Rattle.column.proofs.v_into.Statement.{statement}
 use Rattle.column.proofs.v_into.Tie as tie
 
 abbrev Inv-loop : tie.InvT-loop
-Inv-loop out₀ at work columns gate tops f₀ out f = (f ≤ columns .count) × ((κ : ℕ → ℕ) → out ≡ fillBy mostOpenings out₀ at f
+Inv-loop out₀ at work columns gate rises f₀ out f = (f ≤ columns .count) × ((κ : ℕ → ℕ) → out ≡ fillBy mostOpenings out₀ at f
     (λ (d : ℕ). value q (κ d) (column work (columnAt (columns .skip) d)) (openV gate))) × (length out ≡ length out₀)
 
 abbrev μ-loop : tie.MeasureT-loop
-μ-loop out₀ at work columns gate tops f₀ out f = columns .count - f
+μ-loop out₀ at work columns gate rises f₀ out f = columns .count - f
 
 loop-holds : tie.Need-loop-holds Inv-loop μ-loop
 loop-holds c = (omega arith, λ κ. sym (stride-none mostOpenings _ _ _), refl)

@@ -7,7 +7,8 @@ use Rattle.field.specs.Field.{q, sub}
 use Rattle.field.proofs.Differences.{reduced-difference}
 use Rattle.slice.specs.Layout.{column}
 use Rattle.slice.specs.Weights.{weigh}
-use Rattle.slice.proofs.Ranges.{carry-raised, zero-sum, over-raised, below-raised}
+use Rattle.slice.proofs.Ranges.{carry-raised, zero-sum, top-raised, rises-length, rises-small, over-raised, below-raised}
+use lib.ListN.{length}
 use Rattle.slice.proofs.raised_by.Statement.{statement}
 use Rattle.slice.proofs.raised_by.Tie as tie
 
@@ -23,10 +24,12 @@ zero-entry-requires-2 c κs = omega (arith, c .before .before .before .before .b
 register-requires-2 : tie.Need-register-requires-2
 register-requires-2 c κs = omega (arith, c .before .before .before .before .before .before .before .pre .1 .0 (c .before .before .before .enum-told2 .given .1))
 
-top-rise-requires : tie.Need-top-rise-requires
-top-rise-requires c κs =
+listed-sum-requires : tie.Need-listed-sum-requires
+listed-sum-requires c κs =
+    let a = c .before .before .before .before .args in
     let fits = c .before .before .before .before .pre .1 .1 (c .enum-told3 .given .1) in
-    (omega arith, omega arith, omega arith, fits)
+    let long = ap length (fits .0) ∙ rises-length (a .terms .limit) in
+    (omega (arith, fits, long), rises-small (a .terms .limit) (a .rises .now) (omega arith) (fits .0))
 
 returns : tie.Need-returns
 returns c κ =
@@ -52,7 +55,13 @@ returns-2 c κ =
 
 returns-3 : tie.Need-returns-3
 unfolding weigh
-returns-3 c κ = rw (c .before .enum-told3 .given .1) (c .top-rise .ensures)
+returns-3 c κ =
+    let a = c .before .before .before .before .before .args in
+    let told = c .before .enum-told3 .given .1 in
+    let fits = c .before .before .before .before .before .pre .1 .1 told in
+    rw told
+    (c .listed-sum .ensures
+    ∙ top-raised (a .terms .n) (a .terms .limit) (a .terms .digit) (λ (j : ℕ). column (a .work .now) (a .col) (a .terms .place + j)) (a .rises .now) (fits .1) (fits .2) (omega arith) (fits .0))
 
 returns-4 : tie.Need-returns-4
 returns-4 c κ =
@@ -84,7 +93,7 @@ raised-by-spec =
     register-requires-2
     (λ c κs. search needs)
     (λ c. search needs)
-    top-rise-requires
+    listed-sum-requires
     (λ c. search needs)
     (λ c κs. search needs)
     (λ c κs. search needs)

@@ -6,7 +6,9 @@ use borrow.Author.Needs.{needs}
 use Rattle.field.specs.Field.{q}
 use Rattle.slice.specs.Layout.{column}
 use Rattle.slice.specs.Weights.{weigh}
-use Rattle.slice.proofs.Ranges.{carry-sum, zero-sum, over-sum, below-sum}
+use Rattle.slice.proofs.Ranges.{carry-sum, zero-sum, over-sum, below-sum, top-listed, tops-small}
+use Rattle.settings.proofs.Sets.{top-length}
+use lib.ListN.{length}
 use Rattle.slice.proofs.weighted_sum.Statement.{statement}
 use Rattle.slice.proofs.weighted_sum.Tie as tie
 
@@ -16,10 +18,12 @@ zero-entry-requires c κs = omega (arith, c .before .before .before .before .pre
 register-requires : tie.Need-register-requires
 register-requires c κs = omega (arith, c .before .before .before .before .before .pre .1 .0 (c .before .enum-told2 .given .1))
 
-top-sum-requires : tie.Need-top-sum-requires
-top-sum-requires c κs =
+listed-sum-requires : tie.Need-listed-sum-requires
+listed-sum-requires c κs =
+    let a = c .before .before .before .before .args in
     let fits = c .before .before .before .before .pre .1 .1 (c .enum-told3 .given .1) in
-    (omega arith, omega arith, omega arith, fits)
+    let long = ap length (fits .0) ∙ top-length (a .terms .limit) in
+    (omega (arith, fits, long), λ i h. omega (arith, tops-small (a .terms .limit) (a .tops .now) (omega arith) (fits .0) i h))
 
 returns : tie.Need-returns
 returns c κ =
@@ -40,7 +44,13 @@ returns-2 c κ =
 
 returns-3 : tie.Need-returns-3
 unfolding weigh
-returns-3 c κ = rw (c .before .enum-told3 .given .1) (c .top-sum .ensures)
+returns-3 c κ =
+    let a = c .before .before .before .before .before .args in
+    let told = c .before .enum-told3 .given .1 in
+    let fits = c .before .before .before .before .before .pre .1 .1 told in
+    rw told
+    (c .listed-sum .ensures ∙ ap (λ (x : ℕ). x % q)
+    (top-listed (a .terms .n) (a .terms .limit) (a .terms .digit) (λ (j : ℕ). column (a .work .now) (a .col) (a .terms .place + j)) (a .tops .now) (fits .1) (fits .2) (fits .0)))
 
 returns-4 : tie.Need-returns-4
 returns-4 c κ =
@@ -69,7 +79,7 @@ weighted-sum-spec =
     (λ c. search needs)
     register-requires
     (λ c. search needs)
-    top-sum-requires
+    listed-sum-requires
     (λ c. search needs)
     (λ c. search needs)
     (λ c κs. search needs)

@@ -5,13 +5,14 @@ use native.Mathlib.Omega.{arith}
 use borrow.Author.Tests.{eq-eqb, ne-eqb}
 use borrow.Author.Needs.{needs}
 use Rattle.steps.proofs.Gates.{top-ready}
+use Rattle.slice.specs.Weights.{topRises}
 use Rattle.steps.proofs.v_value.Statement.{statement}
 use Rattle.steps.proofs.v_value.Tie as tie
 
 raised-by-requires : tie.Need-raised-by-requires
 raised-by-requires c κs =
     let fits = c .before .before .before .before .before .pre .0 .terms-fit in
-    (omega arith, (λ rule. (fits .zero-fits rule, omega (arith, fits .zero-fits rule)), top-ready _ _ fits (c .before .before .before .before .before .pre .1 .1)))
+    (omega arith, (λ rule. (fits .zero-fits rule, omega (arith, fits .zero-fits rule)), top-ready topRises _ _ fits (c .before .before .before .before .before .pre .1 .1)))
 
 returns : tie.Need-returns
 unfolding vForm
