@@ -5,6 +5,7 @@
 - README.md, listings marked `sh`: each line with a comment `prints "a", "b"` is run, and must write these lines.
 - examples/README.md: each file of the table is given to ./pair, which must write the lines of the last column; so must
   outside/plain_lines.py, the plain meaning.
+- docs/TOP_DIGITS.md: each page is what the command above it writes.
 Rust listings are doc tests of rust/. Exit code 1 where anything differs."""
 import os
 import re
@@ -85,14 +86,21 @@ def check_examples():
     return len(rows)
 
 
+def check_pages():
+    pages = re.findall(r'^`([^`\n]*)` prints:\n\n```text\n(.*?)^```$', text_of('docs', 'TOP_DIGITS.md'), re.M | re.S)
+    for command, shown in pages:
+        check_lines('docs/TOP_DIGITS.md, ' + command, shown.splitlines(), run(command))
+    return len(pages)
+
+
 def main():
     readme = text_of('README.md')
-    counts = (check_rattle(readme), check_shell(readme), check_examples())
+    counts = (check_rattle(readme), check_shell(readme), check_examples(), check_pages())
     for line in wrong:
         print(line)
     if wrong or 0 in counts:
         sys.exit(1)
-    print('listings: %d statements, %d commands and %d example files are as shown' % counts)
+    print('listings: %d statements, %d commands, %d example files and %d pages are as shown' % counts)
 
 
 main()

@@ -229,7 +229,8 @@ fn sums_top(kind: u32, round: u32) -> bool
     round == 5
 }
 
-// The same, with the list of the set where the round reads one. It is taken once for all gates.
+// The same, with the list of the set where the round reads one. It is taken once for all gates: 90 or 34 entries, of which all but the last
+// grow to the next.
 fn prepare_digits(out: &mut [u32], work: &[u32], columns: ColumnChoice, known: Context)
     requires { ⌜ Ready (known .settings) × SplitsBelow known ⌝ }
     requires { ⌜ (2 ≤ known .round) × (known .round ≤ 5) ⌝ }

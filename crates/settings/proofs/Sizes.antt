@@ -9,11 +9,11 @@ use lib.Dec.{eqb, leb}
 use borrow.Author.Tests.{eq-eqb, ne-eqb}
 use Rattle.field.specs.Sums.{sumTo}
 use Rattle.settings.specs.declared.Shape.{Shape}
-use Rattle.settings.specs.Sets.{scaleOf, base}
+use Rattle.settings.specs.Sets.{scaleOf, base, topDigits}
 use Rattle.settings.specs.Settings.{Params, paramsOf}
 use Rattle.settings.specs.Sizes.{openings, openingsUpTo, stride, shared, drawLength, answerPlaces}
 use Rattle.settings.specs.Theorems.{SizeLaws}
-use Rattle.settings.proofs.Sets.{lawful}
+use Rattle.settings.proofs.Sets.{lawful, top-length, top-entry}
 
 -- ---- openings
 
@@ -94,5 +94,8 @@ size-laws =
       high-openings = λ set n. omega arith;
       bound-openings = λ set n. omega arith;
       work = refl;
+      list-0 = top-length (scaleOf 0 .parts);
+      list-1 = top-length (scaleOf 1 .parts);
+      entries = λ s d. top-entry (topDigits s) s d refl;
       at-most = λ a r. shared-most a (r .sets) (r .most);
     }

@@ -1,8 +1,9 @@
 -- What is proved of the constants and the sizes, as types.
 use Prim.Native.Nat.{ℕ, _+_, _*_, _/_, _%_, _<_, _≤_}
 use mathlib.Core.Path.{_≡_}
+use lib.ListN.{length, getD}
 use Rattle.settings.specs.declared.Shape.{Shape}
-use Rattle.settings.specs.Sets.{Scale, scaleOf, base}
+use Rattle.settings.specs.Sets.{Scale, scaleOf, base, top, topDigits}
 use Rattle.settings.specs.Settings.{Params, paramsOf, paramsWith}
 use Rattle.settings.specs.Questions.{ShapeReady}
 use Rattle.settings.specs.Schedule.{rounds}
@@ -40,5 +41,9 @@ pub record SizeLaws : Type 0 where
   pub bound-openings : (set n : ℕ) → openingsUpTo (ofSet set 1 n) rounds ≡ 17 * n + 2
   -- "working slice 4,608 numbers"
   pub work : workLength 1 ≡ 4608
+  -- "90 entries for set 0 and 34 for set 1. Each entry is proved to equal t(d)" (02)
+  pub list-0 : length (topDigits (scaleOf 0 .parts)) ≡ 90
+  pub list-1 : length (topDigits (scaleOf 1 .parts)) ≡ 34
+  pub entries : (s d : ℕ) → d ≤ 2 * s + 1 → getD (topDigits s) d 0 ≡ top s d
   -- a book fits a column
   pub at-most : (a : Shape) → ShapeReady a → shared (paramsOf a) ≤ 1320
