@@ -20,7 +20,8 @@ gate-registers-requires-2 c κs =
 gate-registers-requires-3 : tie.Need-gate-registers-requires-3
 gate-registers-requires-3 c κs =
     let p = c .before .before .before .before .before .before .before .before .before .before .before .before .before .pre in
-    let one : c .before .before .before .before .before .before .before .before .before .before .before .before .before .args .known .settings .shape .set ≡ 1 = omega (arith, p .0 .0 .shape .sets, c .before .before .before .if2 .left) in
+    let set = c .before .before .before .before .before .before .before .before .before .before .before .before .before .args .known .settings .shape .set in
+    let one : set ≡ 1 = omega (arith, p .0 .0 .shape .sets, c .before .before .before .if2 .left) in
     ((p .0 .0, p .0 .1, λ top. rw one (c .before .top-digits-1 .ensures)), p .1)
 
 pub digit-registers-spec : {M : Type 1} → statement M

@@ -58,8 +58,12 @@ sums-into-requires : tie.Need-sums-into-requires Inv-loop μ-loop
 sums-into-requires c κs =
     let p = c .before .before .before .before .before .before .before .before .before .before .pre in
     let at = c .before .before .before .before .before .before .loop in
-    let never : 4 ≤ 0 → ⊥ = λ last. omega (arith, last) in
-    ((c .before .terms-of .ensures .1, rw (c .before .terms-of .ensures .0) (listed topDigits (c .before .before .before .before .before .before .before .before .before .before .args .t4 .settings .shape) _ 0 [] (λ kind last. absurd (never last)))), (omega (arith, p .0 .0 .shape .most), omega (arith, p .1, at .inv .2), omega (arith, p .1)))
+    let known = c .before .before .before .before .before .before .before .before .before .before .args .t4 in
+    let terms-of = c .before .terms-of in
+    let never : 4 ≤ 0 → ⊥ = λ last. omega (arith, last) in (
+      (terms-of .ensures .1, rw (terms-of .ensures .0) (listed topDigits (known .settings .shape) _ 0 [] (λ kind last. absurd (never last)))),
+      (omega (arith, p .0 .0 .shape .most), omega (arith, p .1, at .inv .2), omega (arith, p .1)),
+    )
 
 loop-again : tie.Need-loop-again Inv-loop μ-loop
 loop-again c =

@@ -69,7 +69,11 @@ results-into-requires c κs =
     let known = a .t4 in
     let g = at .g in
     let fifth : 4 ≤ known .round - 1 → known .round ≡ 5 = λ last. omega (arith, last, p .1 .0) in (
-      (c .before .gate-of .ensures .1, rw (c .before .gate-of .ensures .0) (listed topDigits (known .settings .shape) _ (known .round - 1) _ (λ kind last. p .0 .2 (rw (eq-eqb _ _ kind, eq-eqb _ _ (fifth last)) refl)))),
+      (
+        c .before .gate-of .ensures .1,
+        rw (c .before .gate-of .ensures .0)
+            (listed topDigits (known .settings .shape) _ (known .round - 1) _ (λ kind last. p .0 .2 (rw (eq-eqb _ _ kind, eq-eqb _ _ (fifth last)) refl))),
+      ),
       (
         omega (arith, p .1, at .inv .2),
         (

@@ -25,7 +25,8 @@ rises-into-requires c κs =
 prepare-gates-requires-2 : tie.Need-prepare-gates-requires-2
 prepare-gates-requires-2 c κs =
     let p = c .before .before .before .before .before .before .before .before .before .before .before .before .before .before .pre in
-    let rises = c .before .before .before .rises-into .ensures ∙ rises-are (scaleOf 0 .parts) _ (c .before .before .before .before .before .top-digits-0 .result) (omega arith) (c .before .before .before .before .before .top-digits-0 .ensures) in
+    let list = c .before .before .before .before .before .top-digits-0 in
+    let rises = c .before .before .before .rises-into .ensures ∙ rises-are (scaleOf 0 .parts) _ (list .result) (omega arith) (list .ensures) in
     ((p .0 .0, p .0 .1, λ top. rw (c .before .before .before .before .before .before .before .if2 .taken) rises), p .1)
 
 rises-into-requires-2 : tie.Need-rises-into-requires-2
@@ -36,8 +37,10 @@ rises-into-requires-2 c κs =
 prepare-gates-requires-3 : tie.Need-prepare-gates-requires-3
 prepare-gates-requires-3 c κs =
     let p = c .before .before .before .before .before .before .before .before .before .before .before .before .before .before .pre in
-    let one : c .before .before .before .before .before .before .before .before .before .before .before .before .before .before .args .known .settings .shape .set ≡ 1 = omega (arith, p .0 .0 .shape .sets, c .before .before .before .before .before .before .before .if2 .left) in
-    let rises = c .before .before .before .rises-into2 .ensures ∙ rises-are (scaleOf 1 .parts) _ (c .before .before .before .before .before .top-digits-1 .result) (omega arith) (c .before .before .before .before .before .top-digits-1 .ensures) in
+    let list = c .before .before .before .before .before .top-digits-1 in
+    let set = c .before .before .before .before .before .before .before .before .before .before .before .before .before .before .args .known .settings .shape .set in
+    let one : set ≡ 1 = omega (arith, p .0 .0 .shape .sets, c .before .before .before .before .before .before .before .if2 .left) in
+    let rises = c .before .before .before .rises-into2 .ensures ∙ rises-are (scaleOf 1 .parts) _ (list .result) (omega arith) (list .ensures) in
     ((p .0 .0, p .0 .1, λ top. rw one rises), p .1)
 
 pub prepare-digits-spec : {M : Type 1} → statement M

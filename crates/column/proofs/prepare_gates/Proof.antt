@@ -65,8 +65,13 @@ v-into-requires c κs =
     let gate-of = c .before .before .before .before .before .gate-of in
     let p = c .before .before .before .before .before .before .before .before .before .before .before .before .before .before .before .pre in
     let known = c .before .before .before .before .before .before .before .before .before .before .before .before .before .before .before .args .t4 in
-    let fifth : 4 ≤ known .round - 1 → known .round ≡ 5 = λ last. omega (arith, last, p .1 .0) in
-    ((gate-of .ensures .1, rw (gate-of .ensures .0) (listed topRises (known .settings .shape) _ (known .round - 1) _ (λ kind last. p .0 .2 (rw (eq-eqb _ _ kind, eq-eqb _ _ (fifth last)) refl)))), (omega (arith, p .0 .0 .shape .most), omega arith, omega arith, omega arith))
+    let fifth : 4 ≤ known .round - 1 → known .round ≡ 5 = λ last. omega (arith, last, p .1 .0) in (
+      (
+        gate-of .ensures .1,
+        rw (gate-of .ensures .0) (listed topRises (known .settings .shape) _ (known .round - 1) _ (λ kind last. p .0 .2 (rw (eq-eqb _ _ kind, eq-eqb _ _ (fifth last)) refl))),
+      ),
+      (omega (arith, p .0 .0 .shape .most), omega arith, omega arith, omega arith),
+    )
 
 loop-again : tie.Need-loop-again Inv-loop μ-loop
 loop-again c =

@@ -26,7 +26,9 @@ loop-holds : tie.Need-loop-holds Inv-loop μ-loop
 loop-holds c = (omega arith, λ κ. sym (stride-none mostOpenings _ _ _), refl)
 
 open-v-requires : tie.Need-open-v-requires Inv-loop μ-loop
-open-v-requires c κs = (c .before .before .before .before .before .before .before .pre .0 .0, (omega (arith, c .column-at .ensures .1), c .before .before .before .before .before .before .before .pre .0 .1))
+open-v-requires c κs =
+    let p = c .before .before .before .before .before .before .before .pre in
+    (p .0 .0, (omega (arith, c .column-at .ensures .1), p .0 .1))
 
 loop-again : tie.Need-loop-again Inv-loop μ-loop
 loop-again c =

@@ -23,7 +23,8 @@ loop-holds c = (omega arith, refl, refl)
 loop-again : tie.Need-loop-again Inv-loop μ-loop
 loop-again c =
     let loop = c .before .before .before .before .before .before .loop in
-    (omega arith, search needs, entries-more (textAt (loop .out) (loop .next)) _ _ (c .before .before .before .before .before .before .before .before .before .args .list .now) (loop .d) (omega arith) (loop .inv .2) (c .before .before .put-entry .ensures))
+    let list = c .before .before .before .before .before .before .before .before .before .args .list .now in
+    (omega arith, search needs, entries-more (textAt (loop .out) (loop .next)) _ _ list (loop .d) (omega arith) (loop .inv .2) (c .before .before .put-entry .ensures))
 
 returns : tie.Need-returns Inv-loop μ-loop
 returns c =

@@ -9,8 +9,11 @@ use Rattle.top_digits.proofs.page.put_entry.Tie as tie
 returns : tie.Need-returns
 unfolding entryLine
 returns c =
-    put-then _ _ _ (c .before .before .before .before .before .before .before .before .before .before .before .before .before .before .put-number .ensures)
-    (put-then _ (32 ∷ []) _ (c .before .before .before .before .before .before .before .before .before .before .put-byte .ensures) (put-then _ _ _ (c .before .before .before .before .before .before .put-number2 .ensures) (c .before .before .put-byte2 .ensures)))
+    let digit = c .before .before .before .before .before .before .before .before .before .before .before .before .before .before .put-number in
+    let blank = c .before .before .before .before .before .before .before .before .before .before .put-byte in
+    let entry = c .before .before .before .before .before .before .put-number2 in
+    let end = c .before .before .put-byte2 in
+    put-then _ _ _ (digit .ensures) (put-then _ (32 ∷ []) _ (blank .ensures) (put-then _ _ _ (entry .ensures) (end .ensures)))
 
 pub put-entry-spec : {M : Type 1} → statement M
 put-entry-spec =

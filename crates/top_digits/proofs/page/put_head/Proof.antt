@@ -7,7 +7,11 @@ use Rattle.top_digits.proofs.page.put_head.Tie as tie
 
 returns : tie.Need-returns
 unfolding headText
-returns c = put-then _ _ _ (c .before .before .before .before .before .before .before .before .before .before .before .put-bytes .ensures) (put-then _ _ _ (c .before .before .before .before .before .before .before .put-number .ensures) (c .before .before .put-bytes2 .ensures))
+returns c =
+    let word = c .before .before .before .before .before .before .before .before .before .before .before .put-bytes in
+    let number = c .before .before .before .before .before .before .before .put-number in
+    let rest = c .before .before .put-bytes2 in
+    put-then _ _ _ (word .ensures) (put-then _ _ _ (number .ensures) (rest .ensures))
 
 pub put-head-spec : {M : Type 1} → statement M
 put-head-spec =

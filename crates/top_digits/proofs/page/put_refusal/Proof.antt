@@ -8,7 +8,11 @@ use Rattle.top_digits.proofs.page.put_refusal.Tie as tie
 
 returns : tie.Need-returns
 unfolding refusalLine
-returns c = put-then _ (33 ∷ []) _ (c .before .before .before .before .before .before .before .before .before .before .put-byte .ensures) (put-then _ _ _ (c .before .before .before .before .before .before .put-number .ensures) (c .before .before .put-byte2 .ensures))
+returns c =
+    let mark = c .before .before .before .before .before .before .before .before .before .before .put-byte in
+    let number = c .before .before .before .before .before .before .put-number in
+    let end = c .before .before .put-byte2 in
+    put-then _ (33 ∷ []) _ (mark .ensures) (put-then _ _ _ (number .ensures) (end .ensures))
 
 pub put-refusal-spec : {M : Type 1} → statement M
 put-refusal-spec =
