@@ -1,4 +1,4 @@
--- Sums that go through the entries of weight 1 alone.
+-- Sums that go through the entries of weight 1 alone, and sums by a list of weights.
 use mathlib.Core.Path.{_≡_, refl, ap, ap₂, _∙_}
 use mathlib.Core.Bool.{cond}
 use mathlib.Core.List.{List}

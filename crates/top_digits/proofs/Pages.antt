@@ -68,9 +68,9 @@ module _ (word : List ℕ) (read : ReadNumber) (e : read ≡ numberIn word) wher
   unfolding pageFor
   page-printed good h = rw (← e, good, lt-ltb (read .value) 2 h)
 
--- what is put in front of a slice that is long enough is the page
+-- what is put is the page, and stands in front of a slice that is long enough
 pub in-front : (word out now bs : List ℕ) (r : ℕ) → pageLength ≤ length out → pageFor word ≡ bs → textAt now r ≡ puts (textAt out 0) bs
-    → (take r now ≡ pageFor word) × (r ≤ length now)
+    → (textAt now r ≡ puts (textAt out 0) (pageFor word)) × ((take r now ≡ pageFor word) × (r ≤ length now))
 in-front word out now bs r room e p =
     let fits : length bs ≤ pageLength = rw e at (page-fits word) in
-    (front-put out 0 bs now r p (omega arith) ∙ sym e, within-put out 0 bs now r p (omega arith))
+    (rw e p, (front-put out 0 bs now r p (omega arith) ∙ sym e, within-put out 0 bs now r p (omega arith)))

@@ -69,9 +69,10 @@ fn put_refusal(out: &mut [u8], no: u32) -> usize
     put_byte(out, end, b'\n')
 }
 
-// The page for a word, in front of `out`: how many bytes it has. The caller lends PAGE_LENGTH bytes.
+// The page for a word, in front of `out`, whose rest stays: how many bytes it has. The caller lends PAGE_LENGTH bytes.
 pub fn page_for(word: &[u8], out: &mut [u8]) -> usize
     requires { ⌜ pageLength ≤ length (now out) ⌝ }
+    ensures { λ r. ⌜ textAt (now (out .exit)) r ≡ puts (textAt (now (out .entry)) 0) (pageFor (now (word .entry))) ⌝ }
     ensures { λ r. ⌜ (take r (now (out .exit)) ≡ pageFor (now (word .entry))) × (r ≤ length (now (out .exit))) ⌝ }
 {
     let read = number_in(word);
