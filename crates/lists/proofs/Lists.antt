@@ -163,6 +163,11 @@ front-taken n xs h =
     sym (front-list n (take n xs) (drop n xs) (length-take-le n xs h)) ∙ ap (λ (l : List ℕ). listTo n (λ (j : ℕ). getD l j 0)) (take-append-drop n xs)
 
 -- zeros
+pub front-zeros : (n m : ℕ) → n ≤ m → take {A = ℕ} n (replicate m 0) ≡ replicate n 0
+front-zeros zero m h = refl
+front-zeros (suc n) zero h = absurd (omega arith)
+front-zeros (suc n) (suc m) h = ap (λ (l : List ℕ). 0 ∷ l) (front-zeros n m (omega arith))
+
 pub getD-zeros : (n c : ℕ) → _≡_ {A = ℕ} (getD (replicate n 0) c 0) 0
 getD-zeros zero c = refl
 getD-zeros (suc n) zero = refl

@@ -61,6 +61,8 @@ pub const NO_BOOK: u32 = 14;
 
 pub const OUT_OF_RANGE: u32 = 15;
 
+pub const SEED: u32 = 16;
+
 // ---- The number of keys a side, and what follows from it alone
 
 pub const KEYS: usize = 1;
