@@ -26,13 +26,16 @@ use Rattle.rounding.specs.Calls.{partsNo, verdictNo, partsCall, verdictCall}
 use Rattle.message.specs.Message.{askForm, formNo}
 use Rattle.dealer.specs.Deal.{dealNo, dealCall}
 use Rattle.stock.specs.Stock.{askStocks, chooseNo, chosen}
+use Rattle.generator.specs.declared.Seeded.the-variants as Seeded
+use Rattle.generator.specs.Calls.{seedCall, drawNo, drawCall}
 use Rattle.state.specs.declared.Side.{Side}
 use Rattle.state.specs.State.{whole, sendDue, takeDue, underWay, finished, isSending, isTaking, answerNo, answerCall}
 use Rattle.side.specs.declared.Run.{Run}
 use Rattle.side.specs.Side.{handedNo, beginNo, beginCall, begunSide, sendNo, sendCall, sentSide, takeNo, takeCall, takenSide, openedList}
 use Rattle.refusals.specs.Questions.{Question, partsQuestions, verdictQuestions, formQuestions, dealQuestions, chooseQuestions}
+use Rattle.refusals.specs.Questions.{seedQuestions, drawQuestions}
 use Rattle.refusals.specs.Questions.{beginQuestions, sendQuestions, takeQuestions, answerQuestions}
-use Rattle.refusals.specs.Demands.{Decides, Refuses, RefusesSide, partsRefusal, verdictRefusal, Demand1}
+use Rattle.refusals.specs.Demands.{Decides, Refuses, RefusesSide, partsRefusal, verdictRefusal, seedRefusal, Demand1}
 use Rattle.refusals.proofs.Deciding.{firstNo, joined, decides, never-thirteen}
 use Rattle.refusals.proofs.Leaving.{went, refused, went-on, kept, stops, not-stopped, done-runs}
 
@@ -104,6 +107,35 @@ choose-refuses : (k : ℕ) (a : Shape) (first second : List ℕ) (last : ℕ)
 unfolding chosen
 choose-refuses k a first second last =
     record { decides = choose-decides k a first second last; changes-nothing = λ h. rw (ne-eqb _ 0 h) refl }
+
+-- ---- The generator for tests
+
+seed-number : (seed : ℕ) → seedRefusal (seedCall seed) ≡ ask (ltb 0 seed) 16 0
+unfolding seedCall ask
+seed-number seed = by (ltb 0 seed)
+  where
+    by : (b : Bool) → seedRefusal (cond b (Seeded.Ready (record { state = seed })) (Seeded.No 16)) ≡ ask b 16 0
+    by true = refl
+    by false = refl
+
+seed-decides : (seed : ℕ) → Decides (seedQuestions seed) (seedRefusal (seedCall seed))
+unfolding firstNo every
+seed-decides seed = rw (seed-number seed) (decides (seedQuestions seed) refl)
+
+draw-decides : (k : ℕ) (a : Shape) (out : List ℕ) → Decides (drawQuestions k a out) (drawNo k a out)
+unfolding drawNo askShape firstNo every
+draw-decides k a out = decides (drawQuestions k a out) refl
+
+draw-refuses : (k state : ℕ) (a : Shape) (out : List ℕ)
+    → let r = drawCall k state a out in
+    Refuses (drawQuestions k a out) (r .refused) ((r .state ≡ state) × (r .out ≡ out))
+unfolding drawCall
+draw-refuses k state a out = by (eqb (drawNo k a out) 0) refl
+  where
+    by : (b : Bool) → eqb (drawNo k a out) 0 ≡ b
+        → let r = drawCall k state a out in Refuses (drawQuestions k a out) (r .refused) ((r .state ≡ state) × (r .out ≡ out))
+    by true e = rw e (went (drawQuestions k a out) _ (drawNo k a out) e (draw-decides k a out))
+    by false e = rw e (refused (drawQuestions k a out) _ _ (draw-decides k a out) (refl, refl))
 
 -- ---- Level Two
 
@@ -243,6 +275,8 @@ every-call-refuses k =
       form = form-decides k;
       deal = deal-refuses k;
       choose = choose-refuses k;
+      seed = seed-decides;
+      draw = draw-refuses k;
       begin = begin-refuses k;
       send = send-refuses k;
       take = take-refuses k;

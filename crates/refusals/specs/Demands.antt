@@ -16,12 +16,16 @@ use Rattle.rounding.specs.Calls.{partsCall, verdictCall}
 use Rattle.message.specs.Message.{formNo}
 use Rattle.dealer.specs.Deal.{dealCall}
 use Rattle.stock.specs.Stock.{chooseNo, chosen}
+use Rattle.generator.specs.declared.Seeded.{Seeded}
+use Rattle.generator.specs.declared.Seeded.the-variants as Seeded
+use Rattle.generator.specs.Calls.{seedCall, drawCall}
 use Rattle.state.specs.declared.Side.{Side}
 use Rattle.state.specs.declared.Phase.the-variants.{Stopped}
 use Rattle.state.specs.State.{underWay, finished, inPhase, answerCall}
 use Rattle.side.specs.declared.Run.{Run}
 use Rattle.side.specs.Side.{beginCall, sendCall, takeCall}
 use Rattle.refusals.specs.Questions.{Question, asks, partsQuestions, verdictQuestions, formQuestions, dealQuestions, chooseQuestions}
+use Rattle.refusals.specs.Questions.{seedQuestions, drawQuestions}
 use Rattle.refusals.specs.Questions.{beginQuestions, sendQuestions, takeQuestions, answerQuestions}
 
 -- ---- "Each call asks its questions in the order given; the first no decides"
@@ -76,6 +80,11 @@ abbrev pub verdictRefusal : Verdict → ℕ
 verdictRefusal (Verdict.Is v) = 0
 verdictRefusal (Verdict.No n) = n
 
+-- that of the call that makes a generator
+abbrev pub seedRefusal : Seeded → ℕ
+seedRefusal (Seeded.Ready generator) = 0
+seedRefusal (Seeded.No n) = n
+
 pub record Demand1 (k : ℕ) : Type 0 where
   pub parts : (set w : ℕ) → Decides (partsQuestions set w) (partsRefusal (partsCall set w))
   pub verdict : (set bound : ℕ) (ws : List ℕ) → Decides (verdictQuestions set bound ws) (verdictRefusal (verdictCall set bound ws))
@@ -86,6 +95,10 @@ pub record Demand1 (k : ℕ) : Type 0 where
       Refuses (dealQuestions k a keys0 keys1 draw server phone) (r .refused) ((r .server ≡ server) × (r .phone ≡ phone))
   pub choose : (a : Shape) (first second : List ℕ) (last : ℕ)
       → Refuses (chooseQuestions k a first second last) (chooseNo k a first second last) (chosen k a first second last ≡ [])
+  pub seed : (seed : ℕ) → Decides (seedQuestions seed) (seedRefusal (seedCall seed))
+  pub draw : (state : ℕ) (a : Shape) (out : List ℕ)
+      → let r = drawCall k state a out in
+      Refuses (drawQuestions k a out) (r .refused) ((r .state ≡ state) × (r .out ≡ out))
   pub begin : (s : Side) (run : Run) (inputs book work : List ℕ)
       → let r = beginCall k s run inputs book work in
       RefusesSide (beginQuestions k s run inputs book work) (r .done .refused) s (r .done .side) (r .work ≡ work)

@@ -94,6 +94,20 @@ chooseQuestions k a first second last =
     ∷ asks 14 (someOf (isAbove last) (bothStocks size first second))
     ∷ []
 
+-- ---- The generator for tests
+
+-- "16, is the seed non-zero, asked first by the call that makes a generator"
+abbrev pub seedQuestions : ℕ → List Question
+seedQuestions seed = asks 16 (ltb 0 seed) ∷ []
+
+-- "The draw's own questions are 1, 2 and 5"
+abbrev pub drawQuestions : ℕ → Shape → List ℕ → List Question
+drawQuestions k a out =
+    asks 1 (isBit (a .set) && isBit (a .kind))
+    ∷ asks 2 (countOk (a .n))
+    ∷ asks 5 (eqb (length out) (drawLength (paramsOf a) (widthOf k)))
+    ∷ []
+
 -- ---- Level Two
 
 -- "Begin: 8 (no run under way), 1 to 7"
