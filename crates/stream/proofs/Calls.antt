@@ -10,7 +10,7 @@ use Rattle.lists.specs.Lists.{lengthBefore}
 use Rattle.lists.proofs.Bytes.{length-before-most}
 use Rattle.stream.specs.Stream.{heldAfter, heldOf, atLine, nextLine}
 use Rattle.stream.specs.declared.Stream.{Stream}
-use Rattle.stream.specs.Theorems.{State, afterCall, afterCalls}
+use Rattle.stream.specs.Theorems.{Handler, State, afterCall, afterCalls}
 
 module _ (s : Stream) (kept bytes : List ℕ) where
   -- a call uses one byte at least, and no more than there are
@@ -39,21 +39,21 @@ module _ (s : Stream) (kept bytes : List ℕ) where
       go (yes l) h = rw (lt-ltb (lengthBefore 10 bytes) (length bytes) l) h
       go (no l) h = rw (le-ltb (lengthBefore 10 bytes) (length bytes) (omega arith)) h
 
-module _ (answer : ℕ → List ℕ → List ℕ) where
-  pub no-calls : (fuel : ℕ) (a : State) → afterCalls answer fuel a [] ≡ a
+module _ {C : Type 0} (handler : Handler C) where
+  pub no-calls : (fuel : ℕ) (a : State C) → afterCalls handler fuel a [] ≡ a
   unfolding afterCalls
   no-calls zero a = refl
   no-calls (suc fuel) a = refl
 
   -- the first call
-  calls-first : (fuel : ℕ) (a : State) (bytes : List ℕ) → 0 < length bytes
-      → afterCalls answer (suc fuel) a bytes ≡ afterCalls answer fuel (afterCall answer a bytes) (drop (nextLine (a .stream) (a .kept) bytes .used) bytes)
+  calls-first : (fuel : ℕ) (a : State C) (bytes : List ℕ) → 0 < length bytes
+      → afterCalls handler (suc fuel) a bytes ≡ afterCalls handler fuel (afterCall handler a bytes) (drop (nextLine (a .stream) (a .kept) bytes .used) bytes)
   unfolding afterCalls
   calls-first fuel a bytes h = rw (ne-eqb (length bytes) 0 (λ e. omega arith)) refl
 
   -- so many calls and so many others do the same where both are enough
   abbrev Same : ℕ → ℕ → Type 0
-  Same f g = (a : State) (bytes : List ℕ) → length bytes ≤ f → length bytes ≤ g → afterCalls answer f a bytes ≡ afterCalls answer g a bytes
+  Same f g = (a : State C) (bytes : List ℕ) → length bytes ≤ f → length bytes ≤ g → afterCalls handler f a bytes ≡ afterCalls handler g a bytes
 
   same-more : (f g : ℕ) → Same f g → Same (suc f) (suc g)
   same-more f g more a [] l m = no-calls (suc f) a ∙ sym (no-calls (suc g) a)
@@ -61,10 +61,10 @@ module _ (answer : ℕ → List ℕ → List ℕ) where
       let u : 0 < nextLine (a .stream) (a .kept) (b ∷ bytes) .used = some-used (a .stream) (a .kept) (b ∷ bytes) (omega arith) in
       let d = length-drop (nextLine (a .stream) (a .kept) (b ∷ bytes) .used) (b ∷ bytes) in
       calls-first f a (b ∷ bytes) (omega arith)
-      ∙ more (afterCall answer a (b ∷ bytes)) (drop (nextLine (a .stream) (a .kept) (b ∷ bytes) .used) (b ∷ bytes)) (omega arith) (omega arith)
+      ∙ more (afterCall handler a (b ∷ bytes)) (drop (nextLine (a .stream) (a .kept) (b ∷ bytes) .used) (b ∷ bytes)) (omega arith) (omega arith)
       ∙ sym (calls-first g a (b ∷ bytes) (omega arith))
 
-  none-same : (f g : ℕ) (a : State) (bytes : List ℕ) → length bytes ≡ 0 → afterCalls answer f a bytes ≡ afterCalls answer g a bytes
+  none-same : (f g : ℕ) (a : State C) (bytes : List ℕ) → length bytes ≡ 0 → afterCalls handler f a bytes ≡ afterCalls handler g a bytes
   none-same f g a [] e = no-calls f a ∙ sym (no-calls g a)
   none-same f g a (b ∷ bytes) e = absurd (omega arith)
 
@@ -74,12 +74,12 @@ module _ (answer : ℕ → List ℕ → List ℕ) where
   enough (suc f) (suc g) a bytes l m = same-more f g (enough f g) a bytes l m
 
   -- all calls of a part are the first, and then all of what it left
-  pub calls-more : (a : State) (bytes : List ℕ) → 0 < length bytes
+  pub calls-more : (a : State C) (bytes : List ℕ) → 0 < length bytes
       → let left = drop (nextLine (a .stream) (a .kept) bytes .used) bytes in
-      afterCalls answer (length left) (afterCall answer a bytes) left ≡ afterCalls answer (length bytes) a bytes
+      afterCalls handler (length left) (afterCall handler a bytes) left ≡ afterCalls handler (length bytes) a bytes
   calls-more a [] h = absurd (omega arith)
   calls-more a (b ∷ bytes) h =
       let u : 0 < nextLine (a .stream) (a .kept) (b ∷ bytes) .used = some-used (a .stream) (a .kept) (b ∷ bytes) h in
       let d = length-drop (nextLine (a .stream) (a .kept) (b ∷ bytes) .used) (b ∷ bytes) in
-      enough _ (length bytes) (afterCall answer a (b ∷ bytes)) (drop (nextLine (a .stream) (a .kept) (b ∷ bytes) .used) (b ∷ bytes)) (omega arith) (omega arith)
+      enough _ (length bytes) (afterCall handler a (b ∷ bytes)) (drop (nextLine (a .stream) (a .kept) (b ∷ bytes) .used) (b ∷ bytes)) (omega arith) (omega arith)
       ∙ sym (calls-first (length bytes) a (b ∷ bytes) h)

@@ -9,11 +9,11 @@ use native.Mathlib.Decide.{decLt}
 use borrow.Author.Tests.{lt-ltb, le-ltb, ne-eqb}
 use lib.ListN.{length, take, drop, length-take, length-append, length-drop}
 use lib.Seq.{take-append-seam, take-append-le, take-nil, take-take, take-all, drop-length}
-use Rattle.stream.specs.Input.{linesOf, answersFrom, outputOf}
+use Rattle.stream.specs.Input.{linesOf, answersFrom, outputOf, carriedFrom, carriedOver}
 use Rattle.lists.specs.Lists.{lengthBefore}
 use Rattle.lists.proofs.Bytes.{length-before-most}
 use Rattle.stream.specs.Stream.{atStart, atLine, heldOf, heldAfter, keptAfter, nextLine}
-use Rattle.stream.specs.Theorems.{State, afterCall, afterCalls, afterParts, afterEnd, writtenFor, concatenated, WritesTheOutput}
+use Rattle.stream.specs.Theorems.{Handler, State, Outcome, LooksAt, afterCall, afterCalls, afterParts, afterEnd, outcomeFor, concatenated, WritesTheOutput}
 use Rattle.stream.proofs.Standing.{same-line, left-none, left-is}
 use Rattle.stream.proofs.Onto.{onto, onto-append, onto-line, onto-none, lines-ended, lines-open}
 
@@ -32,20 +32,21 @@ take-front n xs ys = go (decLt n (length xs))
         ∙ sym (take-append-le n xs ys (omega arith))
     go (no h) = ap (λ (l : List ℕ). take n (l ++ ys)) (take-all n xs (omega arith))
 
-module _ (answer : ℕ → List ℕ → List ℕ) (room : ℕ) (cut : (k : ℕ) (line : List ℕ) → answer k (take room line) ≡ answer k line) (total : List ℕ) where
+module _ {C : Type 0} (handler : Handler C) (room : ℕ) (cut : LooksAt C room handler) (total : Outcome C) where
   -- what holds between two calls, when `rest` is still to come: the number and the bytes of the line that is being read
-  record Stands (a : State) (rest : List ℕ) : Type 0 where
+  record Stands (a : State C) (rest : List ℕ) : Type 0 where
     k : ℕ
     line : List ℕ
     number : atLine (a .stream) .number ≡ min k most
     held : heldOf (atLine (a .stream)) (a .kept) ≡ take room line
     long : length (a .kept) ≡ room
     shut : a .stream .ended ≡ true → line ≡ []
-    output : a .written ++ answersFrom answer k (onto line (linesOf rest)) ≡ total
+    output : a .written ++ answersFrom (handler .answer) k (onto line (linesOf rest)) ≡ total .written
+    carrying : carriedFrom (handler .carry) k (onto line (linesOf rest)) (a .carried) ≡ total .carried
     few : k + length (onto line (linesOf rest)) ≤ suc most
 
   -- one call, on the number of the line and the bytes that are held then
-  module _ (a : State) (bytes rest : List ℕ) (st : Stands a (bytes ++ rest)) where
+  module _ (a : State C) (bytes rest : List ℕ) (st : Stands a (bytes ++ rest)) where
     abbrev n : ℕ
     n = lengthBefore 10 bytes
 
@@ -68,17 +69,18 @@ module _ (answer : ℕ → List ℕ → List ℕ) (room : ℕ) (cut : (k : ℕ) 
         ∙ omega (arith, length-held, st .long, length-drop (length (heldAfter (a .stream) (a .kept) bytes)) (a .kept))
 
     -- the line has ended, and is answered
-    abbrev ended : State
+    abbrev ended : State C
     ended =
         record {
           stream = record { number = atLine (a .stream) .number; held = length (heldAfter (a .stream) (a .kept) bytes); ended = true };
           kept = keptAfter (a .stream) (a .kept) bytes;
           written =
               a .written
-              ++ answer (atLine (a .stream) .number) (take (length (heldAfter (a .stream) (a .kept) bytes)) (keptAfter (a .stream) (a .kept) bytes));
+              ++ handler .answer (atLine (a .stream) .number) (take (length (heldAfter (a .stream) (a .kept) bytes)) (keptAfter (a .stream) (a .kept) bytes));
+          carried = handler .carry (atLine (a .stream) .number) (take (length (heldAfter (a .stream) (a .kept) bytes)) (keptAfter (a .stream) (a .kept) bytes)) (a .carried);
         }
 
-    called-ended : n < length bytes → afterCall answer a bytes ≡ ended
+    called-ended : n < length bytes → afterCall handler a bytes ≡ ended
     unfolding afterCall nextLine
     called-ended h = rw (lt-ltb n (length bytes) h) refl
 
@@ -95,12 +97,13 @@ module _ (answer : ℕ → List ℕ → List ℕ) (room : ℕ) (cut : (k : ℕ) 
         ∙ ap (λ (l : List ℕ). l ∷ linesOf (drop (suc n) bytes ++ rest)) (append-nil grown)
 
     stands-ended : n < length bytes → Stands ended (drop (suc n) bytes ++ rest)
-    unfolding atLine onto answersFrom
+    unfolding atLine onto answersFrom carriedFrom
     stands-ended h =
         let f : st .k + suc (length (linesOf (drop (suc n) bytes ++ rest))) ≤ suc most = rw (lines-next h) at (st .few) in
         let m : atLine (a .stream) .number ≡ st .k = st .number ∙ omega (arith, f) in
-        let t : answer (atLine (a .stream) .number) (take (length (heldAfter (a .stream) (a .kept) bytes)) (keptAfter (a .stream) (a .kept) bytes)) ≡ answer (st .k) grown =
-        rw (m, kept-front) (cut (st .k) grown) in
+        let t : handler .answer (atLine (a .stream) .number) (take (length (heldAfter (a .stream) (a .kept) bytes)) (keptAfter (a .stream) (a .kept) bytes)) ≡ handler .answer (st .k) grown =
+        rw (m, kept-front) (cut .answer-cut (st .k) grown) in
+        let u : ended .carried ≡ handler .carry (st .k) grown (a .carried) = rw (m, kept-front) (cut .carry-cut (st .k) grown (a .carried)) in
         record {
           k = suc (st .k);
           line = [];
@@ -108,20 +111,22 @@ module _ (answer : ℕ → List ℕ → List ℕ) (room : ℕ) (cut : (k : ℕ) 
           held = sym (take-nil room);
           long = kept-long;
           shut = λ _. refl;
-          output = rw t (append-assoc (a .written) (answer (st .k) grown) _ ∙ (rw (lines-next h) at (st .output)));
+          output = rw t (append-assoc (a .written) (handler .answer (st .k) grown) _ ∙ (rw (lines-next h) at (st .output)));
+          carrying = rw u (rw (lines-next h) at (st .carrying));
           few = omega (arith, f);
         }
 
     -- it goes on
-    abbrev going : State
+    abbrev going : State C
     going =
         record {
           stream = record { number = atLine (a .stream) .number; held = length (heldAfter (a .stream) (a .kept) bytes); ended = false };
           kept = keptAfter (a .stream) (a .kept) bytes;
           written = a .written ++ [];
+          carried = a .carried;
         }
 
-    called-open : length bytes ≤ n → afterCall answer a bytes ≡ going
+    called-open : length bytes ≤ n → afterCall handler a bytes ≡ going
     unfolding afterCall nextLine
     called-open h = rw (le-ltb n (length bytes) h) refl
 
@@ -146,6 +151,7 @@ module _ (answer : ℕ → List ℕ → List ℕ) (room : ℕ) (cut : (k : ℕ) 
           long = kept-long;
           shut = λ e. absurd (true≢false (sym e));
           output = rw append-nil (rw (lines-same h) at (st .output));
+          carrying = rw (lines-same h) at (st .carrying);
           few = rw (lines-same h) at (st .few);
         }
 
@@ -153,7 +159,7 @@ module _ (answer : ℕ → List ℕ → List ℕ) (room : ℕ) (cut : (k : ℕ) 
 
   -- so many calls take in any part of so many bytes
   abbrev Enough : ℕ → Type 0
-  Enough fuel = (a : State) (bytes rest : List ℕ) → length bytes ≤ fuel → Stands a (bytes ++ rest) → Stands (afterCalls answer fuel a bytes) rest
+  Enough fuel = (a : State C) (bytes rest : List ℕ) → length bytes ≤ fuel → Stands a (bytes ++ rest) → Stands (afterCalls handler fuel a bytes) rest
 
   one-more : (fuel : ℕ) → Enough fuel → Enough (suc fuel)
   unfolding afterCalls
@@ -161,7 +167,7 @@ module _ (answer : ℕ → List ℕ → List ℕ) (room : ℕ) (cut : (k : ℕ) 
   one-more fuel more a (b ∷ bytes) rest h st = rw (ne-eqb (suc (length bytes)) 0 (λ e. omega arith)) (go (decLt (lengthBefore 10 (b ∷ bytes)) (suc (length bytes))))
     where
       go : Dec (lengthBefore 10 (b ∷ bytes) < suc (length bytes))
-          → Stands (afterCalls answer fuel (afterCall answer a (b ∷ bytes)) (drop (nextLine (a .stream) (a .kept) (b ∷ bytes) .used) (b ∷ bytes))) rest
+          → Stands (afterCalls handler fuel (afterCall handler a (b ∷ bytes)) (drop (nextLine (a .stream) (a .kept) (b ∷ bytes) .used) (b ∷ bytes))) rest
       go (yes l) =
           rw (called-ended a (b ∷ bytes) rest st l, used-ended a (b ∷ bytes) rest st l)
           (more _ (drop (lengthBefore 10 (b ∷ bytes)) bytes) rest (omega (arith, length-drop (lengthBefore 10 (b ∷ bytes)) bytes)) (stands-ended a (b ∷ bytes) rest st l))
@@ -175,10 +181,10 @@ module _ (answer : ℕ → List ℕ → List ℕ) (room : ℕ) (cut : (k : ℕ) 
   calls zero a (b ∷ bytes) rest h st = absurd (omega arith)
   calls (suc fuel) a bytes rest h st = one-more fuel (calls fuel) a bytes rest h st
 
-  parts-stand : (ps : List (List ℕ)) (a : State) → Stands a (concatenated ps) → Stands (afterParts answer a ps) []
+  parts-stand : (ps : List (List ℕ)) (a : State C) → Stands a (concatenated ps) → Stands (afterParts handler a ps) []
   unfolding afterParts concatenated
   parts-stand [] a st = st
-  parts-stand (p ∷ ps) a st = parts-stand ps (afterCalls answer (length p) a p) (calls (length p) a p (concatenated ps) (omega arith) st)
+  parts-stand (p ∷ ps) a st = parts-stand ps (afterCalls handler (length p) a p) (calls (length p) a p (concatenated ps) (omega arith) st)
 
   -- ---- the end
 
@@ -193,24 +199,34 @@ module _ (answer : ℕ → List ℕ → List ℕ) (room : ℕ) (cut : (k : ℕ) 
   some-left kept [] held p l r h = absurd (omega (arith, simp length-take at (ap length h)))
   some-left kept (b ∷ line) held p l r h = onto-none b line
 
-  module _ (a : State) (st : Stands a []) where
-    no-line : st .line ≡ [] → a .written ++ [] ≡ total
-    unfolding linesOf onto answersFrom
-    no-line e = rw e at (st .output)
+  module _ (a : State C) (st : Stands a []) where
+    no-line : st .line ≡ [] → _≡_ {A = Outcome C} (record { written = a .written ++ []; carried = a .carried }) total
+    unfolding linesOf onto answersFrom carriedFrom
+    no-line e = rw (rw e at (st .output), rw e at (st .carrying)) refl
 
-    last-line : a .stream .ended ≡ false → onto (st .line) [] ≡ st .line ∷ [] → a .written ++ answer (atLine (a .stream) .number) (heldOf (a .stream) (a .kept)) ≡ total
-    unfolding linesOf answersFrom
+    last-line : a .stream .ended ≡ false → onto (st .line) [] ≡ st .line ∷ []
+        → let number = atLine (a .stream) .number in
+        let line = heldOf (a .stream) (a .kept) in
+        _≡_ {A = Outcome C} (record { written = a .written ++ handler .answer number line; carried = handler .carry number line (a .carried) }) total
+    unfolding linesOf answersFrom carriedFrom
     last-line e l =
         let f : st .k + 1 ≤ suc most = rw l at (st .few) in
         let m : atLine (a .stream) .number ≡ st .k = st .number ∙ omega (arith, f) in
         let h : heldOf (a .stream) (a .kept) ≡ take room (st .line) = rw (same-line (a .stream) e) at (st .held) in
-        rw (m, h, cut (st .k) (st .line)) (rw (l, append-nil (answer (st .k) (st .line))) at (st .output))
+        rw (
+          m,
+          h,
+          cut .answer-cut (st .k) (st .line),
+          cut .carry-cut (st .k) (st .line) (a .carried),
+          rw (l, append-nil (handler .answer (st .k) (st .line))) at (st .output),
+          rw l at (st .carrying),
+        ) refl
 
-    written-end : 0 < room → afterEnd answer a ≡ total
+    ends : 0 < room → afterEnd handler a ≡ total
     unfolding afterEnd
-    written-end r = go (a .stream .ended) refl (decLt 0 (a .stream .held))
+    ends r = go (a .stream .ended) refl (decLt 0 (a .stream .held))
       where
-        go : (t : Bool) → a .stream .ended ≡ t → Dec (0 < a .stream .held) → afterEnd answer a ≡ total
+        go : (t : Bool) → a .stream .ended ≡ t → Dec (0 < a .stream .held) → afterEnd handler a ≡ total
         go true e _ = rw (left-none (a .stream) e) (no-line (st .shut e))
         go false e (yes l) =
             rw (left-is (a .stream) true e (lt-ltb 0 (a .stream .held) l))
@@ -220,11 +236,11 @@ module _ (answer : ℕ → List ℕ → List ℕ) (room : ℕ) (cut : (k : ℕ) 
             (no-line (none-left (a .kept) (st .line) (a .stream .held) r (omega arith) (rw (same-line (a .stream) e) at (st .held))))
 
 pub writes-the-output : WritesTheOutput
-unfolding writtenFor outputOf onto atLine
-writes-the-output answer kept r cut parts few =
+unfolding outcomeFor outputOf carriedOver onto atLine
+writes-the-output C handler c kept r cut parts few =
     let input = concatenated parts in
-    let total = outputOf answer input in
-    let begin : Stands answer (length kept) cut total (record { stream = atStart; kept = kept; written = [] }) input =
+    let total : Outcome C = record { written = outputOf (handler .answer) input; carried = carriedOver (handler .carry) input c } in
+    let begin : Stands handler (length kept) cut total (record { stream = atStart; kept = kept; written = []; carried = c }) input =
     record {
       k = 1;
       line = [];
@@ -233,7 +249,8 @@ writes-the-output answer kept r cut parts few =
       long = refl;
       shut = λ _. refl;
       output = refl;
+      carrying = refl;
       few = omega (arith, few);
     }
     in
-    written-end answer (length kept) cut total _ (parts-stand answer (length kept) cut total parts _ begin) r
+    ends handler (length kept) cut total _ (parts-stand handler (length kept) cut total parts _ begin) r

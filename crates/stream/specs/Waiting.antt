@@ -3,16 +3,16 @@ use Prim.Native.Nat.{ℕ}
 use mathlib.Core.List.{List, []}
 use lib.ListN.{length, take}
 use Rattle.stream.specs.declared.Stream.{Stream}
-use Rattle.stream.specs.Theorems.{State, afterCalls}
+use Rattle.stream.specs.Theorems.{Handler, State, afterCalls}
 
 -- where a program stands since the last write: the first bytes of `out` wait
-abbrev pub standing : Stream → List ℕ → List ℕ → ℕ → State
-standing s kept out waiting = record { stream = s; kept = kept; written = take waiting out }
+abbrev pub standing : {C : Type 0} → Stream → List ℕ → List ℕ → ℕ → C → State C
+standing s kept out waiting c = record { stream = s; kept = kept; written = take waiting out; carried = c }
 
 -- the same, when all that waited has been written
-abbrev pub flushed : State → State
-flushed a = record { stream = a .stream; kept = a .kept; written = [] }
+abbrev pub flushed : {C : Type 0} → State C → State C
+flushed a = record { stream = a .stream; kept = a .kept; written = []; carried = a .carried }
 
 -- after all calls of a part
-abbrev pub allCalls : (ℕ → List ℕ → List ℕ) → State → List ℕ → State
-allCalls answer a bytes = afterCalls answer (length bytes) a bytes
+abbrev pub allCalls : {C : Type 0} → Handler C → State C → List ℕ → State C
+allCalls h a bytes = afterCalls h (length bytes) a bytes
