@@ -1,2 +1,2 @@
--- The laws of the program's answers.
+-- The law of the program's output.
 pub mod Program

@@ -1,2 +1,2 @@
--- What the program writes for a line and for an input.
+-- What the program writes for an input.
 pub mod Theorems

@@ -4,18 +4,19 @@ use mathlib.Core.Path.{_≡_}
 use mathlib.Core.List.{List}
 use lib.ListN.{length}
 use Rattle.stream.specs.Input.{linesOf, outputOf}
-use Rattle.stream.specs.Theorems.{concatenated, writtenFor}
+use Rattle.stream.specs.Theorems.{concatenated}
 use Rattle.lines.specs.Plain.{lineAnswer}
+use Rattle.line_input.specs.Answers.{keptLength}
+use Rattle.line_input.specs.Theorems.{writtenFor}
 
--- one byte more than a line may have, so that one that is too long is seen to be
-abbrev pub keptLength : ℕ
-keptLength = 1025
+-- "an all-zero draw": the state that no seed leads to
+abbrev pub noGenerator : ℕ
+noGenerator = 0
 
--- WritesTheOutput for the program's own answers, over a slice of the length that it uses
-abbrev pub AnswersEachLine : Type 0
-AnswersEachLine =
+abbrev pub WritesAnswers : Type 0
+WritesAnswers =
     (kept : List ℕ)
     → length kept ≡ keptLength
     → (parts : List (List ℕ))
     → length (linesOf (concatenated parts)) < 18446744073709551616
-    → writtenFor lineAnswer kept parts ≡ outputOf lineAnswer (concatenated parts)
+    → writtenFor noGenerator kept parts ≡ outputOf lineAnswer (concatenated parts)

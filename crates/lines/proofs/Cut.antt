@@ -8,7 +8,7 @@ use borrow.Author.Tests.{lt-ltb}
 use lib.ListN.{length, take, length-take}
 use lib.Seq.{take-all}
 use Rattle.syntax.specs.Line.{lineOf}
-use Rattle.lines.specs.Plain.{lineAnswer}
+use Rattle.lines.specs.Plain.{lineAnswer, lineDraws, lineState}
 
 cut-order : (line : List ℕ) → lineOf (take 1025 line) ≡ lineOf line
 unfolding lineOf
@@ -21,3 +21,7 @@ cut-order line = go (decLt 1024 (length line))
 pub cut-line : (k : ℕ) (line : List ℕ) → lineAnswer k (take 1025 line) ≡ lineAnswer k line
 unfolding lineAnswer
 cut-line k line = rw (cut-order line) refl
+
+pub cut-state : (k : ℕ) (line : List ℕ) (state : ℕ) → lineState k (take 1025 line) state ≡ lineState k line state
+unfolding lineState lineDraws
+cut-state k line state = rw (cut-order line) refl

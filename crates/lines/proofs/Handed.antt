@@ -66,11 +66,6 @@ unfolding allBelow every
 zeros-below zero = refl
 zeros-below (suc n) = zeros-below n
 
-pub front-zeros : (n m : ℕ) → n ≤ m → take {A = ℕ} n (replicate m 0) ≡ replicate n 0
-front-zeros zero m h = refl
-front-zeros (suc n) zero h = absurd (omega arith)
-front-zeros (suc n) (suc m) h = ap (λ (l : List ℕ). 0 ∷ l) (front-zeros n m (omega arith))
-
 pub behind-zeros : (n m : ℕ) → drop {A = ℕ} n (replicate (n + m) 0) ≡ replicate m 0
 behind-zeros zero m = let e : 0 + m ≡ m = omega arith in rw e
 behind-zeros (suc n) m = let e : suc n + m ≡ suc (n + m) = omega arith in rw e (behind-zeros n m)

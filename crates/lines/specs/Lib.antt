@@ -1,3 +1,3 @@
--- What a line gives by the plain meaning, and the run that gives it.
+-- What a line gives by the plain meaning, what it draws, and the run that gives it.
 pub mod Plain
 pub mod Run

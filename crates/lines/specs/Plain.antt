@@ -1,4 +1,4 @@
--- What a line gives: its refusal, or the answer by the plain meaning.
+-- What a line gives: its refusal, or the answer by the plain meaning; and the state that it leaves a generator in.
 use Prim.Native.Nat.{ℕ}
 use mathlib.Core.Bool.{cond}
 use mathlib.Core.List.{List, []}
@@ -9,7 +9,9 @@ use Rattle.lists.specs.Lists.{allBelow, inFront}
 use Rattle.field.specs.Field.{q}
 use Rattle.settings.specs.Questions.{askSettings}
 use Rattle.settings.specs.declared.Settings.{Settings}
-use Rattle.settings.specs.Settings.{settingsWith}
+use Rattle.settings.specs.Settings.{settingsWith, paramsIn}
+use Rattle.settings.specs.Sizes.{width, drawLength}
+use Rattle.generator.specs.Step.{stepped}
 use Rattle.runs.specs.Records.{answerOf}
 use Rattle.syntax.specs.declared.Request.{Request}
 use Rattle.text.specs.Decimal.{tooLarge}
@@ -59,3 +61,24 @@ lineAnswer number line =
     let request = lineOf line in
     cond (leb tooLarge number) (malformedAnswer number)
     (cond (request .good) (resultAnswer number (resultFor number request)) (malformedAnswer number))
+
+-- ---- The generator
+
+-- how many numbers the draw of a request's run has
+abbrev pub drawnFor : Request → ℕ
+drawnFor request = drawLength (paramsIn (settingsOf request)) width
+
+-- "A refused line leaves the generator as it was": how many numbers a request draws
+unfoldable pub requestDraws : ℕ → Request → ℕ
+requestDraws serial request = cond (eqb (requestNo serial request) 0) (drawnFor request) 0
+
+-- how many a line draws: none where it asks for no run
+unfoldable pub lineDraws : ℕ → List ℕ → ℕ
+lineDraws number line =
+    let request = lineOf line in
+    cond (leb tooLarge number) 0
+    (cond (request .good) (requestDraws number request) 0)
+
+-- "one generator": the state that a line leaves it in
+unfoldable pub lineState : ℕ → List ℕ → ℕ → ℕ
+lineState number line state = stepped (lineDraws number line) state

@@ -4,15 +4,16 @@ use mathlib.Core.Path.{_≡_}
 use mathlib.Core.List.{List, _++_}
 use lib.ListN.{length, getD, replicate}
 use Rattle.lists.specs.Lists.{listTo}
-use Rattle.settings.specs.Sizes.{keyCount, width, drawLength, workLength}
-use Rattle.settings.specs.Settings.{paramsIn}
+use Rattle.field.specs.Field.{q}
+use Rattle.settings.specs.Sizes.{keyCount, width, workLength}
+use Rattle.generator.specs.Step.{outputs}
 use Rattle.state.specs.declared.Side.{Side}
 use Rattle.state.specs.State.{answerCall}
 use Rattle.syntax.specs.declared.Request.{Request}
 use Rattle.execution.specs.declared.RunTerms.{RunTerms}
 use Rattle.execution.specs.Held.{runBytes, bookLength}
 use Rattle.lines.specs.declared.LineResult.{LineResult}
-use Rattle.lines.specs.Plain.{settingsOf, secretOf}
+use Rattle.lines.specs.Plain.{settingsOf, secretOf, drawnFor}
 
 -- "keys 1, serial = line number"
 abbrev pub ones : List ℕ
@@ -25,13 +26,17 @@ termsFor serial request = record { settings = settingsOf request; serial = seria
 unfoldable pub inColumns : List ℕ → List ℕ
 inColumns xs = listTo (length xs * width) (λ (x : ℕ). getD xs (x / width) 0)
 
--- "the phone's input numbers are 0", "an all-zero draw": so many zeros behind the server's inputs
-abbrev pub zerosFor : Request → ℕ
-zerosFor request = request .count * width + drawLength (paramsIn (settingsOf request)) width
+-- how many numbers a side's inputs are, and all numbers of the run
+abbrev pub inputsFor : Request → ℕ
+inputsFor request = request .count * width
 
--- the numbers of the run
-abbrev pub numbersFor : Request → List ℕ
-numbersFor request = inColumns (secretOf request) ++ replicate (zerosFor request) 0
+abbrev pub countFor : Request → ℕ
+countFor request = 2 * inputsFor request + drawnFor request
+
+-- the numbers of the run: the server's inputs; "the phone's input numbers are 0"; the draw of a generator in a state. The line program's
+-- "all-zero draw" is that of state 0, which no seed leads to (`outputs-zero`)
+abbrev pub numbersFor : ℕ → Request → List ℕ
+numbersFor state request = inColumns (secretOf request) ++ (replicate (inputsFor request) 0 ++ outputs q state (drawnFor request))
 
 -- what a side's answer says
 unfoldable pub answeredBy : Side → LineResult

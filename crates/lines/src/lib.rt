@@ -1,15 +1,21 @@
-// One line of the line program, but for moving bytes: the run that it asks for, executed, and its output line.
+// One line of the line program or the load program, but for moving bytes: the run that it asks for, executed, and its output line.
 ghost use mathlib.Core.Path.{_≡_};
+ghost use mathlib.Core.Bool.{true};
 ghost use mathlib.Core.List.{[]};
-ghost use Prim.Native.Nat.{_+_, _*_, _≤_};
-ghost use lib.ListN.{length, replicate};
-ghost use Rattle.settings.specs.Sizes.{width};
+ghost use Prim.Native.Nat.{_+_, _-_, _*_, _≤_};
+ghost use lib.ListN.{length, drop, replicate};
+ghost use Rattle.field.specs.Field.{q};
+ghost use Rattle.settings.specs.Settings.{paramsOf};
+ghost use Rattle.settings.specs.Questions.{shapeOk};
+ghost use Rattle.settings.specs.Sizes.{width, drawLength};
+ghost use Rattle.generator.specs.Step.{stepped, outputs};
 ghost use Rattle.text.specs.Text.{textAt, puts};
-ghost use Rattle.lines.specs.Plain.{settingsOf, requestNo, resultFor, resultAnswer, malformedAnswer, lineAnswer};
-ghost use Rattle.lines.specs.Run.{termsFor, inColumns, zerosFor, answeredBy, RoomForRun, LentToLine};
+ghost use Rattle.lines.specs.Plain.{settingsOf, requestNo, resultFor, resultAnswer, malformedAnswer, lineAnswer, drawnFor, requestDraws, lineState};
+ghost use Rattle.lines.specs.Run.{termsFor, inColumns, countFor, numbersFor, answeredBy, RoomForRun, LentToLine};
 use execution::RunTerms;
 use execution::execute;
 use field::all_below_q;
+use generator::draw_by;
 use lists::least;
 use settings::FIELDS;
 use settings::KEYS;
@@ -38,6 +44,18 @@ struct LineResult {
     refused: u32,
     length: usize,
     numbers: [u32; 8],
+}
+
+// The same, and the state that it leaves the generator in.
+struct RunResult {
+    line: LineResult,
+    state: u32,
+}
+
+// The place behind an output line, and the state that the line leaves the generator in.
+pub struct LineEnd {
+    pub at: usize,
+    pub state: u32,
 }
 
 // ---- The questions
@@ -126,8 +144,53 @@ fn answered_by(side: Side) -> LineResult
     }
 }
 
+// The draw of a run, into zeros; the state behind it. State 0, which no seed leads to, gives zeros: they are left as they are.
+fn draw_run(state: u32, shape: Shape, out: &mut [u32]) -> u32
+    requires { ⌜ shapeOk shape ≡ true ⌝ }
+    requires { ⌜ now out ≡ replicate (drawLength (paramsOf shape) width) 0 ⌝ }
+    ensures { λ r. ⌜ r ≡ stepped (drawLength (paramsOf shape) width) state ⌝ }
+    ensures { λ _. ⌜ now (out .exit) ≡ outputs q state (drawLength (paramsOf shape) width) ⌝ }
+{
+    if state == 0 {
+        return 0;
+    }
+    draw_by(state, shape, out).state
+}
+
+// The numbers of a run, into zeros; the state behind its draw.
+fn fill_run(state: u32, request: Request, numbers: &mut [u32]) -> u32
+    requires { ⌜ shapeOk (settingsOf request .shape) ≡ true ⌝ }
+    requires { ⌜ now numbers ≡ replicate (countFor request) 0 ⌝ }
+    ensures { λ r. ⌜ r ≡ stepped (drawnFor request) state ⌝ }
+    ensures { λ _. ⌜ now (numbers .exit) ≡ numbersFor state request ⌝ }
+{
+    let coefficients = request.numbers;
+    let count = request.count as usize;
+    let inputs = count * WIDTH;
+    spread(&mut numbers[..inputs], &coefficients[..count]);
+    draw_run(
+        state,
+        settings_of(request).shape,
+        &mut numbers[2 * inputs..],
+    )
+}
+
+// Zeros again behind a run. With state 0 all behind the server's inputs has stayed zero.
+fn clear_run(state: u32, inputs: usize, numbers: &mut [u32])
+    requires { ⌜ inputs ≤ length (now numbers) ⌝ }
+    requires { ⌜ (state ≡ 0 → drop inputs (now numbers) ≡ replicate (length (now numbers) - inputs) 0) ⌝ }
+    ensures { λ _. ⌜ now (numbers .exit) ≡ replicate (length (now (numbers .entry))) 0 ⌝ }
+{
+    if state == 0 {
+        clear(&mut numbers[..inputs]);
+        return;
+    }
+    clear(numbers);
+}
+
 // The run of a request that no question refuses, and the server's answer. The numbers are lent as zeros and left so.
 fn run_in(
+    state: u32,
     serial: u32,
     request: Request,
     numbers: &mut [u32],
@@ -136,28 +199,30 @@ fn run_in(
     work0: &mut [u32],
     work1: &mut [u32],
     messages: &mut [u8],
-) -> LineResult
+) -> RunResult
     requires { ⌜ requestNo serial request ≡ 0 ⌝ }
-    requires { ⌜ now numbers ≡ replicate (request .count * width + zerosFor request) 0 ⌝ }
+    requires { ⌜ now numbers ≡ replicate (countFor request) 0 ⌝ }
     requires { ⌜ RoomForRun (now book0) (now book1) (now work0) (now work1) (now messages) ⌝ }
-    ensures { λ r. ⌜ r ≡ resultFor serial request ⌝ }
+    ensures { λ r. ⌜ r .line ≡ resultFor serial request ⌝ }
+    ensures { λ r. ⌜ r .state ≡ stepped (drawnFor request) state ⌝ }
     ensures { λ _. ⌜ now (numbers .exit) ≡ now (numbers .entry) ⌝ }
     ensures { λ _. ⌜ RoomForRun (now (book0 .exit)) (now (book1 .exit)) (now (work0 .exit)) (now (work1 .exit)) (now (messages .exit)) ⌝ }
 {
-    let coefficients = request.numbers;
-    let count = request.count as usize;
-    let each = count * WIDTH;
-    spread(&mut numbers[..each], &coefficients[..count]);
+    let after = fill_run(state, request, numbers);
     let terms = terms_of(serial, request);
     let end = execute(terms, numbers, book0, book1, work0, work1, messages);
-    clear(&mut numbers[..each]);
+    clear_run(state, request.count as usize * WIDTH, numbers);
     let server = end.server;
     let side = server.side;
-    answered_by(side)
+    RunResult {
+        line: answered_by(side),
+        state: after,
+    }
 }
 
 // The run of a request that no question refuses, in the front of the lent zeros.
 fn run_request(
+    state: u32,
     serial: u32,
     request: Request,
     numbers: &mut [u32],
@@ -166,15 +231,17 @@ fn run_request(
     work0: &mut [u32],
     work1: &mut [u32],
     messages: &mut [u8],
-) -> LineResult
+) -> RunResult
     requires { ⌜ requestNo serial request ≡ 0 ⌝ }
     requires { ⌜ LentToLine (now numbers) (now book0) (now book1) (now work0) (now work1) (now messages) ⌝ }
-    ensures { λ r. ⌜ r ≡ resultFor serial request ⌝ }
+    ensures { λ r. ⌜ r .line ≡ resultFor serial request ⌝ }
+    ensures { λ r. ⌜ r .state ≡ stepped (drawnFor request) state ⌝ }
     ensures { λ _. ⌜ LentToLine (now (numbers .exit)) (now (book0 .exit)) (now (book1 .exit)) (now (work0 .exit)) (now (work1 .exit)) (now (messages .exit)) ⌝ }
 {
     let drawn = draw_length(settings_of(request).shape);
     let size = 2 * (request.count as usize * WIDTH) + drawn;
     run_in(
+        state,
         serial,
         request,
         &mut numbers[..size],
@@ -186,8 +253,9 @@ fn run_request(
     )
 }
 
-// What a line gives.
+// What a line gives. A refused one draws nothing.
 fn line_result(
+    state: u32,
     serial: u32,
     request: Request,
     numbers: &mut [u32],
@@ -196,20 +264,25 @@ fn line_result(
     work0: &mut [u32],
     work1: &mut [u32],
     messages: &mut [u8],
-) -> LineResult
+) -> RunResult
     requires { ⌜ LentToLine (now numbers) (now book0) (now book1) (now work0) (now work1) (now messages) ⌝ }
-    ensures { λ r. ⌜ r ≡ resultFor serial request ⌝ }
+    ensures { λ r. ⌜ r .line ≡ resultFor serial request ⌝ }
+    ensures { λ r. ⌜ r .state ≡ stepped (requestDraws serial request) state ⌝ }
     ensures { λ _. ⌜ LentToLine (now (numbers .exit)) (now (book0 .exit)) (now (book1 .exit)) (now (work0 .exit)) (now (work1 .exit)) (now (messages .exit)) ⌝ }
 {
     let refused = request_no(serial, request);
     if refused != 0 {
-        return LineResult {
-            refused,
-            length: 0,
-            numbers: [0; 8],
+        return RunResult {
+            line: LineResult {
+                refused,
+                length: 0,
+                numbers: [0; 8],
+            },
+            state,
         };
     }
     run_request(
+        state,
         serial,
         request,
         numbers,
@@ -242,12 +315,13 @@ fn put_result(out: &mut [u8], at: usize, number: u64, result: LineResult) -> usi
     put_answer(out, at, number, result.refused, &numbers[..count])
 }
 
-// The output line for an input line without its line end, put at a place of `out`; the place behind it. Its number is the serial of
-// its run; a line beyond the last serial is malformed.
+// The output line for an input line without its line end, put at a place of `out`. Its number is the serial of its run; a line beyond
+// the last serial is malformed. Its draw is that of a generator in the state handed in; state 0 is the all-zero draw.
 //
 // Lent for the run, so that none of it is made anew for each line: RUN_NUMBERS zeros, which are left as zeros; and the slices of crate
 // execution, whatever they hold. Each is a parameter of its own for the reason given at `execute`.
 pub fn answer_line(
+    state: u32,
     out: &mut [u8],
     at: usize,
     number: u64,
@@ -258,21 +332,25 @@ pub fn answer_line(
     work0: &mut [u32],
     work1: &mut [u32],
     messages: &mut [u8],
-) -> usize
+) -> LineEnd
     requires { ⌜ LentToLine (now numbers) (now book0) (now book1) (now work0) (now work1) (now messages) ⌝ }
-    ensures { λ r. ⌜ textAt (now (out .exit)) r ≡ puts (textAt (now (out .entry)) at) (lineAnswer number (now (line .entry))) ⌝ }
+    ensures { λ r. ⌜ textAt (now (out .exit)) (r .at) ≡ puts (textAt (now (out .entry)) at) (lineAnswer number (now (line .entry))) ⌝ }
     ensures { λ r. ⌜ length (lineAnswer number (now (line .entry))) ≤ 112 ⌝ }
+    ensures { λ r. ⌜ r .state ≡ lineState number (now (line .entry)) state ⌝ }
     ensures { λ r. ⌜ LentToLine (now (numbers .exit)) (now (book0 .exit)) (now (book1 .exit)) (now (work0 .exit)) (now (work1 .exit)) (now (messages .exit)) ⌝ }
 {
     if number >= TOO_LARGE {
-        return put_malformed(out, at, number);
+        let at = put_malformed(out, at, number);
+        return LineEnd { at, state };
     }
     let request = read_line(line);
     if !request.good {
-        return put_malformed(out, at, number);
+        let at = put_malformed(out, at, number);
+        return LineEnd { at, state };
     }
     let serial = number as u32;
     let result = line_result(
+        state,
         serial,
         request,
         numbers,
@@ -282,5 +360,9 @@ pub fn answer_line(
         work1,
         messages,
     );
-    put_result(out, at, number, result)
+    let at = put_result(out, at, number, result.line);
+    LineEnd {
+        at,
+        state: result.state,
+    }
 }

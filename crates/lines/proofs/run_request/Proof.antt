@@ -7,11 +7,12 @@ use mathlib.Core.List.{List, _++_}
 use mathlib.Core.Path.{_≡_, ap, _∙_}
 use native.Mathlib.Omega.{arith}
 use lib.ListN.{take, drop, replicate, take-append-drop}
-use Rattle.lines.proofs.Handed.{front-zeros, length-front}
+use Rattle.lists.proofs.Lists.{front-zeros}
+use Rattle.lines.proofs.Handed.{length-front}
 use Rattle.lines.proofs.Ends.{request-ready, zeros-many}
 use Rattle.settings.specs.Sizes.{width}
-use Rattle.lines.specs.Run.{zerosFor, mostNumbers}
-use Rattle.lines.specs.Plain.{settingsOf}
+use Rattle.lines.specs.Run.{countFor, mostNumbers}
+use Rattle.lines.specs.Plain.{drawnFor}
 use Rattle.settings.specs.declared.Settings.{Settings}
 use Rattle.settings.specs.Settings.{paramsIn}
 use Rattle.settings.specs.Sizes.{drawLength}
@@ -40,9 +41,9 @@ run-in-requires c κs =
     let p = c .before .before .before .before .before .before .before .before .before .before .before .before .before .before .before .pre in
     let a = c .before .before .before .before .before .before .before .before .before .before .before .before .before .before .before .args in
     let ready = request-ready (a .serial) (a .request) (p .0) in
-    let drawn : draw-length .result ≡ drawLength (paramsIn (settingsOf (a .request))) width = draw-length .ensures .0
+    let drawn : draw-length .result ≡ drawnFor (a .request) = draw-length .ensures .0
     ∙ ap (λ (z : Settings). drawLength (paramsIn z) width) (c .before .before .before .before .before .before .before .before .settings-of .ensures) in
-    let size : 2 * (a .request .count * width) + draw-length .result ≡ a .request .count * width + zerosFor (a .request) = omega (arith, drawn) in (
+    let size : 2 * (a .request .count * width) + draw-length .result ≡ countFor (a .request) = omega (arith, drawn) in (
       p .0,
       (
         ap (take (2 * (a .request .count * width) + draw-length .result)) (p .1 .zeros)
@@ -58,10 +59,13 @@ returns c =
     let ran = c .before .before .before .before .before .before .before .before .before .before .before .before .run-in .ensures in
     let size : ℕ = 2 * (a .request .count * width) + c .before .before .before .before .before .before .before .before .before .before .before .before .before .before .before .before .before .before .before .before .draw-length .result in (
       ran .0,
-      record {
-        zeros = ap (λ (l : List ℕ). l ++ drop size (a .numbers .now)) (ran .1 .0) ∙ take-append-drop size (a .numbers .now) ∙ c .before .before .before .before .before .before .before .before .before .before .before .before .before .before .before .before .before .before .before .before .before .before .before .before .before .before .before .before .pre .1 .zeros;
-        room = ran .1 .1;
-      },
+      (
+        ran .1 .0,
+        record {
+          zeros = ap (λ (l : List ℕ). l ++ drop size (a .numbers .now)) (ran .1 .1 .0) ∙ take-append-drop size (a .numbers .now) ∙ c .before .before .before .before .before .before .before .before .before .before .before .before .before .before .before .before .before .before .before .before .before .before .before .before .before .before .before .before .pre .1 .zeros;
+          room = ran .1 .1 .1;
+        },
+      ),
     )
 
 pub run-request-spec : {M : Type 1} → statement M

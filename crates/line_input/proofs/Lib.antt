@@ -1,0 +1,3 @@
+-- The laws of whole inputs.
+pub mod Program
+pub mod Last
