@@ -1,4 +1,4 @@
--- No output line is longer than one with the largest book.
+-- No output line is longer than one with the largest draw.
 use Prim.Native.Nat.{ℕ, zero, suc, _+_, _*_, _/_, _≤_, _<_}
 use mathlib.Core.Path.{_≡_, refl, sym, ap, _∙_}
 use mathlib.Core.Bool.{Bool, true, false, cond}
@@ -7,18 +7,20 @@ use native.Mathlib.Omega.{arith}
 use native.Mathlib.Decide.{decLt}
 use lib.Dec.{eqb, ltb, lit<}
 use lib.IntN.{ℤ, pos, negsuc}
-use lib.ListN.{length, getD, take, drop, length-append, List·getD-eq-default}
+use lib.ListN.{length, getD, take, drop, replicate, length-append, length-replicate, List·getD-eq-default}
 use lib.Seq.{getD-take, getD-drop}
 use mir.Syntax.{w32}
 use mir.Val.{Fits}
-use borrow.Author.Tests.{eqb-true}
+use borrow.Author.Tests.{eqb-true, eqb-false}
 use Rattle.text.specs.Decimal.{tooLarge}
 use Rattle.text.specs.Text.{decimal, numbersText}
 use Rattle.text.proofs.Decimals.{length-decimal, length-decimal-32, length-numbers}
-use Rattle.lists.proofs.Lists.{length-listFrom, getD-listTo}
+use Rattle.lists.proofs.Lists.{length-listFrom, getD-listTo, getD-zeros}
+use Rattle.lists.proofs.Every.{below-at}
+use Rattle.field.specs.Field.{q}
 use Rattle.settings.specs.declared.Shape.{Shape}
 use Rattle.settings.specs.Settings.{paramsOf}
-use Rattle.settings.specs.Sizes.{keyCount, shared}
+use Rattle.settings.specs.Sizes.{keyCount, shared, drawSize}
 use Rattle.settings.proofs.Sizes.{shared-most}
 use Rattle.settings.proofs.Ready.{shape-ready}
 use Rattle.rounding.specs.declared.Decomposition.{Decomposition}
@@ -28,9 +30,16 @@ use Rattle.rounding.specs.declared.Verdict.the-variants as Verdict
 use Rattle.rounding.specs.Calls.{partsCall, verdictCall}
 use Rattle.stock.specs.Stock.{stockedSize, booksOf, bothStocks, isLeast, firstOf, bestOf, askStocks, chooseNo, chosen}
 use Rattle.stock.proofs.Meaning.{choice}
+use Rattle.generator.specs.declared.Seeded.{Seeded}
+use Rattle.generator.specs.declared.Seeded.the-variants as Seeded
+use Rattle.generator.specs.Step.{outputs}
+use Rattle.generator.specs.Calls.{seedCall, drawNo, Drew, drawCall}
+use Rattle.generator.proofs.Steps.{inside, outputs-length, outputs-below}
+use Rattle.generator.proofs.Door.{refusal, drawn-all}
 use Rattle.desk.specs.declared.words.CallName.{CallName}
 use Rattle.desk.specs.declared.words.CallName.the-variants as CallName
-use Rattle.desk.specs.Desk.{refusalText, malformedText, signedText, highLowText, decomposedText, verdictText, partText, chooseText, partsResult, verdictResult, stocksText, chooseResult, callResult}
+use Rattle.desk.specs.Desk.{refusalText, malformedText, signedText, highLowText, decomposedText, verdictText, partText, chooseText, drawnText, drawText, partsResult, verdictResult, stocksText, chooseResult, drawResult, callResult}
+use Rattle.desk.proofs.Draws.{draw-most}
 
 -- ---- numbers of 32 bits in a list, in a part of it, and in a book
 
@@ -96,11 +105,15 @@ chosen-below k a first second last h l = go (eqb (chooseNo k a first second last
 
 -- ---- results
 
+either : (t : Bool) (xs ys : List ℕ) → length xs ≤ 45155 → length ys ≤ 45155 → length (cond t xs ys) ≤ 45155
+either true xs ys h k = h
+either false xs ys h k = k
+
 length-refusal : (n : ℕ) → length (refusalText n) ≤ 21
 unfolding refusalText
 length-refusal n = omega (arith, length-decimal n)
 
-pub length-malformed : length malformedText ≤ 43571
+pub length-malformed : length malformedText ≤ 45155
 length-malformed = omega (arith, length-refusal 12)
 
 length-signed : (z : ℤ) → length (signedText z) ≤ 21
@@ -108,13 +121,13 @@ unfolding signedText
 length-signed (pos n) = omega (arith, length-decimal n)
 length-signed (negsuc n) = omega (arith, length-decimal (suc n))
 
-length-decomposed : (r : Decomposition) → length (decomposedText r) ≤ 43571
+length-decomposed : (r : Decomposition) → length (decomposedText r) ≤ 45155
 unfolding decomposedText highLowText
 length-decomposed (Decomposition.Parts parts) =
     omega (arith, length-append (decimal (parts .high)) (32 ∷ signedText (parts .low)), length-decimal (parts .high), length-signed (parts .low))
 length-decomposed (Decomposition.No n) = omega (arith, length-refusal n)
 
-length-verdict : (r : Verdict) → length (verdictText r) ≤ 43571
+length-verdict : (r : Verdict) → length (verdictText r) ≤ 45155
 unfolding verdictText
 length-verdict (Verdict.Is n) = omega (arith, length-decimal n)
 length-verdict (Verdict.No n) = omega (arith, length-refusal n)
@@ -133,12 +146,12 @@ chosen-most a first second last e =
     let ready = shape-ready a _ e in
     omega (arith, choice keyCount a first second last .chose e .size, shared-most a (ready .sets) (ready .most))
 
-length-choose : (a : Shape) (first second : List ℕ) (last : ℕ) → Below first → Below second → length (chooseText a first second last) ≤ 43571
+length-choose : (a : Shape) (first second : List ℕ) (last : ℕ) → Below first → Below second → length (chooseText a first second last) ≤ 45155
 unfolding chooseText
 length-choose a first second last h l = go (eqb (chooseNo keyCount a first second last) 0) refl
   where
     go : (t : Bool) → eqb (chooseNo keyCount a first second last) 0 ≡ t
-        → length (cond t (partText (chosen keyCount a first second last)) (refusalText (chooseNo keyCount a first second last))) ≤ 43571
+        → length (cond t (partText (chosen keyCount a first second last)) (refusalText (chooseNo keyCount a first second last))) ≤ 45155
     go true e =
         omega (
           arith,
@@ -147,20 +160,55 @@ length-choose a first second last h l = go (eqb (chooseNo keyCount a first secon
         )
     go false e = omega (arith, length-refusal (chooseNo keyCount a first second last))
 
+-- ---- draws
+
+zeros-below : (n : ℕ) → Below (replicate n 0)
+zeros-below n i = rw (getD-zeros n i) (lit< tt)
+
+length-drew : (d : Drew) → Below (d .out) → length (d .out) ≤ 4104 → d .state < tooLarge → length (drawnText d) ≤ 45155
+unfolding drawnText
+length-drew d h l s =
+    either (eqb (d .refused) 0) (partText (d .out) ++ 32 ∷ decimal (d .state)) (refusalText (d .refused))
+    (omega (arith, length-append (partText (d .out)) (32 ∷ decimal (d .state)), length-part (d .out) h, length-decimal-32 (d .state) s))
+    (omega (arith, length-refusal (d .refused)))
+
+-- a refused draw leaves the zeros and the state
+length-draw : (state : ℕ) (a : Shape) → state < tooLarge → length (drawnText (drawCall keyCount state a (replicate (drawSize a) 0))) ≤ 45155
+length-draw state a s = go (eqb (drawNo keyCount a zeros) 0) refl
+  where
+    zeros : List ℕ
+    zeros = replicate (drawSize a) 0
+
+    most : length zeros ≤ 4104
+    most = rw (length-replicate {A = ℕ} (drawSize a) 0) (draw-most a)
+
+    go : (t : Bool) → eqb (drawNo keyCount a zeros) 0 ≡ t → length (drawnText (drawCall keyCount state a zeros)) ≤ 45155
+    go true e =
+        rw (drawn-all keyCount state a zeros (eqb-true (drawNo keyCount a zeros) 0 e))
+        (length-drew _ (λ i. omega (arith, below-at q (outputs q state (length zeros)) i (lit< tt) (outputs-below state (length zeros))))
+        (rw (outputs-length q state (length zeros)) most) (inside state (length zeros) s))
+    go false e =
+        rw (← refusal keyCount state a zeros (drawNo keyCount a zeros) refl (eqb-false (drawNo keyCount a zeros) 0 e))
+        (length-drew _ (zeros-below (drawSize a)) most s)
+
+length-seeded : (seed : ℕ) (a : Shape) → seed < tooLarge → length (drawText (seedCall seed) a) ≤ 45155
+unfolding seedCall drawText
+length-seeded seed a s = go (ltb 0 seed)
+  where
+    go : (t : Bool) → length (drawText (cond t (Seeded.Ready (record { state = seed })) (Seeded.No 16)) a) ≤ 45155
+    go true = length-draw seed a s
+    go false = omega (arith, length-refusal 16)
+
 -- ---- calls
 
-either : (t : Bool) (xs ys : List ℕ) → length xs ≤ 43571 → length ys ≤ 43571 → length (cond t xs ys) ≤ 43571
-either true xs ys h k = h
-either false xs ys h k = k
-
-length-stocks : (a : Shape) (last count : ℕ) (stocks : List ℕ) → Below stocks → length (stocksText a last count stocks) ≤ 43571
+length-stocks : (a : Shape) (last count : ℕ) (stocks : List ℕ) → Below stocks → length (stocksText a last count stocks) ≤ 45155
 unfolding stocksText
 length-stocks a last count stocks h =
     either (ltb (length stocks) count) malformedText (chooseText a (take count stocks) (drop count stocks) last) length-malformed
     (length-choose a (take count stocks) (drop count stocks) last (front-below count stocks h) (behind-below count stocks h))
 
-pub length-call : (call : CallName) (ns : List ℕ) → Below ns → length (callResult call ns) ≤ 43571
-unfolding callResult partsResult verdictResult chooseResult
+pub length-call : (call : CallName) (ns : List ℕ) → Below ns → length (callResult call ns) ≤ 45155
+unfolding callResult partsResult verdictResult chooseResult drawResult
 length-call CallName.Parts ns h =
     let r = partsCall (getD ns 0 0) (getD ns 1 0) in
     either (eqb (length ns) 2) (decomposedText r) malformedText (length-decomposed r) length-malformed
@@ -171,4 +219,7 @@ length-call CallName.Choose ns h =
     let a : Shape = record { set = getD ns 0 0; kind = getD ns 1 0; n = getD ns 2 0 } in
     either (ltb (length ns) 5) malformedText (stocksText a (getD ns 3 0) (getD ns 4 0) (drop 5 ns)) length-malformed
     (length-stocks a (getD ns 3 0) (getD ns 4 0) (drop 5 ns) (behind-below 5 ns h))
+length-call CallName.Draw ns h =
+    let a : Shape = record { set = getD ns 1 0; kind = getD ns 2 0; n = getD ns 3 0 } in
+    either (eqb (length ns) 4) (drawText (seedCall (getD ns 0 0)) a) malformedText (length-seeded (getD ns 0 0) a (h 0)) length-malformed
 length-call CallName.Unknown ns h = length-malformed

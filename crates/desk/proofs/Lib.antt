@@ -3,6 +3,7 @@ pub mod Signed
 pub mod Putting
 pub mod Numbers
 pub mod Lines
+pub mod Draws
 pub mod Lengths
 pub mod Program
 pub mod Samples

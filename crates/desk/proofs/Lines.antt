@@ -15,7 +15,7 @@ use Rattle.desk.specs.declared.words.CallName.{CallName}
 use Rattle.desk.specs.declared.words.CallName.the-variants as CallName
 use Rattle.desk.specs.declared.words.WordsRead.{WordsRead}
 use Rattle.desk.specs.Numbers.{ReadsNumbers}
-use Rattle.desk.specs.Desk.{callNamed, fieldsOf, malformedText, partsResult, verdictResult, chooseResult, callResult, longestLine, wordsResult, lineResult}
+use Rattle.desk.specs.Desk.{callNamed, fieldsOf, malformedText, partsResult, verdictResult, chooseResult, drawResult, callResult, longestLine, wordsResult, lineResult}
 
 pub line-long : (line : List ℕ) → longestLine < length line → malformedText ≡ lineResult line
 unfolding lineResult
@@ -23,10 +23,11 @@ line-long line h = rw (lt-ltb longestLine (length line) h) refl
 
 -- no call does without numbers
 no-numbers : (call : CallName) → malformedText ≡ callResult call []
-unfolding callResult partsResult verdictResult chooseResult
+unfolding callResult partsResult verdictResult chooseResult drawResult
 no-numbers CallName.Parts = refl
 no-numbers CallName.BoundVerdict = refl
 no-numbers CallName.Choose = refl
+no-numbers CallName.Draw = refl
 no-numbers CallName.Unknown = refl
 
 module _ (line : List ℕ) (n : ℕ) (s : length line ≤ longestLine) (e : n ≡ lengthBefore 32 line) where

@@ -7,8 +7,9 @@ use native.Mathlib.Decide.{decLt}
 use borrow.Author.Tests.{lt-ltb}
 use lib.ListN.{length, take, length-take}
 use lib.Seq.{take-all}
+use Rattle.stream.specs.Theorems.{Outcome, LooksAt}
 use Rattle.stream.proofs.Parts.{writes-the-output}
-use Rattle.desk.specs.Desk.{longestLine, lineResult, deskAnswer, answerTo}
+use Rattle.desk.specs.Desk.{longestLine, lineResult, deskAnswer, deskHandler}
 use Rattle.desk.specs.Theorems.{keptLength, DeskAnswersEachLine}
 
 -- one byte above the most shows that a line is too long
@@ -20,9 +21,9 @@ cut-line line = go (decLt longestLine (length line))
     go (yes h) = rw (lt-ltb longestLine (length (take keptLength line)) (omega (arith, length-take keptLength line)), lt-ltb longestLine (length line) h) refl
     go (no h) = ap lineResult (take-all keptLength line (omega arith))
 
-cut-bytes : (kept : List ℕ) → length kept ≡ keptLength → (number : ℕ) (line : List ℕ) → answerTo number (take (length kept) line) ≡ answerTo number line
+looks-at : (kept : List ℕ) → length kept ≡ keptLength → LooksAt (Unit {0}) (length kept) deskHandler
 unfolding deskAnswer
-cut-bytes kept l number line = rw (l, cut-line line) refl
+looks-at kept l = record { answer-cut = λ number line. rw (l, cut-line line) refl; carry-cut = λ number line c. refl }
 
 pub desk-answers-each-line : DeskAnswersEachLine
-desk-answers-each-line kept l parts few = writes-the-output answerTo kept (omega arith) (cut-bytes kept l) parts few
+desk-answers-each-line kept l parts few = ap (λ (o : Outcome (Unit {0})). o .written) (writes-the-output (Unit {0}) deskHandler tt kept (omega arith) (looks-at kept l) parts few)

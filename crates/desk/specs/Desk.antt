@@ -5,12 +5,12 @@ use mathlib.Core.Bool.{Bool, true, false, cond}
 use mathlib.Core.List.{List, [], _∷_, _++_, map}
 use lib.Dec.{eqb, leb, ltb}
 use lib.IntN.{ℤ, pos, negsuc}
-use lib.ListN.{length, getD, take, drop}
+use lib.ListN.{length, getD, take, drop, replicate}
 use Rattle.text.specs.Decimal.{numberIn}
 use Rattle.text.specs.Text.{decimal, numbersText}
 use Rattle.text.specs.declared.ReadNumber.{ReadNumber}
 use Rattle.settings.specs.declared.Shape.{Shape}
-use Rattle.settings.specs.Sizes.{keyCount}
+use Rattle.settings.specs.Sizes.{keyCount, drawSize}
 use Rattle.rounding.specs.declared.HighLow.{HighLow}
 use Rattle.rounding.specs.declared.Decomposition.{Decomposition}
 use Rattle.rounding.specs.declared.Decomposition.the-variants as Decomposition
@@ -18,13 +18,17 @@ use Rattle.rounding.specs.declared.Verdict.{Verdict}
 use Rattle.rounding.specs.declared.Verdict.the-variants as Verdict
 use Rattle.rounding.specs.Calls.{partsCall, verdictCall}
 use Rattle.stock.specs.Stock.{chooseNo, chosen}
+use Rattle.generator.specs.declared.Seeded.{Seeded}
+use Rattle.generator.specs.declared.Seeded.the-variants as Seeded
+use Rattle.generator.specs.Calls.{seedCall, Drew, drawCall}
 use Rattle.syntax.specs.Line.{words, allGood, valuesOf}
 use Rattle.desk.specs.declared.words.CallName.{CallName}
 use Rattle.desk.specs.declared.words.CallName.the-variants as CallName
+use Rattle.stream.specs.Theorems.{Handler, carriesNothing}
 
 -- ---- Words
 
--- `parts`, `verdict`, `choose`
+-- `parts`, `verdict`, `choose`, `draw`
 abbrev pub partsWord : List ℕ
 partsWord = 112 ∷ 97 ∷ 114 ∷ 116 ∷ 115 ∷ []
 
@@ -33,6 +37,9 @@ verdictWord = 118 ∷ 101 ∷ 114 ∷ 100 ∷ 105 ∷ 99 ∷ 116 ∷ []
 
 abbrev pub chooseWord : List ℕ
 chooseWord = 99 ∷ 104 ∷ 111 ∷ 111 ∷ 115 ∷ 101 ∷ []
+
+abbrev pub drawWord : List ℕ
+drawWord = 100 ∷ 114 ∷ 97 ∷ 119 ∷ []
 
 -- are two words equal, byte for byte?
 unfoldable pub sameWord : List ℕ → List ℕ → Bool
@@ -47,7 +54,8 @@ callNamed w =
     cond (sameWord w partsWord) CallName.Parts
     (cond (sameWord w verdictWord) CallName.BoundVerdict
     (cond (sameWord w chooseWord) CallName.Choose
-    CallName.Unknown))
+    (cond (sameWord w drawWord) CallName.Draw
+    CallName.Unknown)))
 
 -- "decimal words": the words behind it, each read as a number
 abbrev pub fieldsOf : List (List ℕ) → List ReadNumber
@@ -93,6 +101,15 @@ chooseText shape first second last =
     (partText (chosen keyCount shape first second last))
     (refusalText (chooseNo keyCount shape first second last))
 
+-- the draw's numbers, one blank between, then a blank and the generator's state after it; or `!` and the refusal
+unfoldable pub drawnText : Drew → List ℕ
+drawnText drew = cond (eqb (drew .refused) 0) (partText (drew .out) ++ 32 ∷ decimal (drew .state)) (refusalText (drew .refused))
+
+-- the draw of the generator that a seed makes, in a slice of zeros of the draw's size; or `!` and the seed's refusal
+unfoldable pub drawText : Seeded → Shape → List ℕ
+drawText (Seeded.Ready generator) shape = drawnText (drawCall keyCount (generator .state) shape (replicate (drawSize shape) 0))
+drawText (Seeded.No refused) shape = refusalText refused
+
 -- ---- Calls
 
 -- "`parts SET W`"
@@ -114,11 +131,19 @@ chooseResult ns =
     cond (ltb (length ns) 5) malformedText
     (stocksText (record { set = getD ns 0 0; kind = getD ns 1 0; n = getD ns 2 0 }) (getD ns 3 0) (getD ns 4 0) (drop 5 ns))
 
+-- `draw SEED SET KIND N`: the seed's question comes first
+unfoldable pub drawResult : List ℕ → List ℕ
+drawResult ns =
+    cond (eqb (length ns) 4)
+    (drawText (seedCall (getD ns 0 0)) (record { set = getD ns 1 0; kind = getD ns 2 0; n = getD ns 3 0 }))
+    malformedText
+
 -- the call that is named, made with the numbers
 unfoldable pub callResult : CallName → List ℕ → List ℕ
 callResult CallName.Parts ns = partsResult ns
 callResult CallName.BoundVerdict ns = verdictResult ns
 callResult CallName.Choose ns = chooseResult ns
+callResult CallName.Draw ns = drawResult ns
 callResult CallName.Unknown ns = malformedText
 
 -- ---- Lines
@@ -140,14 +165,14 @@ lineResult line = cond (ltb longestLine (length line)) malformedText (wordsResul
 unfoldable pub deskAnswer : List ℕ → List ℕ
 deskAnswer line = lineResult line ++ 10 ∷ []
 
--- the same, given the line's number too, which changes nothing
-abbrev pub answerTo : ℕ → List ℕ → List ℕ
-answerTo number line = deskAnswer line
+-- a line's number changes nothing, and nothing is carried to the next line
+abbrev pub deskHandler : Handler (Unit {0})
+deskHandler = carriesNothing (λ number line. deskAnswer line)
 
 -- the most numbers of a line: each has a digit at least, and a blank before it
 abbrev pub mostNumbers : ℕ
 mostNumbers = 524288
 
--- no output line is longer: 1 + 3 × 1,320 numbers of ten digits, a blank each, and the line end
+-- no output line is longer: the 3 × 1,320 + 144 numbers of a draw and the state, ten digits and a blank each, and the line end
 abbrev pub longestAnswer : ℕ
-longestAnswer = 43572
+longestAnswer = 45156

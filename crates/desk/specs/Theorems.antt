@@ -4,8 +4,8 @@ use mathlib.Core.Path.{_≡_}
 use mathlib.Core.List.{List}
 use lib.ListN.{length}
 use Rattle.stream.specs.Input.{linesOf, outputOf}
-use Rattle.stream.specs.Theorems.{concatenated, writtenFor}
-use Rattle.desk.specs.Desk.{answerTo}
+use Rattle.stream.specs.Theorems.{concatenated, outcomeFor}
+use Rattle.desk.specs.Desk.{deskHandler}
 
 -- one byte more than a line may have, so that one that is too long is seen to be
 abbrev pub keptLength : ℕ
@@ -18,4 +18,4 @@ DeskAnswersEachLine =
     → length kept ≡ keptLength
     → (parts : List (List ℕ))
     → length (linesOf (concatenated parts)) < 18446744073709551616
-    → writtenFor answerTo kept parts ≡ outputOf answerTo (concatenated parts)
+    → outcomeFor deskHandler tt kept parts .written ≡ outputOf (deskHandler .answer) (concatenated parts)

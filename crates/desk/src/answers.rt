@@ -1,21 +1,20 @@
 // Answers to the lines of a part, put one behind another into a slice that waits to be written.
 ghost use mathlib.Core.Path.{_≡_};
-ghost use mathlib.Core.Bool.{cond};
 ghost use mathlib.Core.List.{[]};
 ghost use Prim.Native.Nat.{_+_, _≤_, _<_};
 ghost use lib.ListN.{length, take, drop};
-ghost use Rattle.stream.specs.Stream.{heldOf, nextLine, isLeft};
-ghost use Rattle.stream.specs.Theorems.{afterCall};
+ghost use Rattle.stream.specs.Stream.{nextLine};
+ghost use Rattle.stream.specs.Theorems.{afterCall, afterEnd};
 ghost use Rattle.stream.specs.Waiting.{standing, allCalls};
-ghost use Rattle.desk.specs.Desk.{deskAnswer, answerTo, longestAnswer, mostNumbers};
+ghost use Rattle.desk.specs.Desk.{deskHandler, longestAnswer, mostNumbers};
 use crate::line::answer_line;
 use lists::least;
 use stream::Stream;
 use stream::is_left;
 use stream::next_line;
 
-// No output line is longer: 3,961 numbers of ten digits, a blank each, and the line end.
-const LONGEST_ANSWER: usize = 43572;
+// No output line is longer: 4,105 numbers of ten digits, a blank each, and the line end.
+const LONGEST_ANSWER: usize = 45156;
 
 // How many bytes of a part have been used, where the input stands after them, and how many bytes wait to be written.
 pub struct Answered {
@@ -35,8 +34,8 @@ fn answer_call(
 ) -> Answered
     requires { ⌜ mostNumbers ≤ length (now numbers) ⌝ }
     requires { ⌜ waiting + longestAnswer ≤ length (now out) ⌝ }
-    ensures { λ r. ⌜ standing (r .stream) (now (kept .exit)) (now (out .exit)) (r .waiting)
-        ≡ afterCall answerTo (standing stream (now (kept .entry)) (now (out .entry)) waiting) (now (bytes .entry)) ⌝ }
+    ensures { λ r. ⌜ standing (r .stream) (now (kept .exit)) (now (out .exit)) (r .waiting) tt
+        ≡ afterCall deskHandler (standing stream (now (kept .entry)) (now (out .entry)) waiting tt) (now (bytes .entry)) ⌝ }
     ensures { λ r. ⌜ r .used ≡ nextLine stream (now (kept .entry)) (now (bytes .entry)) .used ⌝ }
     ensures { λ r. ⌜ r .waiting ≤ length (now (out .entry)) ⌝ }
 {
@@ -67,8 +66,8 @@ pub fn answer_some(
 ) -> Answered
     requires { ⌜ mostNumbers ≤ length (now numbers) ⌝ }
     requires { ⌜ longestAnswer ≤ length (now out) ⌝ }
-    ensures { λ r. ⌜ allCalls answerTo (standing (r .stream) (now (kept .exit)) (now (out .exit)) (r .waiting)) (drop (r .used) (now (bytes .entry)))
-        ≡ allCalls answerTo (standing stream (now (kept .entry)) (now (out .entry)) 0) (now (bytes .entry)) ⌝ }
+    ensures { λ r. ⌜ allCalls deskHandler (standing (r .stream) (now (kept .exit)) (now (out .exit)) (r .waiting) tt) (drop (r .used) (now (bytes .entry)))
+        ≡ allCalls deskHandler (standing stream (now (kept .entry)) (now (out .entry)) 0 tt) (now (bytes .entry)) ⌝ }
     ensures { λ r. ⌜ r .used ≤ length (now (bytes .entry)) ⌝ }
     ensures { λ r. ⌜ (0 < length (now (bytes .entry)) → 0 < r .used) ⌝ }
     ensures { λ r. ⌜ r .waiting ≤ length (now (out .entry)) ⌝ }
@@ -95,7 +94,7 @@ pub fn answer_some(
 pub fn put_last(stream: Stream, kept: &[u8], numbers: &mut [u32], out: &mut [u8]) -> usize
     requires { ⌜ mostNumbers ≤ length (now numbers) ⌝ }
     requires { ⌜ longestAnswer ≤ length (now out) ⌝ }
-    ensures { λ r. ⌜ take r (now (out .exit)) ≡ cond (isLeft stream) (deskAnswer (heldOf stream (now (kept .entry)))) [] ⌝ }
+    ensures { λ r. ⌜ take r (now (out .exit)) ≡ afterEnd deskHandler (standing stream (now (kept .entry)) [] 0 tt) .written ⌝ }
     ensures { λ r. ⌜ r ≤ length (now (out .entry)) ⌝ }
 {
     if !is_left(stream) {

@@ -1,9 +1,16 @@
 // The calls of a line, and the text of what they give: put into a lent slice behind what stands there.
 ghost use mathlib.Core.Path.{_≡_};
 ghost use lib.IntN.{natAbs};
+ghost use lib.ListN.{replicate};
 ghost use Rattle.text.specs.Text.{textAt, puts};
-ghost use Rattle.desk.specs.Desk.{refusalText, malformedText, signedText, highLowText, partsResult, verdictResult, partText, chooseText, stocksText, chooseResult, callResult};
+ghost use Rattle.settings.specs.Sizes.{keyCount, drawSize};
+ghost use Rattle.generator.specs.Calls.{drawCall};
+ghost use Rattle.desk.specs.Desk.{refusalText, malformedText, signedText, highLowText, partsResult, verdictResult, partText, chooseText, stocksText, chooseResult, drawnText, drawResult, callResult};
 use crate::words::CallName;
+use generator::Advance;
+use generator::Seeded;
+use generator::draw_by;
+use generator::make_generator;
 use rounding::Decomposition;
 use rounding::HighLow;
 use rounding::Verdict;
@@ -11,11 +18,15 @@ use rounding::bound_verdict;
 use rounding::parts;
 use settings::FIELDS;
 use settings::Shape;
+use settings::draw_size;
 use stock::choose;
 use stock::choose_no;
 use text::put_byte;
 use text::put_number;
 use text::put_numbers;
+
+// The most numbers of a draw: three for each of 1,320 shared numbers, and 144 drawn ones.
+const MOST_DRAW: usize = 4104;
 
 // ---- Results
 
@@ -161,6 +172,53 @@ fn put_choose(out: &mut [u8], at: usize, numbers: &[u32]) -> usize
     )
 }
 
+// The numbers of a draw and the state after it, or its refusal.
+fn put_drawn(out: &mut [u8], at: usize, drawn: Advance, numbers: &[u32]) -> usize
+    ensures { λ r. ⌜ textAt (now (out .exit)) r ≡ puts (textAt (now (out .entry)) at) (drawnText (record { refused = drawn .refused; state = drawn .state; out = now (numbers .entry) })) ⌝ }
+{
+    if drawn.refused != 0 {
+        return put_refusal(out, at, drawn.refused);
+    }
+    let blank = put_part(out, at, numbers);
+    let end = put_byte(out, blank, b' ');
+    put_number(out, end, drawn.state as u64)
+}
+
+// The draw of a generator's state, made in a lent slice.
+fn put_draw_in(out: &mut [u8], at: usize, state: u32, shape: Shape, numbers: &mut [u32]) -> usize
+    ensures { λ r. ⌜ textAt (now (out .exit)) r ≡ puts (textAt (now (out .entry)) at) (drawnText (drawCall keyCount state shape (now (numbers .entry)))) ⌝ }
+{
+    let drawn = draw_by(state, shape, numbers);
+    put_drawn(out, at, drawn, numbers)
+}
+
+// The same in a slice of the draw's size.
+fn put_draw_of(out: &mut [u8], at: usize, state: u32, shape: Shape) -> usize
+    ensures { λ r. ⌜ textAt (now (out .exit)) r ≡ puts (textAt (now (out .entry)) at) (drawnText (drawCall keyCount state shape (replicate (drawSize shape) 0))) ⌝ }
+{
+    let mut numbers = [0u32; MOST_DRAW];
+    let n = draw_size(shape);
+    put_draw_in(out, at, state, shape, &mut numbers[..n])
+}
+
+// `draw SEED SET KIND N`
+fn put_draw(out: &mut [u8], at: usize, numbers: &[u32]) -> usize
+    ensures { λ r. ⌜ textAt (now (out .exit)) r ≡ puts (textAt (now (out .entry)) at) (drawResult (now (numbers .entry))) ⌝ }
+{
+    if numbers.len() != 4 {
+        return put_malformed(out, at);
+    }
+    let shape = Shape {
+        set: numbers[1],
+        kind: numbers[2],
+        n: numbers[3],
+    };
+    match make_generator(numbers[0]) {
+        Seeded::Ready(generator) => put_draw_of(out, at, generator.state, shape),
+        Seeded::No(no) => put_refusal(out, at, no),
+    }
+}
+
 // The call that is named, made with the numbers.
 pub fn put_call(out: &mut [u8], at: usize, call: CallName, numbers: &[u32]) -> usize
     ensures { λ r. ⌜ textAt (now (out .exit)) r ≡ puts (textAt (now (out .entry)) at) (callResult call (now (numbers .entry))) ⌝ }
@@ -169,6 +227,7 @@ pub fn put_call(out: &mut [u8], at: usize, call: CallName, numbers: &[u32]) -> u
         CallName::Parts => put_parts(out, at, numbers),
         CallName::BoundVerdict => put_verdict(out, at, numbers),
         CallName::Choose => put_choose(out, at, numbers),
+        CallName::Draw => put_draw(out, at, numbers),
         CallName::Unknown => put_malformed(out, at),
     }
 }

@@ -18,7 +18,7 @@ const LONGEST_LINE: usize = 1 << 20;
 fn put_result(out: &mut [u8], at: usize, line: &[u8], numbers: &mut [u32]) -> usize
     requires { ⌜ mostNumbers ≤ length (now numbers) ⌝ }
     ensures { λ r. ⌜ textAt (now (out .exit)) r ≡ puts (textAt (now (out .entry)) at) (lineResult (now (line .entry))) ⌝ }
-    ensures { λ r. ⌜ length (lineResult (now (line .entry))) ≤ 43571 ⌝ }
+    ensures { λ r. ⌜ length (lineResult (now (line .entry))) ≤ 45155 ⌝ }
 {
     if line.len() > LONGEST_LINE {
         return put_malformed(out, at);

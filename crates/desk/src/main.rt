@@ -1,9 +1,10 @@
 // Makes calls: reads standard input to its end, a call in each line, and writes an output line for each. Arguments name files to read
 // instead, each an input of its own. Memory does not grow with the input.
 //
-// A line, decimal words with one blank between: `parts SET W`, `verdict SET B W..`, or
-// `choose SET KIND N LAST COUNT FIRST.. SECOND..`, where COUNT numbers belong to the first stock and the rest to the second. Its output
-// line is high and low part, the verdict or the chosen book's numbers, or `!` and the refusal; `!12` for a malformed line.
+// A line, decimal words with one blank between: `parts SET W`, `verdict SET B W..`,
+// `choose SET KIND N LAST COUNT FIRST.. SECOND..`, where COUNT numbers belong to the first stock and the rest to the second, or
+// `draw SEED SET KIND N`. Its output line is high and low part, the verdict, the chosen book's numbers, or the draw's numbers and the
+// generator's state after it; or `!` and the refusal; `!12` for a malformed line.
 //
 // Proved: the bytes that wait to be written are the answers to the lines that have ended (`answer_some`, `put_last`), and a part leaves
 // the input where the calls of theorem DeskAnswersEachLine leave it (`answer_part`). Reading and writing are proved safe, and no more: a
@@ -19,7 +20,7 @@ ghost use mathlib.Core.List.{[]};
 ghost use Prim.Native.Nat.{_≤_};
 ghost use lib.ListN.{length};
 ghost use Rattle.stream.specs.Waiting.{standing, flushed, allCalls};
-ghost use Rattle.desk.specs.Desk.{answerTo, longestAnswer, mostNumbers};
+ghost use Rattle.desk.specs.Desk.{deskHandler, longestAnswer, mostNumbers};
 ghost use Rattle.desk.specs.Theorems.{keptLength};
 use answers::answer_some;
 use answers::put_last;
@@ -63,7 +64,7 @@ fn answer_part(
     requires { ⌜ length (now kept) ≡ keptLength ⌝ }
     requires { ⌜ mostNumbers ≤ length (now numbers) ⌝ }
     requires { ⌜ longestAnswer ≤ length (now out) ⌝ }
-    ensures { λ r. ⌜ (r .good ≡ true → standing (r .stream) (now (kept .exit)) [] 0 ≡ flushed (allCalls answerTo (standing stream (now (kept .entry)) [] 0) (now (bytes .entry)))) ⌝ }
+    ensures { λ r. ⌜ (r .good ≡ true → standing (r .stream) (now (kept .exit)) [] 0 tt ≡ flushed (allCalls deskHandler (standing stream (now (kept .entry)) [] 0 tt) (now (bytes .entry)))) ⌝ }
 {
     let mut here = stream;
     let mut good = true;

@@ -13,6 +13,7 @@ pub enum CallName {
     Parts,
     BoundVerdict,
     Choose,
+    Draw,
     Unknown,
 }
 
@@ -51,6 +52,9 @@ pub fn call_named(word: &[u8]) -> CallName
     }
     if is_word(word, b"choose") {
         return CallName::Choose;
+    }
+    if is_word(word, b"draw") {
+        return CallName::Draw;
     }
     CallName::Unknown
 }

@@ -1,5 +1,5 @@
 -- `desk::answer_part` meets its contract. Assumes nothing.
-use Rattle.desk.specs.Desk.{answerTo}
+use Rattle.desk.specs.Desk.{deskHandler}
 use Rattle.stream.proofs.Flushing.{part-on, part-done}
 use Rattle.stream.proofs.Waiting.{length-rest}
 use Rattle.stream.specs.Waiting.{standing, flushed, allCalls}
@@ -17,7 +17,7 @@ use Rattle.desk.proofs.answer_part.Tie as tie
 abbrev Inv-loop : tie.InvT-loop
 Inv-loop kept₀ numbers₀ bytes out₀ here₀ good₀ at₀ kept numbers out here good at =
     (at ≤ length bytes) × (length kept ≡ length kept₀) × (length numbers ≡ length numbers₀) × (length out ≡ length out₀)
-    × (flushed (allCalls answerTo (standing here kept [] 0) (drop at bytes)) ≡ flushed (allCalls answerTo (standing here₀ kept₀ [] 0) bytes))
+    × (flushed (allCalls deskHandler (standing here kept [] 0 tt) (drop at bytes)) ≡ flushed (allCalls deskHandler (standing here₀ kept₀ [] 0 tt) bytes))
 
 abbrev μ-loop : tie.MeasureT-loop
 μ-loop kept₀ numbers₀ bytes out₀ here₀ good₀ at₀ kept numbers out here good at = length bytes - at
@@ -74,8 +74,8 @@ loop-again c =
       search needs,
       search needs,
       search needs,
-      part-on answerTo (loop .here) (some .result .stream) (loop .kept) _ (a .bytes .now) _ (loop .at) (some .result .used)
-          (some .result .waiting) _ (some .ensures .0) (loop .inv .4),
+      part-on deskHandler (loop .here) (some .result .stream) (loop .kept) _ (a .bytes .now) _ (loop .at) (some .result .used)
+          (some .result .waiting) tt tt _ (some .ensures .0) (loop .inv .4),
     )
 
 returns : tie.Need-returns Inv-loop μ-loop
@@ -84,7 +84,7 @@ returns c = λ e. absurd (true≢false (sym e ∙ c .if1 .left))
 returns-2 : tie.Need-returns-2 Inv-loop μ-loop
 returns-2 c =
     let loop = c .before .loop in
-    λ _. part-done answerTo (loop .here) (loop .kept) (c .before .before .before .before .before .before .args .bytes .now) (loop .at) _
+    λ _. part-done deskHandler (loop .here) (loop .kept) (c .before .before .before .before .before .before .args .bytes .now) (loop .at) tt _
     (omega arith) (loop .inv .4)
 
 pub answer-part-spec : {M : Type 1} → statement M

@@ -3,9 +3,9 @@ use Rattle.text.proofs.Puts.{front-put, within-put, length-put}
 use Rattle.stream.proofs.Waiting.{held-in, called-open, called-ended}
 use Rattle.stream.specs.declared.Step.{Step}
 use lib.Seq.{length-take-le}
-use Rattle.desk.specs.Desk.{answerTo}
+use Rattle.desk.specs.Desk.{deskHandler}
 use native.Mathlib.Omega.{arith}
-use mathlib.Core.Path.{sym, ap}
+use mathlib.Core.Path.{refl, sym, ap}
 use borrow.Author.Needs.{needs}
 use Rattle.desk.proofs.answers.answer_call.Statement.{statement}
 use Rattle.desk.proofs.answers.answer_call.Tie as tie
@@ -14,7 +14,7 @@ returns : tie.Need-returns
 returns c =
     let a = c .before .before .before .before .before .before .before .before .before .before .before .args in
     let step = c .before .before .before .before .before .next-line in (
-      called-open (a .stream) (a .kept .now) (a .bytes .now) (step .result) (step .ensures .0) answerTo (a .out .now) _ (a .waiting)
+      called-open (a .stream) (a .kept .now) (a .bytes .now) (step .result) (step .ensures .0) deskHandler (a .out .now) _ (a .waiting) tt
           (step .ensures .1) (c .if1 .taken),
       (
         ap (λ (x : Step). x .used) (step .ensures .0),
@@ -44,9 +44,9 @@ returns-2 c =
     in
     let step = c .before .before .before .before .before .before .before .before .before .before .before .before .before .next-line in
     let line = c .before .before .before .before .answer-line in (
-      called-ended (a .stream) (a .kept .now) (a .bytes .now) (step .result) (step .ensures .0) answerTo (a .out .now) _ (a .waiting)
-          (step .ensures .1) (line .result) _ (c .before .before .before .before .before .before .before .before .if1 .left)
-          (front-put (a .out .now) (a .waiting) _ _ (line .result) (line .ensures .0) (omega (arith, line .ensures .1, pre))),
+      called-ended (a .stream) (a .kept .now) (a .bytes .now) (step .result) (step .ensures .0) deskHandler (a .out .now) _ (a .waiting) tt
+          (step .ensures .1) (line .result) _ tt (c .before .before .before .before .before .before .before .before .if1 .left)
+          (front-put (a .out .now) (a .waiting) _ _ (line .result) (line .ensures .0) (omega (arith, line .ensures .1, pre))) refl,
       (
         ap (λ (x : Step). x .used) (step .ensures .0),
         omega (

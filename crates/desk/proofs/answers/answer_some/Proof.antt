@@ -1,5 +1,5 @@
 -- `desk::answers::answer_some` meets its contract. Assumes nothing.
-use Rattle.desk.specs.Desk.{answerTo, longestAnswer}
+use Rattle.desk.specs.Desk.{deskHandler, longestAnswer}
 use Rattle.stream.proofs.Waiting.{more-used, used-in, calls-on}
 use Rattle.stream.specs.Waiting.{standing, allCalls}
 use borrow.Author.Tests.{leb-true, leb-false}
@@ -15,7 +15,7 @@ abbrev Inv-loop : tie.InvT-loop
 Inv-loop kept₀ numbers₀ bytes out₀ most used₀ here₀ waiting₀ kept numbers out used here waiting =
     (used ≤ length bytes) × (waiting ≤ length out₀) × (length kept ≡ length kept₀) × (length numbers ≡ length numbers₀)
     × (length out ≡ length out₀) × (min waiting 1 ≤ used) × (most + longestAnswer ≡ length out₀)
-    × (allCalls answerTo (standing here kept out waiting) (drop used bytes) ≡ allCalls answerTo (standing here₀ kept₀ out₀ 0) bytes)
+    × (allCalls deskHandler (standing here kept out waiting tt) (drop used bytes) ≡ allCalls deskHandler (standing here₀ kept₀ out₀ 0 tt) bytes)
 
 abbrev μ-loop : tie.MeasureT-loop
 μ-loop kept₀ numbers₀ bytes out₀ most used₀ here₀ waiting₀ kept numbers out used here waiting = length bytes - used
@@ -62,8 +62,8 @@ loop-again c =
       search needs,
       omega arith,
       omega arith,
-      calls-on (loop .here) (loop .kept) (a .bytes .now) (loop .used) (call .result .used) (omega arith) (call .ensures .1 .0) answerTo
-          (loop .out) (loop .waiting) _ _ (call .ensures .0) (loop .inv .7),
+      calls-on (loop .here) (loop .kept) (a .bytes .now) (loop .used) (call .result .used) (omega arith) (call .ensures .1 .0) deskHandler
+          (loop .out) (loop .waiting) tt _ _ (call .ensures .0) (loop .inv .7),
     )
 
 returns : tie.Need-returns Inv-loop μ-loop

@@ -1,10 +1,11 @@
 -- `desk::answers::put_last` meets its contract. Assumes nothing.
 use Rattle.text.proofs.Puts.{front-put, within-put, length-put}
+use Rattle.stream.specs.Theorems.{Outcome}
 use Rattle.stream.proofs.Waiting.{last-none, last-some}
 use lib.Seq.{length-take-le}
-use Rattle.desk.specs.Desk.{answerTo}
+use Rattle.desk.specs.Desk.{deskHandler}
 use native.Mathlib.Omega.{arith}
-use mathlib.Core.Path.{sym}
+use mathlib.Core.Path.{refl, sym, ap}
 use borrow.Author.Needs.{needs}
 use Rattle.desk.proofs.answers.put_last.Statement.{statement}
 use Rattle.desk.proofs.answers.put_last.Tie as tie
@@ -12,7 +13,7 @@ use Rattle.desk.proofs.answers.put_last.Tie as tie
 returns : tie.Need-returns
 returns c =
     let left = c .before .is-left in
-    (last-none _ (left .result) _ (left .ensures) (c .if1 .taken), omega arith)
+    (ap (λ (o : Outcome (Unit {0})). o .written) (last-none deskHandler _ _ tt (left .result) (left .ensures) (c .if1 .taken)), omega arith)
 
 slice-aggregate-answer-line : tie.Need-slice-aggregate-answer-line
 slice-aggregate-answer-line c = sym (length-take-le _ _ (omega arith))
@@ -24,9 +25,10 @@ returns-2 c =
     let left = c .before .before .before .before .before .before .before .before .before .before .is-left in
     let least = c .before .before .before .before .before .before .before .before .least in
     let line = c .before .before .before .before .answer-line in (
-      last-some answerTo (a .stream) (a .kept .now) _ (left .result) (least .result) (left .ensures)
+      ap (λ (o : Outcome (Unit {0})). o .written)
+          (last-some deskHandler (a .stream) (a .kept .now) tt (left .result) (left .ensures) _ tt (least .result)
           (c .before .before .before .before .before .before .before .before .before .if1 .left) (least .ensures .0)
-          (front-put (a .out .now) 0 _ _ (line .result) (line .ensures .0) (omega (arith, line .ensures .1, room))),
+          (front-put (a .out .now) 0 _ _ (line .result) (line .ensures .0) (omega (arith, line .ensures .1, room))) refl),
       omega (
         arith,
         within-put (a .out .now) 0 _ _ (line .result) (line .ensures .0) (omega arith),

@@ -18,12 +18,18 @@ returns-3 c = rw (c .before .before .before .before .enum-told3 .given .1) (c .b
 
 returns-4 : tie.Need-returns-4
 unfolding callResult
-returns-4 c = rw (c .before .before .before .before .enum-told4 .given .1) (c .before .before .put-malformed .ensures)
+returns-4 c = rw (c .before .before .before .before .enum-told4 .given .1) (c .before .before .put-draw .ensures)
+
+returns-5 : tie.Need-returns-5
+unfolding callResult
+returns-5 c = rw (c .before .before .before .before .enum-told5 .given .1) (c .before .before .put-malformed .ensures)
 
 pub put-call-spec : {M : Type 1} → statement M
 put-call-spec =
     tie.close
     (tie.spec
+    (λ c. search needs)
+    (λ c κs. search needs)
     (λ c. search needs)
     (λ c κs. search needs)
     (λ c. search needs)
@@ -39,4 +45,6 @@ put-call-spec =
     (λ c. search needs)
     returns-3
     (λ c. search needs)
-    returns-4)
+    returns-4
+    (λ c. search needs)
+    returns-5)

@@ -21,6 +21,10 @@ returns-4 : tie.Need-returns-4
 unfolding callNamed
 returns-4 c = search choices
 
+returns-5 : tie.Need-returns-5
+unfolding callNamed
+returns-5 c = search choices
+
 pub call-named-spec : {M : Type 1} → statement M
 call-named-spec =
     tie.close
@@ -34,4 +38,7 @@ call-named-spec =
     (λ c. search needs)
     (λ c κs. search needs)
     returns-3
-    returns-4)
+    (λ c. search needs)
+    (λ c κs. search needs)
+    returns-4
+    returns-5)
