@@ -44,12 +44,17 @@ def choose_words(rng, set_=None, kind=None, n=None):
     return ['choose', set_, kind, n, last, len(stocks[0])] + stocks[0] + stocks[1]
 
 
+def draw_words(rng):
+    seed = rng.choice((1, 2, LAST, 2**31, rng.randrange(1, LAST + 1), rng.randrange(1, LAST + 1)))
+    return ['draw', seed, rng.randrange(2), rng.randrange(2), rng.choice((1, 1, 2, 8, rng.randrange(1, 9)))]
+
+
 def good_words(rng):
-    return rng.choice((parts_words, parts_words, verdict_words, verdict_words, choose_words))(rng)
+    return rng.choice((parts_words, parts_words, verdict_words, verdict_words, choose_words, draw_words))(rng)
 
 
 def refused_words(rng):
-    how = rng.randrange(9)
+    how = rng.randrange(10)
     words = rng.choice((parts_words, verdict_words, choose_words))(rng)
     if how == 0:
         words[1] = rng.choice((2, 3, LAST))
@@ -72,9 +77,13 @@ def refused_words(rng):
         words[5] = max(0, words[5] + rng.choice((-1, 1)))
     elif how == 7:
         words = choose_words(rng) + [rng.randrange(LAST)] * rng.choice((1, 2))
-    else:
+    elif how == 8:
         words = choose_words(rng)
         words[4] = LAST
+    else:
+        words = draw_words(rng)
+        for at in rng.sample((1, 2, 3, 4), rng.choice((1, 1, 1, 2, 3, 4))):
+            words[at] = rng.choice(((0,), (2, LAST), (2, LAST), (0, 9, LAST))[at - 1])
     return words
 
 
@@ -83,7 +92,7 @@ def text_of(words):
 
 
 def malformed(rng):
-    words = rng.choice((parts_words, verdict_words, choose_words))(rng)
+    words = rng.choice((parts_words, verdict_words, choose_words, draw_words))(rng)
     line = text_of(words)
     how = rng.randrange(10)
     if how == 0:
@@ -104,7 +113,8 @@ def malformed(rng):
     if how == 6:
         return line + b' ' + b'0' * rng.choice((9, 10, 11))
     if how == 7:
-        return text_of([rng.choice(('Parts', 'part', 'partss', 'high', 'low', 'verdicts', 'chose', 'choos', 'choosed', '0'))] + words[1:])
+        names = ('Parts', 'part', 'partss', 'high', 'low', 'verdicts', 'chose', 'choos', 'choosed', 'Draw', 'dra', 'draws', '0')
+        return text_of([rng.choice(names)] + words[1:])
     if how == 8:
         words = choose_words(rng)
         words[5] = rng.choice((len(words) - 5, len(words), LAST))

@@ -111,13 +111,11 @@ def inputs(rng, count):
     yield from stored_in(EDGES)
 
 
-def main():
-    program = os.path.abspath(sys.argv[1])
-    count = int(sys.argv[2]) if len(sys.argv) > 2 else 20000
-    rng = random.Random(int(sys.argv[3]) if len(sys.argv) > 3 else 1)
+def compare(program, named_inputs, output_for):
+    """Runs the program on every input, and says where its output is not what `output_for` gives; exit code 1 if there is any."""
     compared = lines = 0
     differ = []
-    for name, data in inputs(rng, count):
+    for name, data in named_inputs:
         got = subprocess.run([program], input=data, capture_output=True, check=True).stdout
         compared += 1
         lines += got.count(b'\n')
@@ -127,6 +125,18 @@ def main():
     for name in differ:
         print(f'differs: {name}')
     sys.exit(1 if differ else 0)
+
+
+def arguments():
+    """The program, how many lines, and a random generator, from the command line."""
+    program = os.path.abspath(sys.argv[1])
+    count = int(sys.argv[2]) if len(sys.argv) > 2 else 20000
+    return program, count, random.Random(int(sys.argv[3]) if len(sys.argv) > 3 else 1)
+
+
+def main():
+    program, count, rng = arguments()
+    compare(program, inputs(rng, count), output_for)
 
 
 if __name__ == '__main__':

@@ -1,9 +1,11 @@
 #!/usr/bin/env python3
-"""What the desk program has to write, from the request alone: FIPS 204's Decompose, the centred size, and a choice by sorting.
+"""What the desk program has to write, from the request alone: FIPS 204's Decompose, the centred size, a choice by sorting, and the draw
+of plain_generator.py.
 
 output_for(bytes) -> bytes answers one input. As a program: the inputs in the named files, one
 after another, or standard input.
 """
+import plain_generator
 from plain_lines import ALPHA, Q, answer_inputs, centred, decompose, lines_of, number_in
 
 LONGEST = 2**20  # the most bytes of a line, without its line end
@@ -59,6 +61,15 @@ def choose(set_, kind, n, last, first, second):
     return sorted(books, key=lambda book: book[0])[0]  # stable: of equal serials the first stock's, then the earlier
 
 
+def draw(seed, set_, kind, n):
+    """The draw's numbers, and the generator's state after it."""
+    ask(seed != 0, 16)
+    ask(set_ <= 1 and kind <= 1, 1)
+    ask(1 <= n <= 8, 2)
+    numbers, state = plain_generator.draw(seed, set_, kind, n)
+    return numbers + [state]
+
+
 def result(line):
     """What stands before the line end; None for a malformed line."""
     if len(line) > LONGEST:
@@ -74,6 +85,8 @@ def result(line):
     if name == b"choose" and len(numbers) >= 5 and numbers[4] <= len(numbers) - 5:
         set_, kind, n, last, count, *stocks = numbers
         return " ".join(map(str, choose(set_, kind, n, last, stocks[:count], stocks[count:])))
+    if name == b"draw" and len(numbers) == 4:
+        return " ".join(map(str, draw(*numbers)))
     return None
 
 

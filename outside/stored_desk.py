@@ -68,13 +68,21 @@ def cases():
     ]  # fmt: skip
     largest = choose(0, 0, 8, 0, [(LAST, LAST)], [])
     yield 'choose_largest', [largest, ['choose', 0, 0, 8, 0, 0] + [LAST] + [rng.randrange(LAST + 1) for _ in range(size_of(0, 0, 8) - 1)]]
+    yield 'draws', [['draw', seed, set_, kind, 1] for set_ in (0, 1) for kind in (0, 1) for seed in (1, LAST)] + [
+        ['draw', 1, 0, 0, 8], ['draw', LAST, 0, 1, 8], ['draw', 2**31, 1, 0, 8], ['draw', rng.randrange(1, LAST), 1, 1, 8],
+    ]  # fmt: skip
+    # the order of the questions: 16, 1, 2
+    yield 'draw_refused', [['draw'] + words for words in (
+        [0, 2, 2, 0], [0, 0, 0, 1], [1, 2, 0, 0], [1, 0, 2, 9], [LAST, LAST, 0, 1], [2, 1, LAST, 1], [1, 0, 0, 0], [1, 1, 1, 9], [1, 0, 0, LAST],
+    )]  # fmt: skip
     yield 'few_words', [
         ['parts'], ['parts', 0], ['parts', 0, 1, 2], ['verdict'], ['verdict', 0], ['choose'],
+        ['draw'], ['draw', 1], ['draw', 1, 0, 0], ['draw', 1, 0, 0, 1, 0], ['draw', 0, 9, 9],
         ['choose', 0, 0, 1, 0], ['choose', 0, 0, 1, 0, 1], ['choose', 0, 0, 1, 0, LAST, 1], ['choose', 9, 9, 9, 0, 2, 1],
     ]  # fmt: skip
     # `high` and `low` name no call any more
     names = ('high', 'low', 'Parts', 'PARTS', 'part', 'partss', 'verdic', 'choos', 'patrs', '-', '0', 'H')
-    yield 'other_words', [[name, 0, 1] for name in names]
+    yield 'other_words', [[name, 0, 1] for name in names] + [[name, 1, 0, 0, 1] for name in ('Draw', 'dra', 'draws', 'ward', 'd')]
     # 01: 1 to 10 digits, at most 2^32 - 1
     yield 'digits', [['parts', word, 1] for word in ('0000000001', '00000000001', '4294967295', '4294967296', '+0', '-0', '0x1', '1.0', 'one')]
 

@@ -1,10 +1,12 @@
 #!/usr/bin/env python3
 """listings.py: what the documents show is what the programs do.
 
-- README.md, listings marked `rattle`: each statement stands, in this order, in crates/example/src/main.rt, which is proved and run.
+- README.md, listings marked `rattle`: each statement stands, in this order, in crates/example/src/main.rt, which is proved and run, or in
+  crates/generator/src/lib.rt, which is proved.
 - README.md, listings marked `sh`: each line with a comment `prints "a", "b"` is run, and must write these lines.
 - examples/README.md: each file of the table is given to ./pair, which must write the lines of the last column; so must
-  outside/plain_lines.py, the plain meaning.
+  outside/plain_lines.py, the plain meaning. The last line that it shows for load.txt is that of ./pair --load and of outside/plain_load.py,
+  and all else that the two write for it is equal too.
 - docs/TOP_DIGITS.md: each page is what the command above it writes.
 Rust listings are doc tests of rust/. Exit code 1 where anything differs."""
 import os
@@ -15,6 +17,7 @@ import sys
 ROOT = os.path.dirname(os.path.dirname(os.path.abspath(__file__)))
 sys.path.insert(0, os.path.join(ROOT, 'outside'))
 from plain_lines import output_for  # noqa: E402
+from plain_load import output_for as load_output_for  # noqa: E402
 
 wrong = []
 
@@ -39,14 +42,14 @@ def statements(block):
 
 
 def check_rattle(readme):
-    program = without_layout(text_of('crates', 'example', 'src', 'main.rt'))
+    program = without_layout(text_of('crates', 'example', 'src', 'main.rt') + text_of('crates', 'generator', 'src', 'lib.rt'))
     count = 0
     for block in blocks(readme, 'rattle'):
         at = 0
         for statement in statements(block):
             found = program.find(statement, at)
             if found < 0:
-                wrong.append('README.md: not in crates/example, or in another order: ' + statement)
+                wrong.append('README.md: not in crates/example or crates/generator, or in another order: ' + statement)
             else:
                 at = found + len(statement)
             count += 1
@@ -86,6 +89,18 @@ def check_examples():
     return len(rows)
 
 
+def check_load():
+    shown = re.findall(r'^`(\S+\.txt)` has .* its last line of output is `(\d+)`\.$', text_of('examples', 'README.md'), re.M)
+    for name, last in shown:
+        with open(os.path.join(ROOT, 'examples', name), 'rb') as f:
+            data = f.read()
+        written = run(['./pair', '--load'], data)
+        check_lines('examples/' + name, [last], written[written.rfind(b'\n', 0, -1) + 1 :])
+        if written != load_output_for(data):
+            wrong.append('examples/%s: ./pair --load and plain_load.py differ' % name)
+    return len(shown)
+
+
 def check_pages():
     pages = re.findall(r'^`([^`\n]*)` prints:\n\n```text\n(.*?)^```$', text_of('docs', 'TOP_DIGITS.md'), re.M | re.S)
     for command, shown in pages:
@@ -95,12 +110,12 @@ def check_pages():
 
 def main():
     readme = text_of('README.md')
-    counts = (check_rattle(readme), check_shell(readme), check_examples(), check_pages())
+    counts = (check_rattle(readme), check_shell(readme), check_examples(), check_load(), check_pages())
     for line in wrong:
         print(line)
     if wrong or 0 in counts:
         sys.exit(1)
-    print('listings: %d statements, %d commands, %d example files and %d pages are as shown' % counts)
+    print('listings: %d statements, %d commands, %d example files, %d load and %d pages are as shown' % counts)
 
 
 main()
