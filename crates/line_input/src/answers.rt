@@ -84,7 +84,8 @@ fn answer_call(
     }
 }
 
-// Answers the lines that end in a part until it is used up or the slice may lack room for one more. The slice is a large buffer.
+// Answers the lines that end in a part until it is used up or the slice may lack room for one more. `answer_input` lends
+// the slice, a large buffer, and what a line needs.
 pub fn answer_some(
     stream: Stream,
     state: u32,
@@ -192,7 +193,7 @@ fn put_state(out: &mut [u8], at: usize, state: u32) -> usize
 }
 
 // When the input has ended: the answer to its last line, if that lacks its line end; and the generator's state. How many bytes wait to be
-// written. The slice is a large buffer.
+// written. `answer_input` lends the slices, as for `answer_some`.
 pub fn put_last(
     stream: Stream,
     state: u32,
