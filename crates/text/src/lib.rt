@@ -3,6 +3,7 @@
 ghost use mathlib.Core.Path.{_≡_};
 ghost use mathlib.Core.List.{[], _∷_};
 ghost use Prim.Native.Nat.{_<_};
+ghost use lib.ListN.{length};
 ghost use Rattle.text.specs.Decimal.{digitByte, noDigits, badDigits, withDigit, numberRead, numberIn};
 ghost use Rattle.text.specs.Numbers.{startNumbers, malformedInput, blankByte, withNumberDigit, numbersEnded, afterByte, afterBytes, stored, kept, keptOver};
 ghost use Rattle.text.specs.Text.{textAt, puts, lastDigit, decimalIn, decimal, numbersText, hexDigit, hexByte, hexBytes};
@@ -121,10 +122,7 @@ pub fn number_in(word: &[u8]) -> ReadNumber
     end_digits(read)
 }
 
-// ---- The numbers of an input
-
-// The most numbers of an input.
-pub const MOST_NUMBERS: usize = 8192;
+// ---- The numbers of an input. `most` is how many it may have: the places of the slice that they are read into.
 
 // How far an input has been read: whether all is well so far; the number being read; and how many numbers have ended before it.
 pub struct NumbersRead {
@@ -165,10 +163,10 @@ fn is_blank(byte: u8) -> bool
 }
 
 // One digit more of the number being read.
-fn add_number_digit(read: NumbersRead, byte: u8) -> NumbersRead
-    ensures { λ r. ⌜ r ≡ withNumberDigit read byte ⌝ }
+fn add_number_digit(read: NumbersRead, byte: u8, most: usize) -> NumbersRead
+    ensures { λ r. ⌜ r ≡ withNumberDigit most read byte ⌝ }
 {
-    if read.count >= MOST_NUMBERS {
+    if read.count >= most {
         return refuse_input();
     }
     let digits = add_digit(read.digits, byte);
@@ -183,13 +181,13 @@ fn add_number_digit(read: NumbersRead, byte: u8) -> NumbersRead
 }
 
 // The number being read, if there is one, ends here.
-pub fn end_numbers(read: NumbersRead) -> NumbersRead
-    ensures { λ r. ⌜ r ≡ numbersEnded read ⌝ }
+pub fn end_numbers(read: NumbersRead, most: usize) -> NumbersRead
+    ensures { λ r. ⌜ r ≡ numbersEnded most read ⌝ }
 {
     if read.digits.count == 0 {
         return read;
     }
-    if read.count >= MOST_NUMBERS {
+    if read.count >= most {
         return refuse_input();
     }
     NumbersRead {
@@ -200,17 +198,17 @@ pub fn end_numbers(read: NumbersRead) -> NumbersRead
 }
 
 // One byte more.
-fn next_byte(read: NumbersRead, byte: u8) -> NumbersRead
-    ensures { λ r. ⌜ r ≡ afterByte read byte ⌝ }
+fn next_byte(read: NumbersRead, byte: u8, most: usize) -> NumbersRead
+    ensures { λ r. ⌜ r ≡ afterByte most read byte ⌝ }
 {
     if !read.good {
         return read;
     }
     if is_digit(byte) {
-        return add_number_digit(read, byte);
+        return add_number_digit(read, byte, most);
     }
     if is_blank(byte) {
-        return end_numbers(read);
+        return end_numbers(read, most);
     }
     refuse_input()
 }
@@ -226,9 +224,9 @@ fn store(numbers: &mut [u32], at: usize, value: u32)
 
 // One byte more; the number being read stands at its place after each digit.
 fn feed_byte(read: NumbersRead, byte: u8, numbers: &mut [u32]) -> NumbersRead
-    ensures { λ r. ⌜ (r ≡ afterByte read byte) × (now (numbers .exit) ≡ kept r (now (numbers .entry))) ⌝ }
+    ensures { λ r. ⌜ (r ≡ afterByte (length (now (numbers .entry))) read byte) × (now (numbers .exit) ≡ kept r (now (numbers .entry))) ⌝ }
 {
-    let after = next_byte(read, byte);
+    let after = next_byte(read, byte, numbers.len());
     if after.digits.count > 0 {
         store(numbers, after.count, after.digits.value);
     }
@@ -237,8 +235,8 @@ fn feed_byte(read: NumbersRead, byte: u8, numbers: &mut [u32]) -> NumbersRead
 
 // Some bytes more.
 pub fn feed_numbers(read: NumbersRead, bytes: &[u8], numbers: &mut [u32]) -> NumbersRead
-    ensures { λ r. ⌜ r ≡ afterBytes read (now (bytes .entry)) ⌝ }
-    ensures { λ _. ⌜ now (numbers .exit) ≡ keptOver read (now (bytes .entry)) (now (numbers .entry)) ⌝ }
+    ensures { λ r. ⌜ r ≡ afterBytes (length (now (numbers .entry))) read (now (bytes .entry)) ⌝ }
+    ensures { λ _. ⌜ now (numbers .exit) ≡ keptOver (length (now (numbers .entry))) read (now (bytes .entry)) (now (numbers .entry)) ⌝ }
 {
     let mut here = read;
     let mut i = 0;

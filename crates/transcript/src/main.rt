@@ -8,11 +8,11 @@
 mod lines;
 mod whole;
 
-use text::MOST_NUMBERS;
 use text::NumbersRead;
 use text::end_numbers;
 use text::feed_numbers;
 use text::start_numbers;
+use whole::MOST_NUMBERS;
 use whole::OUT_LENGTH;
 use whole::text_for;
 
@@ -51,7 +51,7 @@ fn read_all(fd: i32, numbers: &mut [u32]) -> NumbersRead {
         input = read_some(fd, input.read, numbers);
         reads -= 1;
     }
-    end_numbers(input.read)
+    end_numbers(input.read, numbers.len())
 }
 
 // Reads one input, and writes the text for it.

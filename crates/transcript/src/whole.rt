@@ -21,6 +21,7 @@ use lists::least;
 use settings::KEYS;
 use settings::Settings;
 use settings::Shape;
+use settings::WIDTH;
 use settings::WORK_LENGTH;
 use state::Side;
 use text::NumbersRead;
@@ -31,6 +32,9 @@ const KEYS0: usize = 5;
 const KEYS1: usize = KEYS0 + KEYS;
 
 const HEAD_LENGTH: usize = KEYS1 + KEYS;
+
+// The most numbers of an input: one more than both sides' inputs and books have, so that question 5 can refuse one too many.
+pub const MOST_NUMBERS: usize = HEAD_LENGTH + 2 * (8 * WIDTH + BOOK_LENGTH) + 1;
 
 // No text is longer: two digits for each byte of a message, and room for all else.
 pub const OUT_LENGTH: usize = 2 * RUN_BYTES + 2048;

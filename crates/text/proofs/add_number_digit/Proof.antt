@@ -12,10 +12,10 @@ unfolding withNumberDigit
 returns c = search choices
 
 returns-2 : tie.Need-returns-2
-returns-2 c = digit-bad _ _ _ _ (c .before .before .before .add-digit .ensures) (c .before .before .before .before .if1 .left) (not-true _ (c .before .if2 .taken)) (c .refuse-input2 .ensures)
+returns-2 c = digit-bad _ _ _ _ _ (c .before .before .before .add-digit .ensures) (c .before .before .before .before .if1 .left) (not-true _ (c .before .if2 .taken)) (c .refuse-input2 .ensures)
 
 returns-3 : tie.Need-returns-3
-returns-3 c = digit-good _ _ _ (c .before .before .add-digit .ensures) (c .before .before .before .if1 .left) (not-false _ (c .if2 .left))
+returns-3 c = digit-good _ _ _ _ (c .before .before .add-digit .ensures) (c .before .before .before .if1 .left) (not-false _ (c .if2 .left))
 
 pub add-number-digit-spec : {M : Type 1} → statement M
 add-number-digit-spec =

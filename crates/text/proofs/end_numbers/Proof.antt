@@ -15,7 +15,7 @@ unfolding numbersEnded
 returns-2 c = search choices
 
 returns-3 : tie.Need-returns-3
-returns-3 c = ended-is _ _ (c .before .no-digits .ensures) (c .before .before .before .before .if1 .left) (c .before .before .if2 .left)
+returns-3 c = ended-is _ _ _ (c .before .no-digits .ensures) (c .before .before .before .before .if1 .left) (c .before .before .if2 .left)
 
 pub end-numbers-spec : {M : Type 1} → statement M
 end-numbers-spec = tie.close (tie.spec returns (λ c κs. search needs) returns-2 (λ c κs. search needs) (λ c. search needs) returns-3)

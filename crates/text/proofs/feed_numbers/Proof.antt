@@ -11,7 +11,11 @@ use Rattle.text.proofs.feed_numbers.Tie as tie
 
 abbrev Inv-loop : tie.InvT-loop
 Inv-loop bytes numbers₀ here₀ i₀ numbers here i =
-    (i ≤ length bytes) × (length numbers ≡ length numbers₀) × (afterBytes here (drop i bytes) ≡ afterBytes here₀ bytes) × (keptOver here (drop i bytes) numbers ≡ keptOver here₀ bytes numbers₀)
+    let most = length numbers₀ in
+    (i ≤ length bytes)
+    × (length numbers ≡ most)
+    × (afterBytes most here (drop i bytes) ≡ afterBytes most here₀ bytes)
+    × (keptOver most here (drop i bytes) numbers ≡ keptOver most here₀ bytes numbers₀)
 
 abbrev μ-loop : tie.MeasureT-loop
 μ-loop bytes numbers₀ here₀ i₀ numbers here i = length bytes - i
@@ -23,18 +27,19 @@ loop-again : tie.Need-loop-again Inv-loop μ-loop
 loop-again c =
     let at = c .before .before .before .before .before .before .loop in
     let bytes = c .before .before .before .before .before .before .before .before .before .args .bytes .now in
-    let fed = c .before .before .feed-byte .ensures in (
+    let fed = c .before .before .feed-byte .ensures in
+    let after = rw (at .inv .1) at (fed .0) in (
       omega arith,
       search needs,
-      bytes-more (at .here) _ _ bytes (at .i) (omega arith) (at .inv .2) (fed .0),
-      kept-more (at .here) _ (at .numbers) _ _ bytes (at .i) (omega arith) (at .inv .3) (fed .0) (fed .1),
+      bytes-more _ (at .here) _ _ bytes (at .i) (omega arith) (at .inv .2) after,
+      kept-more _ (at .here) _ (at .numbers) _ _ bytes (at .i) (omega arith) (at .inv .3) after (fed .1),
     )
 
 returns : tie.Need-returns Inv-loop μ-loop
 returns c =
     let at = c .before .loop in
     let bytes = c .before .before .before .before .args .bytes .now in
-    (bytes-done (at .here) _ bytes (at .i) (omega arith) (at .inv .2), kept-done (at .here) (at .numbers) _ bytes (at .i) (omega arith) (at .inv .3))
+    (bytes-done _ (at .here) _ bytes (at .i) (omega arith) (at .inv .2), kept-done _ (at .here) (at .numbers) _ bytes (at .i) (omega arith) (at .inv .3))
 
 pub feed-numbers-spec : {M : Type 1} → statement M
 feed-numbers-spec =
