@@ -9,7 +9,7 @@ import subprocess
 import sys
 
 from compare_lines import coefficient, forms_of, stored_in
-from plain_desk import LONGEST, MOST_BOUND, Q, output_for, shared_numbers
+from plain_desk import LONGEST, MOST_BOUND, Q, book_size, output_for
 from plain_lines import lines_of
 
 HERE = os.path.dirname(os.path.abspath(__file__))
@@ -37,7 +37,7 @@ def choose_words(rng, set_=None, kind=None, n=None):
     set_ = rng.randrange(2) if set_ is None else set_
     kind = rng.randrange(2) if kind is None else kind
     n = rng.choice((1, 1, 1, 2, 8)) if n is None else n
-    size = 1 + 3 * shared_numbers(set_, kind, n)
+    size = book_size(set_, kind, n)
     serials = [rng.randrange(6) for _ in range(3)] + [rng.randrange(LAST + 1), LAST]
     stocks = [[x for _ in range(rng.choice((0, 1, 1, 2, 3))) for x in book(rng, size, serials)] for _ in (0, 1)]
     last = rng.choice((0, 0, 1, 3, rng.choice(serials)))
@@ -150,12 +150,12 @@ def long_lines(rng):
             yield (head + b' 0' * length)[:length]
         yield b'7' * length
         yield b' ' * length
-    size = 1 + 3 * shared_numbers(0, 0, 8)
+    size = book_size(0, 0, 8)
     books = LONGEST // (11 * size)
     for count in (0, books // 2, books):
         words = ['choose', 0, 0, 8, 1, count * size] + [x for _ in range(books) for x in book(rng, size, [1, 2, 3])]
         yield widened(rng, words, len(text_of(words)) + 1000)
-    size = 1 + 3 * shared_numbers(1, 1, 1)
+    size = book_size(1, 1, 1)
     books = LONGEST // (8 * size)
     words = ['choose', 1, 1, 1, 4, size * (books // 3)] + [x for _ in range(books) for x in [rng.randrange(9)] + [5] * (size - 1)]
     for length in (LONGEST, LONGEST + 1):

@@ -8,7 +8,7 @@ import subprocess
 import sys
 
 import transcript
-from transcript import Q, ALPHA, PARTS
+from transcript import Q, ALPHA, HEAD, KEYS, MOST, PARTS, WIDTH
 
 KINDS = ('honest', 'honest', 'honest', 'share', 'check', 'draw', 'settings', 'short', 'long', 'text')
 # with books in place of the draw; 'draw' then spoils a number of the books, 'dealer' is a bad dealer whose books pass every check, and
@@ -37,43 +37,59 @@ def number(rng):
     return rng.choice((0, Q - 1, rng.randrange(Q), rng.randrange(Q), rng.randrange(Q)))
 
 
+def keys_in(head):
+    """The server's keys, and the phone's."""
+    return head[5:5 + KEYS], head[5 + KEYS:HEAD]
+
+
+def shared_out(rng, keys, secret):
+    """Both sides' input shares and check shares for some coefficients."""
+    server, phone = [], []
+    for w in secret:
+        for number in transcript.whole(w, *keys):
+            own = rng.randrange(Q)
+            phone.append(own)
+            server.append((number - own) % Q)
+    return server, phone
+
+
+def some_keys(rng):
+    """A side's keys; now and then all are equal."""
+    keys = [rng.choice((1, Q - 1, rng.randrange(1, Q), rng.randrange(1, Q))) for _ in range(KEYS)]
+    return keys[:1] * KEYS if rng.randrange(8) == 0 else keys
+
+
 def honest(rng):
     """Settings, both sides' inputs and the draw, as a list of lists."""
     set_, kind = rng.randrange(2), rng.randrange(2)
     n = rng.choice((1, 1, 2, 3, 4, 5, 6, 7, 8, 8))
     bound = rng.choice((1, 2, 4190208, rng.randrange(1, 4190209))) if kind == 1 else 0
     serial = rng.choice((1, 2**32 - 1, rng.randrange(1, 2**32)))
-    keys = [rng.choice((1, Q - 1, rng.randrange(1, Q), rng.randrange(1, Q))) for _ in (0, 1)]
-    server, phone = [], []
-    for _ in range(n):
-        w = secret(rng, set_, kind, bound)
-        for whole in (w, keys[0] * w, keys[1] * w):
-            own = rng.randrange(Q)
-            phone.append(own)
-            server.append((whole - own) % Q)
+    keys = some_keys(rng), some_keys(rng)
+    server, phone = shared_out(rng, keys, [secret(rng, set_, kind, bound) for _ in range(n)])
     size = transcript.draw_length(set_, kind, n)
     draw = [0] * size if rng.randrange(8) == 0 else [number(rng) for _ in range(size)]
-    return [[set_, kind, n, bound, serial] + keys, server, phone, draw]
+    return [[set_, kind, n, bound, serial] + keys[0] + keys[1], server, phone, draw]
 
 
 def dealt_books(parts):
     """The books of an input's draw, to stand in its place."""
     head, _, _, draw = parts
-    set_, kind, n, _, _, key0, key1 = head
-    return [[x for place in book for x in place] for book in transcript.deal(set_, kind, n, key0, key1, draw)]
+    set_, kind, n = head[:3]
+    return [[x for place in book for x in place] for book in transcript.deal(set_, kind, n, *keys_in(head), draw)]
 
 
 def shift(head, book, place, amount):
     """Makes a shared number greater by an amount, with its check parts: a book of either side changes, and no check fails."""
-    for c, factor in enumerate((1, head[5], head[6])):
-        book[3 * place + c] = (book[3 * place + c] + factor * amount) % Q
+    for at, more in enumerate(transcript.whole(amount, *keys_in(head)), WIDTH * place):
+        book[at] = (book[at] + more) % Q
 
 
 def choose_answer(parts, books, wanted):
     """Moves the entries of the zero check's vectors by what the honest answer lacks to the one wanted: no check fails."""
     head, server, phone, draw = parts
     kind, n = head[1:3]
-    size = len(books[0]) // 3
+    size = len(books[0]) // WIDTH
     honest_answer = transcript.transcript(head + server + phone + draw)[-4]
     for j, (have, want) in enumerate(zip(map(int, honest_answer.split()[2:]), wanted)):
         end, entries, amount = ((j + 1) * size // n, 7, have - want) if kind == 0 else (size, n + 2, want - have)
@@ -95,18 +111,18 @@ def spoil(rng, how, parts):
         side[at] = rng.choice(((side[at] + rng.randrange(1, Q)) % Q, Q, 2**32 - 1))
     elif how == 'check':
         side = rng.choice((server, phone))
-        at = 3 * rng.randrange(len(side) // 3) + rng.choice((1, 2))
+        at = WIDTH * rng.randrange(len(side) // WIDTH) + rng.randrange(1, WIDTH)
         side[at] = (side[at] + rng.randrange(1, Q)) % Q
     elif how == 'draw':
         draw[rng.randrange(len(draw))] = rng.choice((Q, 2**32 - 1, rng.randrange(Q)))
     elif how == 'settings':
-        at = rng.randrange(7)
+        at = rng.randrange(HEAD)
         head[at] = rng.choice((0, 1, 2, 9, Q, 4190209, 2**32 - 1, rng.randrange(2**32)))
     numbers = head + server + phone + draw
     if how == 'short':
         numbers = numbers[:rng.choice((rng.randrange(len(numbers)), rng.randrange(40), len(numbers) - 1))]
     elif how == 'long':
-        numbers += [rng.randrange(Q) for _ in range(rng.choice((1, 3, 8185 - len(numbers), 8192 - len(numbers), 8193 - len(numbers))))]
+        numbers += [rng.randrange(Q) for _ in range(rng.choice((1, WIDTH, MOST - HEAD - len(numbers), MOST - len(numbers), MOST + 1 - len(numbers))))]
     return numbers
 
 
@@ -139,7 +155,7 @@ def books_case(rng, how):
     if how == 'dealer':
         for _ in range(rng.choice((1, 1, 3, 40))):
             book = rng.choice(books)
-            shift(parts[0], book, rng.randrange(len(book) // 3), rng.choice((1, Q - 1, rng.randrange(1, Q))))
+            shift(parts[0], book, rng.randrange(len(book) // WIDTH), rng.choice((1, Q - 1, rng.randrange(1, Q))))
     elif how == 'answer':
         set_, kind, n = parts[0][:3]
         choose_answer(parts, books, [edge(rng, set_, kind) for _ in range(n if kind == 0 else 1)])

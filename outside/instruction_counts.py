@@ -13,7 +13,8 @@ import sys
 import tempfile
 
 import transcript
-from transcript import Q
+from compare_transcripts import shared_out
+from transcript import KEYS, Q, WIDTH
 
 
 def draw_of(rng, set_, kind, n, drawn):
@@ -24,18 +25,14 @@ def draw_of(rng, set_, kind, n, drawn):
         out.append(next(it))
         return out[-1]
 
-    transcript.deal_book(set_, kind, n, take_drawn, lambda _: out.extend(rng.randrange(Q) for _ in range(3)))
+    transcript.deal_book(set_, kind, n, take_drawn, lambda _: out.extend(rng.randrange(Q) for _ in range(WIDTH)))
     return out
 
 
 def one_input(rng, set_, kind, n, bound, secret, drawn):
-    keys = [rng.randrange(1, Q) for _ in (0, 1)]
-    server, phone = [], []
-    for w in secret:
-        for whole in (w, keys[0] * w, keys[1] * w):
-            phone.append(rng.randrange(Q))
-            server.append((whole - phone[-1]) % Q)
-    numbers = [set_, kind, n, bound, 1] + keys + server + phone + draw_of(rng, set_, kind, n, drawn)
+    keys = [[rng.randrange(1, Q) for _ in range(KEYS)] for _ in (0, 1)]
+    server, phone = shared_out(rng, keys, secret)
+    numbers = [set_, kind, n, bound, 1] + keys[0] + keys[1] + server + phone + draw_of(rng, set_, kind, n, drawn)
     return b' '.join(b'%010d' % x for x in numbers) + b'\n'
 
 

@@ -12,6 +12,7 @@ LONGEST = 2**20  # the most bytes of a line, without its line end
 MOST_BOUND = (Q - 1) // 2
 BASES = ((16, 16, 24, 31), (16, 32, 31, 33))  # of digits 0 to 3
 PARTS = (44, 16)
+WIDTH = 1 + 2 * 4  # numbers of a shared number: the share, and a part under each of four keys of either side
 
 
 class Refused(Exception):
@@ -30,6 +31,11 @@ def shared_numbers(set_, kind, n):
     if kind == 0:
         return n * (coefficient + 1 + (5 + 2))
     return n * coefficient + 1 + (n + 2)
+
+
+def book_size(set_, kind, n):
+    """The numbers of a book in a stock: its serial first."""
+    return 1 + WIDTH * shared_numbers(set_, kind, n)
 
 
 def parts(numbers):
@@ -53,7 +59,7 @@ def choose(set_, kind, n, last, first, second):
     """The book with the least serial above the last: its serial and its numbers."""
     ask(set_ <= 1 and kind <= 1, 1)
     ask(1 <= n <= 8, 2)
-    size = 1 + 3 * shared_numbers(set_, kind, n)
+    size = book_size(set_, kind, n)
     ask(len(first) % size == 0 and len(second) % size == 0, 5)
     books = [stock[at : at + size] for stock in (first, second) for at in range(0, len(stock), size)]
     books = [book for book in books if book[0] > last]

@@ -1,6 +1,6 @@
 #!/usr/bin/env python3
 """The generator for tests and its draw, written from the request's text alone."""
-from transcript import Q, deal_book
+from transcript import Q, WIDTH, deal_book
 
 KEPT = 2**32 - 1  # 32 bits
 
@@ -25,8 +25,8 @@ class Generator:
 
 
 def draw(state, set_, kind, n):
-    """A draw's numbers, in the order of the book: a drawn number, then the phone's three for its place; a place whose value is not drawn
-    has only the three. Beside them, the generator's state after the draw."""
+    """A draw's numbers, in the order of the book: a drawn number, then the phone's nine for its place; a place whose value is not drawn
+    has only the nine. Beside them, the generator's state after the draw."""
     generator = Generator(state)
     numbers = []
 
@@ -35,7 +35,7 @@ def draw(state, set_, kind, n):
         return numbers[-1]
 
     def take_place(_):
-        for _ in range(3):
+        for _ in range(WIDTH):
             take_drawn()
 
     deal_book(set_, kind, n, take_drawn, take_place)

@@ -5,13 +5,9 @@ import os
 import random
 import sys
 
-from plain_desk import MOST_BOUND, Q, output_for, shared_numbers
+from plain_desk import MOST_BOUND, Q, book_size, output_for
 
 LAST = 2**32 - 1
-
-
-def size_of(set_, kind, n):
-    return 1 + 3 * shared_numbers(set_, kind, n)
 
 
 def book(serial, number, size):
@@ -20,7 +16,7 @@ def book(serial, number, size):
 
 
 def choose(set_, kind, n, last, first, second):
-    size = size_of(set_, kind, n)
+    size = book_size(set_, kind, n)
     stocks = [[x for serial, number in stock for x in book(serial, number, size)] for stock in (first, second)]
     return ['choose', set_, kind, n, last, len(stocks[0])] + stocks[0] + stocks[1]
 
@@ -63,14 +59,14 @@ def cases():
     yield 'choose_refused', [
         ['choose', 2, 0, 0, 0, 0], ['choose', 0, 2, 0, 0, 0], ['choose', 0, 0, 0, 0, 0, 1], ['choose', 1, 1, 9, 0, 1, 7],
         ['choose', 0, 0, 1, 0, 0, 1], choose(1, 1, 1, 0, [(1, 1)], [])[:-1], choose(1, 1, 1, 0, [], [(1, 1)])[:-1],
-        ['choose', 1, 1, 1, 0, size_of(1, 1, 1) - 1] + book(1, 1, size_of(1, 1, 1)), ['choose', 0, 0, 1, 0, 0],
+        ['choose', 1, 1, 1, 0, book_size(1, 1, 1) - 1] + book(1, 1, book_size(1, 1, 1)), ['choose', 0, 0, 1, 0, 0],
         choose(1, 1, 1, 5, [(5, 1)], [(4, 2)]), choose(1, 1, 1, LAST, [(LAST, 1)], []), choose(1, 1, 1, 0, [(0, 1)], [(0, 2)]),
     ]  # fmt: skip
-    largest = choose(0, 0, 8, 0, [(LAST, LAST)], [])
-    yield 'choose_largest', [largest, ['choose', 0, 0, 8, 0, 0] + [LAST] + [rng.randrange(LAST + 1) for _ in range(size_of(0, 0, 8) - 1)]]
+    # the longest book, in numbers of ten digits
+    yield 'choose_largest', [['choose', 0, 0, 8, 0, 0, LAST] + [rng.randrange(10**9, LAST + 1) for _ in range(book_size(0, 0, 8) - 1)]]
     yield 'draws', [['draw', seed, set_, kind, 1] for set_ in (0, 1) for kind in (0, 1) for seed in (1, LAST)] + [
-        ['draw', 1, 0, 0, 8], ['draw', LAST, 0, 1, 8], ['draw', 2**31, 1, 0, 8], ['draw', rng.randrange(1, LAST), 1, 1, 8],
-    ]  # fmt: skip
+        ['draw', 2**31, 0, 0, 8], ['draw', rng.randrange(1, LAST), 1, 1, 8],
+    ]
     # the order of the questions: 16, 1, 2
     yield 'draw_refused', [['draw'] + words for words in (
         [0, 2, 2, 0], [0, 0, 0, 1], [1, 2, 0, 0], [1, 0, 2, 9], [LAST, LAST, 0, 1], [2, 1, LAST, 1], [1, 0, 0, 0], [1, 1, 1, 9], [1, 0, 0, LAST],

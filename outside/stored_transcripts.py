@@ -7,20 +7,26 @@ import sys
 
 import compare_transcripts
 import transcript
-from transcript import Q, ALPHA
+from transcript import Q, ALPHA, KEYS, WIDTH
+
+ONES = [1] * (2 * KEYS)  # the keys of both sides
 
 
 def honest(rng, set_, kind, n, bound):
-    keys = [rng.randrange(1, Q) for _ in (0, 1)]
-    server, phone = [], []
-    for _ in range(n):
-        w = compare_transcripts.secret(rng, set_, kind, bound)
-        for whole in (w, keys[0] * w, keys[1] * w):
-            own = rng.randrange(Q)
-            phone.append(own)
-            server.append((whole - own) % Q)
+    keys = [[rng.randrange(1, Q) for _ in range(KEYS)] for _ in (0, 1)]
+    secret = [compare_transcripts.secret(rng, set_, kind, bound) for _ in range(n)]
+    server, phone = compare_transcripts.shared_out(rng, keys, secret)
     draw = [rng.randrange(Q) for _ in range(transcript.draw_length(set_, kind, n))]
-    return [set_, kind, n, bound, rng.randrange(1, 2**32)] + keys, server, phone, draw
+    return [set_, kind, n, bound, rng.randrange(1, 2**32)] + keys[0] + keys[1], server, phone, draw
+
+
+def zeros(n):
+    """The inputs of a side, all 0."""
+    return [0] * (WIDTH * n)
+
+
+def no_draw(set_, kind, n):
+    return [0] * transcript.draw_length(set_, kind, n)
 
 
 def cases():
@@ -30,21 +36,39 @@ def cases():
         yield 'bound_set%d_n1' % set_, honest(rng, set_, 1, 1, 4190208)
     yield 'high_set0_n8', honest(rng, 0, 0, 8, 0)
     yield 'bound_set1_n8', honest(rng, 1, 1, 8, 130994)
-    # the request's known message: server, set 0, HIGH, N = 1, round 1, serial 1, opened share 1, check part 0
+    # the request's known message: server, set 0, HIGH, N = 1, round 1, serial 1, share 1, four zero parts
     w = (2 - ALPHA[0] // 2) % Q
-    yield 'known_message', ([0, 0, 1, 0, 1, 1, 1], [w, w, 0], [0, 0, w], [0] * transcript.draw_length(0, 0, 1))
-    # check shares that do not fit the share: under the server's key, and under the phone's
-    for name, at in (('check_share_server_key', 1), ('check_share_phone_key', 2)):
-        head, server, phone, draw = honest(rng, 0, 1, 1, 100)
-        server[at] = (server[at] + 1) % Q
-        yield name, (head, server, phone, draw)
-    head, server, phone, draw = honest(rng, 1, 0, 1, 0)
-    yield 'zero_key', (head[:5] + [0, head[6]], server, phone, draw)
-    yield 'bound_above', ([1, 1, 1, 4190209, 1, 1, 1], [0] * 3, [0] * 3, [0] * transcript.draw_length(1, 1, 1))
-    yield 'serial_zero', ([1, 0, 1, 0, 0, 1, 1], [0] * 3, [0] * 3, [0] * transcript.draw_length(1, 0, 1))
-    yield 'input_too_large', ([1, 0, 1, 0, 1, 1, 1], [0] * 3, [0, Q, 0], [0] * transcript.draw_length(1, 0, 1))
-    yield 'count_above', ([0, 0, 9, 0, 1, 1, 1], [], [], [5])
-    yield 'no_draw', ([0, 0, 1, 0, 1, 1, 1], [1, 1, 1], [2], [])
+    parts, none = [w] * KEYS, [0] * KEYS
+    yield 'known_message', ([0, 0, 1, 0, 1] + ONES, [w] + parts + none, [0] + none + parts, no_draw(0, 0, 1))
+    # keys that are all equal, and keys at the ends of their range
+    for name, keys in (('equal_keys', [5] * (2 * KEYS)), ('keys_at_the_ends', [1, Q - 1] * KEYS)):
+        server, phone = compare_transcripts.shared_out(rng, (keys[:KEYS], keys[KEYS:]), [4190208])
+        yield name, ([1, 0, 1, 0, 9] + keys, server, phone, [rng.randrange(Q) for _ in no_draw(1, 0, 1)])
+    # check shares that do not fit the share: under each key of the server, and of the phone
+    for i in range(2 * KEYS):
+        head, server, phone, _ = honest(rng, 0, 1, 1, 100)
+        server[1 + i] = (server[1 + i] + 1) % Q
+        yield 'check_share_%s_key_%d' % (('server', 'phone')[i // KEYS], i % KEYS), (head, server, phone, no_draw(0, 1, 1))
+    # parts under two keys of one side in each other's place
+    head, server, phone, _ = honest(rng, 1, 0, 1, 0)
+    for side in (server, phone):
+        side[1], side[2] = side[2], side[1]
+    yield 'parts_swapped', (head, server, phone, no_draw(1, 0, 1))
+    # one key is 0, or q: asked before the length of the draw
+    for i in range(2 * KEYS):
+        head = [1, 0, 1, 0, 1] + ONES
+        head[5 + i] = 0 if i % 2 == 0 else Q
+        yield 'key_%d_refused' % i, (head, zeros(1), zeros(1), [])
+        # with books in place of the draw the side's own begin asks
+        yield 'books_key_%d_refused' % i, (head, zeros(1), zeros(1), [0] * (2 * transcript.book_length(1, 0, 1)))
+    yield 'bound_above', ([1, 1, 1, 4190209, 1] + ONES, zeros(1), zeros(1), no_draw(1, 1, 1))
+    yield 'serial_zero', ([1, 0, 1, 0, 0] + ONES, zeros(1), zeros(1), no_draw(1, 0, 1))
+    for name, at in (('share_too_large', 0), ('part_too_large', WIDTH - 1)):
+        phone = zeros(1)
+        phone[at] = Q
+        yield name, ([1, 0, 1, 0, 1] + ONES, zeros(1), phone, no_draw(1, 0, 1))
+    yield 'count_above', ([0, 0, 9, 0, 1] + ONES, [], [], [5])
+    yield 'no_draw', ([0, 0, 1, 0, 1] + ONES, [1] * WIDTH, [2], [])
 
 
 def books_cases():
@@ -70,13 +94,18 @@ def books_cases():
         yield name, (head, server, phone) + tuple(books)
 
 
+def head_text(last):
+    """What stands before the shares, with another last word."""
+    return b'0 0 1 0 1' + b' 1' * (2 * KEYS - 1) + last
+
+
 TEXTS = (
-    ('malformed_letter', b'0 0 1 0 1 1 x\n'),
-    ('malformed_value', b'0 0 1 0 1 1 4294967296\n'),
-    ('malformed_digits', b'0 0 1 0 1 1 00000000001\n'),
-    ('malformed_return', b'0 0 1 0 1 1 1\r\n'),
-    ('six_numbers', b'0 0 1 0 1 1\n'),
-    ('seven_numbers', b'\n 0 0 1 0 1 4294967295  0000000001'),
+    ('malformed_letter', head_text(b' x\n')),
+    ('malformed_value', head_text(b' 4294967296\n')),
+    ('malformed_digits', head_text(b' 00000000001\n')),
+    ('malformed_return', head_text(b' 1\r\n')),
+    ('one_key_less', head_text(b'\n')),
+    ('keys_alone', b'\n ' + head_text(b'  4294967295')),
     ('empty', b''),
 )
 
@@ -84,7 +113,10 @@ TEXTS = (
 def main(crate):
     inputs = [(name, '\n'.join(' '.join(map(str, part)) for part in parts).encode() + b'\n') for name, parts in (*cases(), *books_cases())]
     inputs += TEXTS
-    os.makedirs(os.path.join(crate, 'data'), exist_ok=True)
+    folder = os.path.join(crate, 'data')
+    os.makedirs(folder, exist_ok=True)
+    for name in os.listdir(folder):
+        os.remove(os.path.join(folder, name))
     for name, data in inputs:
         with open(os.path.join(crate, 'data', name), 'wb') as f:
             f.write(data)

@@ -8,6 +8,10 @@ ALPHA = (190464, 523776)
 PARTS = (44, 16)
 BASES = ((16, 16, 24, 31, 45), (16, 32, 31, 33, 17))
 TRIPLES = 8
+KEYS = 4  # a side
+WIDTH = 1 + 2 * KEYS  # numbers of a shared number on one side
+HEAD = 5 + 2 * KEYS  # numbers of an input before the shares
+MOST = HEAD + 2 * WIDTH * (8 + 1320) + 1  # numbers of an input: one more than the longest has, with both books
 
 
 class No(Exception):
@@ -74,7 +78,7 @@ def draw_length(set_, kind, n):
         return 0
 
     def take_place(_):
-        count[0] += 3
+        count[0] += WIDTH
 
     deal_book(set_, kind, n, take_drawn, take_place)
     return count[0]
@@ -85,47 +89,57 @@ def book_length(set_, kind, n):
     count = [0]
 
     def take_place(_):
-        count[0] += 3
+        count[0] += WIDTH
 
     deal_book(set_, kind, n, lambda: 0, take_place)
     return count[0]
 
 
-def triples(numbers):
-    return [numbers[i:i + 3] for i in range(0, len(numbers), 3)]
+def by_nine(numbers):
+    """The numbers of each shared number."""
+    return [numbers[i:i + WIDTH] for i in range(0, len(numbers), WIDTH)]
+
+
+def keys_ok(keys):
+    return all(1 <= key < Q for key in keys)
 
 
 def given_books(set_, kind, n, numbers):
-    """Books in place of a draw: both, each a list of triples, where there are exactly as many numbers as two books have; else None."""
+    """Books in place of a draw: both, each a list of shared numbers, where there are exactly as many numbers as two books have; else
+    None."""
     if not (set_ < 2 and kind < 2 and 1 <= n <= 8):
         return None
     size = book_length(set_, kind, n)
     if len(numbers) != 2 * size:
         return None
-    return triples(numbers[:size]), triples(numbers[size:])
+    return by_nine(numbers[:size]), by_nine(numbers[size:])
 
 
-def deal(set_, kind, n, key0, key1, draw):
-    """Both books, each a list of triples."""
+def whole(value, keys0, keys1):
+    """What the two sides' numbers of a shared number add up to."""
+    return [value] + [key * value for key in keys0] + [key * value for key in keys1]
+
+
+def deal(set_, kind, n, keys0, keys1, draw):
+    """Both books, each a list of shared numbers."""
     ask(set_ < 2 and kind < 2, 1)
     ask(1 <= n <= 8, 2)
-    ask(1 <= key0 < Q and 1 <= key1 < Q, 4)
+    ask(keys_ok(keys0) and keys_ok(keys1), 4)
     ask(len(draw) == draw_length(set_, kind, n), 5)
     ask(all(x < Q for x in draw), 6)
     it = iter(draw)
     server, phone = [], []
 
     def take_place(value):
-        own = [next(it) for _ in range(3)]
-        whole = (value, key0 * value, key1 * value)
+        own = [next(it) for _ in range(WIDTH)]
         phone.append(own)
-        server.append([(w - o) % Q for w, o in zip(whole, own)])
+        server.append([(w - o) % Q for w, o in zip(whole(value, keys0, keys1), own)])
 
     deal_book(set_, kind, n, lambda: next(it), take_place)
     return server, phone
 
 
-# ---- Shared numbers on one side: vectors of three
+# ---- Shared numbers on one side: vectors of nine
 
 def plus(*vs):
     return [sum(c) % Q for c in zip(*vs)]
@@ -139,7 +153,12 @@ def times(k, v):
     return [k * a % Q for a in v]
 
 
-ZERO = [0, 0, 0]
+ZERO = [0] * WIDTH
+
+
+def part(v, side, i):
+    """The part under key i of a side."""
+    return v[1 + side * KEYS + i]
 
 
 class Side:
@@ -152,19 +171,19 @@ class Side:
 
     # -- begin
 
-    def begin(self, number, set_, kind, n, bound, key, serial, inputs, book):
+    def begin(self, number, set_, kind, n, bound, keys, serial, inputs, book):
         ask(set_ < 2 and kind < 2, 1)
         ask(1 <= n <= 8, 2)
         ask(bound == 0 if kind == 0 else 1 <= bound <= 4190208, 3)
-        ask(1 <= key < Q, 4)
-        ask(len(inputs) == 3 * n, 5)
+        ask(keys_ok(keys), 4)
+        ask(len(inputs) == WIDTH * n, 5)
         ask(all(x < Q for x in inputs) and all(x < Q for place in book for x in place), 6)
         ask(serial > self.serial, 7)
         self.number, self.set, self.kind, self.n, self.bound = number, set_, kind, n, bound
-        self.key, self.serial = key, serial
+        self.keys, self.serial = keys, serial
         self.run, self.round, self.sending = True, 1, number == 0
         self.accepted = 0
-        self.inputs = triples(inputs)
+        self.inputs = by_nine(inputs)
         self.read_book(book)
 
     def read_book(self, book):
@@ -187,10 +206,10 @@ class Side:
     # -- public numbers
 
     def public(self, k):
-        """What a public k is on this side: the server's share, and own key x k under the own key."""
-        v = [k % Q if self.number == 0 else 0, 0, 0]
-        v[1 + self.number] = self.key * k % Q
-        return v
+        """What a public k is on this side: the server's share, and own key x k under each own key."""
+        none = [0] * KEYS
+        own = [key * k % Q for key in self.keys]
+        return [k % Q] + own + none if self.number == 0 else [0] + none + own
 
     # -- products
 
@@ -270,7 +289,7 @@ class Side:
         bits = self.header(self.number)
         # the phone's numbers for a round are those it checked the server's with
         for v in self.own() if self.number == 0 else self.checked_with:
-            bits += format(v[0], '023b') + format(v[1 + (1 - self.number)], '023b')
+            bits += format(v[0], '023b') + ''.join(format(part(v, 1 - self.number, i), '023b') for i in range(KEYS))
         bits += '0' * (-len(bits) % 8)
         self.sending = False
         if self.number == 1:
@@ -283,16 +302,18 @@ class Side:
     def take(self, message):
         ask(self.run and not self.stopped and not self.finished and not self.sending, 8)
         own = self.own()
-        need = 64 + 46 * len(own)
+        count = (1 + KEYS) * len(own)
+        need = 64 + 23 * count
         ask(len(message) == (need + 7) // 8, 10)
         bits = ''.join(format(b, '08b') for b in message)
         ask(bits[:64] == self.header(1 - self.number), 11)
-        fields = [int(bits[64 + 23 * i:64 + 23 * i + 23], 2) for i in range(2 * len(own))]
+        fields = [int(bits[64 + 23 * i:64 + 23 * i + 23], 2) for i in range(count)]
         ask(all(f < Q for f in fields) and '1' not in bits[need:], 12)
         opened = []
         for o, v in enumerate(own):
-            x = (v[0] + fields[2 * o]) % Q
-            if (v[1 + self.number] + fields[2 * o + 1]) % Q != self.key * x % Q:
+            share, *parts = fields[(1 + KEYS) * o:(1 + KEYS) * (o + 1)]
+            x = (v[0] + share) % Q
+            if any((part(v, self.number, i) + parts[i]) % Q != self.keys[i] * x % Q for i in range(KEYS)):
                 self.stopped = True
                 raise No(13)
             opened.append(x)
@@ -363,7 +384,7 @@ def parse(data):
         return None
     words = data.replace(b'\n', b' ').split(b' ')
     words = [w for w in words if w]
-    if not 7 <= len(words) <= 8192:
+    if not HEAD <= len(words) <= MOST:
         return None
     if any(len(w) > 10 or int(w) > 2**32 - 1 for w in words):
         return None
@@ -371,9 +392,10 @@ def parse(data):
 
 
 def transcript(numbers):
-    set_, kind, n, bound, serial, key0, key1 = numbers[:7]
-    size = 3 * n if n <= 8 else 0
-    rest = numbers[7:]
+    set_, kind, n, bound, serial = numbers[:5]
+    keys = numbers[5:5 + KEYS], numbers[5 + KEYS:HEAD]
+    size = WIDTH * n if n <= 8 else 0
+    rest = numbers[HEAD:]
     inputs = rest[:size], rest[size:2 * size]
     sides = Side(), Side()
     lines = []
@@ -381,10 +403,10 @@ def transcript(numbers):
     try:
         books = given_books(set_, kind, n, rest[2 * size:])
         if books is None:
-            books = deal(set_, kind, n, key0, key1, rest[2 * size:])
+            books = deal(set_, kind, n, *keys, rest[2 * size:])
         call = 'begin'
         for who in (0, 1):
-            sides[who].begin(who, set_, kind, n, bound, (key0, key1)[who], serial, inputs[who], books[who])
+            sides[who].begin(who, set_, kind, n, bound, keys[who], serial, inputs[who], books[who])
         for round_ in range(1, 8):
             for sender in (0, 1):
                 call, who = 'send', sender

@@ -8,7 +8,8 @@ use Rattle.settings.specs.Settings.{Params}
 use Rattle.settings.specs.Sizes.{shared}
 use Rattle.book.specs.Book.{phoneNumber, bookValue}
 
--- "share, share of key0 × number, share of key1 × number": what each column of a shared number adds up to, as a factor
+-- "the share, four parts under key group 0, four under group 1" (02), a part being a share of key × number: what each column of a shared
+-- number adds up to, as a factor
 abbrev pub multipliers : List ℕ → List ℕ → List ℕ
 multipliers keys0 keys1 = 1 ∷ keys0 ++ keys1
 

@@ -20,7 +20,7 @@ use Rattle.lists.proofs.Every.{below-at}
 use Rattle.field.specs.Field.{q}
 use Rattle.settings.specs.declared.Shape.{Shape}
 use Rattle.settings.specs.Settings.{paramsOf}
-use Rattle.settings.specs.Sizes.{keyCount, shared, drawSize}
+use Rattle.settings.specs.Sizes.{keyCount, width, shared, drawSize}
 use Rattle.settings.proofs.Sizes.{shared-most}
 use Rattle.settings.proofs.Ready.{shape-ready}
 use Rattle.rounding.specs.declared.Decomposition.{Decomposition}
@@ -38,7 +38,7 @@ use Rattle.generator.proofs.Steps.{inside, outputs-length, outputs-below}
 use Rattle.generator.proofs.Door.{refusal, drawn-all}
 use Rattle.desk.specs.declared.words.CallName.{CallName}
 use Rattle.desk.specs.declared.words.CallName.the-variants as CallName
-use Rattle.desk.specs.Desk.{refusalText, malformedText, signedText, highLowText, decomposedText, verdictText, partText, chooseText, drawnText, drawText, partsResult, verdictResult, stocksText, chooseResult, drawResult, callResult}
+use Rattle.desk.specs.Desk.{refusalText, malformedText, signedText, highLowText, decomposedText, verdictText, partText, chooseText, drawnText, drawText, partsResult, verdictResult, stocksText, chooseResult, drawResult, callResult, mostDraw, longestResult}
 use Rattle.desk.proofs.Draws.{draw-most}
 
 -- ---- numbers of 32 bits in a list, in a part of it, and in a book
@@ -105,7 +105,7 @@ chosen-below k a first second last h l = go (eqb (chooseNo k a first second last
 
 -- ---- results
 
-either : (t : Bool) (xs ys : List ℕ) → length xs ≤ 45155 → length ys ≤ 45155 → length (cond t xs ys) ≤ 45155
+either : (t : Bool) (xs ys : List ℕ) → length xs ≤ longestResult → length ys ≤ longestResult → length (cond t xs ys) ≤ longestResult
 either true xs ys h k = h
 either false xs ys h k = k
 
@@ -113,7 +113,7 @@ length-refusal : (n : ℕ) → length (refusalText n) ≤ 21
 unfolding refusalText
 length-refusal n = omega (arith, length-decimal n)
 
-pub length-malformed : length malformedText ≤ 45155
+pub length-malformed : length malformedText ≤ longestResult
 length-malformed = omega (arith, length-refusal 12)
 
 length-signed : (z : ℤ) → length (signedText z) ≤ 21
@@ -121,13 +121,13 @@ unfolding signedText
 length-signed (pos n) = omega (arith, length-decimal n)
 length-signed (negsuc n) = omega (arith, length-decimal (suc n))
 
-length-decomposed : (r : Decomposition) → length (decomposedText r) ≤ 45155
+length-decomposed : (r : Decomposition) → length (decomposedText r) ≤ longestResult
 unfolding decomposedText highLowText
 length-decomposed (Decomposition.Parts parts) =
     omega (arith, length-append (decimal (parts .high)) (32 ∷ signedText (parts .low)), length-decimal (parts .high), length-signed (parts .low))
 length-decomposed (Decomposition.No n) = omega (arith, length-refusal n)
 
-length-verdict : (r : Verdict) → length (verdictText r) ≤ 45155
+length-verdict : (r : Verdict) → length (verdictText r) ≤ longestResult
 unfolding verdictText
 length-verdict (Verdict.Is n) = omega (arith, length-decimal n)
 length-verdict (Verdict.No n) = omega (arith, length-refusal n)
@@ -138,20 +138,20 @@ length-part [] h = omega arith
 length-part (n ∷ ns) h =
     omega (arith, length-append (decimal n) (numbersText ns), length-decimal-32 n (h 0), length-numbers ns (λ i. h (suc i)))
 
--- a chosen part has at most 3,961 numbers
+-- a chosen part: its serial, and the numbers of at most 1,320 shared numbers
 chosen-most : (a : Shape) (first second : List ℕ) (last : ℕ) → chooseNo keyCount a first second last ≡ 0
-    → length (chosen keyCount a first second last) ≤ 3961
+    → length (chosen keyCount a first second last) ≤ 1 + 1320 * width
 unfolding chooseNo askStocks
 chosen-most a first second last e =
     let ready = shape-ready a _ e in
     omega (arith, choice keyCount a first second last .chose e .size, shared-most a (ready .sets) (ready .most))
 
-length-choose : (a : Shape) (first second : List ℕ) (last : ℕ) → Below first → Below second → length (chooseText a first second last) ≤ 45155
+length-choose : (a : Shape) (first second : List ℕ) (last : ℕ) → Below first → Below second → length (chooseText a first second last) ≤ longestResult
 unfolding chooseText
 length-choose a first second last h l = go (eqb (chooseNo keyCount a first second last) 0) refl
   where
     go : (t : Bool) → eqb (chooseNo keyCount a first second last) 0 ≡ t
-        → length (cond t (partText (chosen keyCount a first second last)) (refusalText (chooseNo keyCount a first second last))) ≤ 45155
+        → length (cond t (partText (chosen keyCount a first second last)) (refusalText (chooseNo keyCount a first second last))) ≤ longestResult
     go true e =
         omega (
           arith,
@@ -165,7 +165,7 @@ length-choose a first second last h l = go (eqb (chooseNo keyCount a first secon
 zeros-below : (n : ℕ) → Below (replicate n 0)
 zeros-below n i = rw (getD-zeros n i) (lit< tt)
 
-length-drew : (d : Drew) → Below (d .out) → length (d .out) ≤ 4104 → d .state < tooLarge → length (drawnText d) ≤ 45155
+length-drew : (d : Drew) → Below (d .out) → length (d .out) ≤ mostDraw → d .state < tooLarge → length (drawnText d) ≤ longestResult
 unfolding drawnText
 length-drew d h l s =
     either (eqb (d .refused) 0) (partText (d .out) ++ 32 ∷ decimal (d .state)) (refusalText (d .refused))
@@ -173,16 +173,16 @@ length-drew d h l s =
     (omega (arith, length-refusal (d .refused)))
 
 -- a refused draw leaves the zeros and the state
-length-draw : (state : ℕ) (a : Shape) → state < tooLarge → length (drawnText (drawCall keyCount state a (replicate (drawSize a) 0))) ≤ 45155
+length-draw : (state : ℕ) (a : Shape) → state < tooLarge → length (drawnText (drawCall keyCount state a (replicate (drawSize a) 0))) ≤ longestResult
 length-draw state a s = go (eqb (drawNo keyCount a zeros) 0) refl
   where
     zeros : List ℕ
     zeros = replicate (drawSize a) 0
 
-    most : length zeros ≤ 4104
+    most : length zeros ≤ mostDraw
     most = rw (length-replicate {A = ℕ} (drawSize a) 0) (draw-most a)
 
-    go : (t : Bool) → eqb (drawNo keyCount a zeros) 0 ≡ t → length (drawnText (drawCall keyCount state a zeros)) ≤ 45155
+    go : (t : Bool) → eqb (drawNo keyCount a zeros) 0 ≡ t → length (drawnText (drawCall keyCount state a zeros)) ≤ longestResult
     go true e =
         rw (drawn-all keyCount state a zeros (eqb-true (drawNo keyCount a zeros) 0 e))
         (length-drew _ (λ i. omega (arith, below-at q (outputs q state (length zeros)) i (lit< tt) (outputs-below state (length zeros))))
@@ -191,23 +191,23 @@ length-draw state a s = go (eqb (drawNo keyCount a zeros) 0) refl
         rw (← refusal keyCount state a zeros (drawNo keyCount a zeros) refl (eqb-false (drawNo keyCount a zeros) 0 e))
         (length-drew _ (zeros-below (drawSize a)) most s)
 
-length-seeded : (seed : ℕ) (a : Shape) → seed < tooLarge → length (drawText (seedCall seed) a) ≤ 45155
+length-seeded : (seed : ℕ) (a : Shape) → seed < tooLarge → length (drawText (seedCall seed) a) ≤ longestResult
 unfolding seedCall drawText
 length-seeded seed a s = go (ltb 0 seed)
   where
-    go : (t : Bool) → length (drawText (cond t (Seeded.Ready (record { state = seed })) (Seeded.No 16)) a) ≤ 45155
+    go : (t : Bool) → length (drawText (cond t (Seeded.Ready (record { state = seed })) (Seeded.No 16)) a) ≤ longestResult
     go true = length-draw seed a s
     go false = omega (arith, length-refusal 16)
 
 -- ---- calls
 
-length-stocks : (a : Shape) (last count : ℕ) (stocks : List ℕ) → Below stocks → length (stocksText a last count stocks) ≤ 45155
+length-stocks : (a : Shape) (last count : ℕ) (stocks : List ℕ) → Below stocks → length (stocksText a last count stocks) ≤ longestResult
 unfolding stocksText
 length-stocks a last count stocks h =
     either (ltb (length stocks) count) malformedText (chooseText a (take count stocks) (drop count stocks) last) length-malformed
     (length-choose a (take count stocks) (drop count stocks) last (front-below count stocks h) (behind-below count stocks h))
 
-pub length-call : (call : CallName) (ns : List ℕ) → Below ns → length (callResult call ns) ≤ 45155
+pub length-call : (call : CallName) (ns : List ℕ) → Below ns → length (callResult call ns) ≤ longestResult
 unfolding callResult partsResult verdictResult chooseResult drawResult
 length-call CallName.Parts ns h =
     let r = partsCall (getD ns 0 0) (getD ns 1 0) in

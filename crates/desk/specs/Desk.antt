@@ -1,6 +1,6 @@
 -- "Lines on standard input, one call each, decimal words with one blank between, one output line for each": the output line for an
 -- input line, the call that its first word names, made with the numbers behind it.
-use Prim.Native.Nat.{ℕ, suc, _-_}
+use Prim.Native.Nat.{ℕ, suc, _+_, _*_}
 use mathlib.Core.Bool.{Bool, true, false, cond}
 use mathlib.Core.List.{List, [], _∷_, _++_, map}
 use lib.Dec.{eqb, leb, ltb}
@@ -10,7 +10,7 @@ use Rattle.text.specs.Decimal.{numberIn}
 use Rattle.text.specs.Text.{decimal, numbersText}
 use Rattle.text.specs.declared.ReadNumber.{ReadNumber}
 use Rattle.settings.specs.declared.Shape.{Shape}
-use Rattle.settings.specs.Sizes.{keyCount, drawSize}
+use Rattle.settings.specs.Sizes.{keyCount, width, drawSize}
 use Rattle.rounding.specs.declared.HighLow.{HighLow}
 use Rattle.rounding.specs.declared.Decomposition.{Decomposition}
 use Rattle.rounding.specs.declared.Decomposition.the-variants as Decomposition
@@ -173,6 +173,13 @@ deskHandler = carriesNothing (λ number line. deskAnswer line)
 abbrev pub mostNumbers : ℕ
 mostNumbers = 524288
 
--- no output line is longer: the 3 × 1,320 + 144 numbers of a draw and the state, ten digits and a blank each, and the line end
+-- the most numbers of a draw: those of 1,320 shared numbers, and 144 drawn ones
+abbrev pub mostDraw : ℕ
+mostDraw = 1320 * width + 144
+
+-- no result is longer than a draw with its state, ten digits and a blank for each number; behind it an answer has a line end
+abbrev pub longestResult : ℕ
+longestResult = 11 * (mostDraw + 1)
+
 abbrev pub longestAnswer : ℕ
-longestAnswer = 45156
+longestAnswer = longestResult + 1

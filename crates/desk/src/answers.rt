@@ -7,14 +7,15 @@ ghost use Rattle.stream.specs.Stream.{nextLine};
 ghost use Rattle.stream.specs.Theorems.{afterCall, afterEnd};
 ghost use Rattle.stream.specs.Waiting.{standing, allCalls};
 ghost use Rattle.desk.specs.Desk.{deskHandler, longestAnswer, mostNumbers};
+use crate::calls::MOST_DRAW;
 use crate::line::answer_line;
 use lists::least;
 use stream::Stream;
 use stream::is_left;
 use stream::next_line;
 
-// No output line is longer: 4,105 numbers of ten digits, a blank each, and the line end.
-const LONGEST_ANSWER: usize = 45156;
+// No output line is longer: a draw and a state, ten digits and a blank for each number, and the line end.
+pub const LONGEST_ANSWER: usize = 11 * (MOST_DRAW + 1) + 1;
 
 // How many bytes of a part have been used, where the input stands after them, and how many bytes wait to be written.
 pub struct Answered {

@@ -18,6 +18,7 @@ use rounding::bound_verdict;
 use rounding::parts;
 use settings::FIELDS;
 use settings::Shape;
+use settings::WIDTH;
 use settings::draw_size;
 use stock::choose;
 use stock::choose_no;
@@ -25,8 +26,8 @@ use text::put_byte;
 use text::put_number;
 use text::put_numbers;
 
-// The most numbers of a draw: three for each of 1,320 shared numbers, and 144 drawn ones.
-const MOST_DRAW: usize = 4104;
+// The most numbers of a draw: those of 1,320 shared numbers, and 144 drawn ones.
+pub const MOST_DRAW: usize = 1320 * WIDTH + 144;
 
 // ---- Results
 

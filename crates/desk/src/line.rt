@@ -3,7 +3,7 @@ ghost use mathlib.Core.Path.{_≡_};
 ghost use Prim.Native.Nat.{_≤_};
 ghost use lib.ListN.{length};
 ghost use Rattle.text.specs.Text.{textAt, puts};
-ghost use Rattle.desk.specs.Desk.{lineResult, deskAnswer, mostNumbers, longestAnswer};
+ghost use Rattle.desk.specs.Desk.{lineResult, deskAnswer, mostNumbers, longestResult, longestAnswer};
 use crate::calls::put_call;
 use crate::calls::put_malformed;
 use crate::words::call_named;
@@ -18,7 +18,7 @@ const LONGEST_LINE: usize = 1 << 20;
 fn put_result(out: &mut [u8], at: usize, line: &[u8], numbers: &mut [u32]) -> usize
     requires { ⌜ mostNumbers ≤ length (now numbers) ⌝ }
     ensures { λ r. ⌜ textAt (now (out .exit)) r ≡ puts (textAt (now (out .entry)) at) (lineResult (now (line .entry))) ⌝ }
-    ensures { λ r. ⌜ length (lineResult (now (line .entry))) ≤ 45155 ⌝ }
+    ensures { λ r. ⌜ length (lineResult (now (line .entry))) ≤ longestResult ⌝ }
 {
     if line.len() > LONGEST_LINE {
         return put_malformed(out, at);

@@ -17,11 +17,12 @@ mod words;
 ghost use mathlib.Core.Path.{_≡_};
 ghost use mathlib.Core.Bool.{true};
 ghost use mathlib.Core.List.{[]};
-ghost use Prim.Native.Nat.{_≤_};
+ghost use Prim.Native.Nat.{_+_, _≤_};
 ghost use lib.ListN.{length};
 ghost use Rattle.stream.specs.Waiting.{standing, flushed, allCalls};
 ghost use Rattle.desk.specs.Desk.{deskHandler, longestAnswer, mostNumbers};
 ghost use Rattle.desk.specs.Theorems.{keptLength};
+use answers::LONGEST_ANSWER;
 use answers::answer_some;
 use answers::put_last;
 use stream::Stream;
@@ -36,6 +37,9 @@ const KEPT: usize = 1048577;
 
 // The most numbers of a line: each has a digit at least, and a blank before it.
 const MOST_NUMBERS: usize = 524288;
+
+// Room for answers that wait to be written: one more may come behind 65,536 bytes.
+const OUT: usize = 65536 + LONGEST_ANSWER;
 
 // Where an input stands: whether to read on, and whether every read and write so far has been done.
 struct InputState {
@@ -155,12 +159,19 @@ fn number_places() -> [u32; MOST_NUMBERS]
     [0; MOST_NUMBERS]
 }
 
+// Places for the answers.
+fn answer_places() -> [u8; OUT]
+    ensures { λ r. ⌜ 65536 + longestAnswer ≡ length r ⌝ }
+{
+    [0; OUT]
+}
+
 // Answers an input; whether every read and write has been done.
 fn answer_input(fd: i32) -> bool {
     let mut kept = kept_bytes();
     let mut numbers = number_places();
     let mut part = io::large_buffer();
-    let mut out = io::large_buffer();
+    let mut out = answer_places();
     let state = read_parts(fd, &mut kept, &mut numbers, &mut part, &mut out);
     if !state.good {
         return false;

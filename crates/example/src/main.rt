@@ -8,6 +8,7 @@ use settings::MOST_BYTES;
 use settings::ROUNDS;
 use settings::Settings;
 use settings::Shape;
+use settings::WIDTH;
 use settings::WORK_LENGTH;
 use side::Run;
 use side::begin;
@@ -25,11 +26,11 @@ use text::put_numbers;
 const STDOUT: i32 = 1;
 
 // Set 0, HIGH, N = 8: what book_size, draw_size and input_size of crate settings give.
-const BOOK_LENGTH: usize = 3960;
+const BOOK_LENGTH: usize = 1320 * WIDTH;
 
-const DRAW_LENGTH: usize = 4104;
+const DRAW_LENGTH: usize = BOOK_LENGTH + 144;
 
-const INPUT_LENGTH: usize = 24;
+const INPUT_LENGTH: usize = 8 * WIDTH;
 
 // Both sides of a run.
 struct Sides {
@@ -132,7 +133,7 @@ fn next_book<'a>(shape: Shape, first: &'a [u32], second: &'a [u32], last_serial:
 
 // ---- Both
 
-// Both sides begin, each with its own key, inputs and book.
+// Both sides begin, each with its own keys, inputs and book.
 fn begin_both(
     book0: &[u32],
     book1: &[u32],

@@ -9,13 +9,13 @@ use lib.Dec.{ltb, lit≤}
 use borrow.Author.Tests.{lt-ltb, eq-eqb}
 use lib.Arith.{digits-div, digits-mod}
 use lib.Pow.{high, low, shr-shr}
-use lib.ListN.{length, getD}
+use lib.ListN.{length, getD, replicate}
 use lib.Seq.{take-length}
 use Rattle.lists.specs.Lists.{allBelow, listFrom}
 use Rattle.lists.proofs.Questions.{and-yes, skip}
 use Rattle.lists.proofs.Every.{below-at, below-more, allTo-yes}
 use Rattle.field.specs.Field.{q}
-use Rattle.settings.specs.Sizes.{bytesFor, headerBits, fieldBits, fieldCount, messageBits, messageLength}
+use Rattle.settings.specs.Sizes.{keyCount, bytesFor, headerBits, fieldBits, fieldCount, messageBits, messageLength}
 use Rattle.message.specs.Bits.{padding, packed, numberOf}
 use Rattle.message.specs.Message.{headerNumber, headerWith, fieldsBehind, messageOf, headerIn, fieldIn, fieldsOk, askForm}
 use Rattle.settings.specs.Settings.{paramsOf}
@@ -147,8 +147,8 @@ accepted k due fs f h c e rest =
     (skip _ rest 11 _ (eq-eqb _ _ (header x fs (sized-q x fs l e)))
     (skip _ rest 12 rest (fields-pass x fs l e) refl))))
 
-sample : messageOf (headerNumber (headerWith 0 (record { shape = record { set = 0; kind = 0; n = 1 }; bound = 0 }) 1 1)) (1 ∷ 0 ∷ [])
-    ≡ 0x00 ∷ 0x80 ∷ 0x00 ∷ 0x00 ∷ 0x00 ∷ 0x00 ∷ 0x00 ∷ 0x01 ∷ 0x00 ∷ 0x00 ∷ 0x02 ∷ 0x00 ∷ 0x00 ∷ 0x00 ∷ []
+sample : messageOf (headerNumber (headerWith 0 (record { shape = record { set = 0; kind = 0; n = 1 }; bound = 0 }) 1 1)) (1 ∷ replicate keyCount 0)
+    ≡ 0x00 ∷ 0x80 ∷ 0x00 ∷ 0x00 ∷ 0x00 ∷ 0x00 ∷ 0x00 ∷ 0x01 ∷ 0x00 ∷ 0x00 ∷ 0x02 ∷ replicate 12 0x00
 unfolding messageOf packed fieldsBehind headerNumber listFrom
 sample = refl
 

@@ -3,11 +3,11 @@ use Prim.Native.Nat.{ℕ, _%_, _^_, _<_}
 use mathlib.Core.Path.{_≡_}
 use mathlib.Core.Bool.{true}
 use mathlib.Core.List.{List, [], _∷_}
-use lib.ListN.{length, getD}
+use lib.ListN.{length, getD, replicate}
 use Rattle.lists.specs.Lists.{allBelow}
 use Rattle.field.specs.Field.{q}
 use Rattle.settings.specs.Settings.{paramsOf}
-use Rattle.settings.specs.Sizes.{bytesFor, headerBits, fieldBits, fieldCount, messageBits}
+use Rattle.settings.specs.Sizes.{keyCount, bytesFor, headerBits, fieldBits, fieldCount, messageBits}
 use Rattle.message.specs.Bits.{padding, numberOf}
 use Rattle.message.specs.Message.{headerNumber, headerWith, messageOf, headerIn, fieldIn, fieldsOk, askForm}
 use Rattle.message.specs.Fields.{HeaderFits}
@@ -36,6 +36,6 @@ pub record RoundTrip : Type 0 where
   pub accepted : (k : ℕ) (due : Header) (fs : List ℕ) → HeaderFits due → due .serial < 2 ^ 32
       → length fs ≡ fieldCount k (paramsOf (due .settings .shape)) (due .round) → allBelow q fs ≡ true
       → (rest : ℕ) → askForm k due (messageOf (headerNumber due) fs) rest ≡ rest
-  -- "Server, set 0, HIGH, N = 1, round 1, serial 1, opened share 1, check part 0"
-  pub sample : messageOf (headerNumber (headerWith 0 (record { shape = record { set = 0; kind = 0; n = 1 }; bound = 0 }) 1 1)) (1 ∷ 0 ∷ [])
-      ≡ 0x00 ∷ 0x80 ∷ 0x00 ∷ 0x00 ∷ 0x00 ∷ 0x00 ∷ 0x00 ∷ 0x01 ∷ 0x00 ∷ 0x00 ∷ 0x02 ∷ 0x00 ∷ 0x00 ∷ 0x00 ∷ []
+  -- "Server, set 0, HIGH, N = 1, round 1, serial 1, opened share 1", with "four zero parts" (02)
+  pub sample : messageOf (headerNumber (headerWith 0 (record { shape = record { set = 0; kind = 0; n = 1 }; bound = 0 }) 1 1)) (1 ∷ replicate keyCount 0)
+      ≡ 0x00 ∷ 0x80 ∷ 0x00 ∷ 0x00 ∷ 0x00 ∷ 0x00 ∷ 0x00 ∷ 0x01 ∷ 0x00 ∷ 0x00 ∷ 0x02 ∷ replicate 12 0x00

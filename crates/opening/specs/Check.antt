@@ -16,7 +16,7 @@ pub record Given : Type 0 where
 abbrev pub joined : Given → Given → ℕ
 joined own other = add q (own .share) (other .share)
 
--- "The check: the two parts under my key add to my key × the joined number", for each of my k keys
+-- "The check: the two parts under my key add to my key × the joined number"; "each part checked" (02): for each of my k keys
 unfoldable pub accepts : ℕ → List ℕ → Given → Given → Bool
 accepts k keys own other =
     allTo k (λ (key : ℕ). eqb (add q (own .part key) (other .part key)) (mul q (getD keys key 0) (joined own other)))

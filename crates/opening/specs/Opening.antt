@@ -40,7 +40,8 @@ outgoing k s work c o = cond (eqb (s .number) 0) (prepared k s work c o) (ownIn 
 abbrev pub ownHeader : Side → Header
 ownHeader s = headerWith (s .number) (s .settings) (s .round) (s .serial)
 
--- "sends its share and its part under the receiver's key", "coefficient by coefficient"
+-- "sends its share and its part under the receiver's key", "coefficient by coefficient"; "An opening carries one share and four parts" (02):
+-- the share, then the parts under the receiver's keys in their order
 unfoldable pub message : ℕ → Side → List ℕ → List ℕ
 message k s work =
     messageOf (headerNumber (ownHeader s))

@@ -26,7 +26,7 @@ module _ (k : ℕ) (s : Settings) (serial : ℕ) (numbers : ℕ → List ℕ) wh
       openingOn (publicOf (termsOf s) (maskedIn (workAt k s serial numbers own R))) (suc R)
       (getD (weights k (own .number) (own .keys)) c 0) (column (workAt k s serial numbers own R) c) o
 
-  -- "sends its share and its part under the receiver's key"
+  -- "sends its share and its part under the receiver's key", under each of the receiver's keys
   abbrev pub openingFields : PartyInput → ℕ → ℕ → List ℕ
   openingFields own R o =
       ownNumber own R 0 o ∷ listTo k (λ (key : ℕ). ownNumber own R (partColumn k (1 - own .number) key) o)

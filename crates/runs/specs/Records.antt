@@ -142,7 +142,8 @@ module _ (k : ℕ) (s : Settings) (serial : ℕ) where
     observations w [] = []
     observations w (one ∷ calls) = observed w (one .party) (one .call) ++ observations (step w (one .party) (one .call)) calls
 
--- "A side's record is its key, input shares, check shares and book, each message it sent or was handed, and each result of its calls, in order"
+-- "A side's record is its key, input shares, check shares and book, each message it sent or was handed, and each result of its calls, in
+-- order"; it "holds all four" keys (02)
 pub record Record : Type 0 where
   pub keys : List ℕ
   pub inputs : List ℕ

@@ -22,7 +22,7 @@ countOk n = leb 1 n && leb n 8
 abbrev pub boundOk : ℕ → ℕ → Bool
 boundOk kind bound = cond (eqb kind 0) (eqb bound 0) (leb 1 bound && leb bound 4190208)
 
--- 4. "Every key handed in from 1 to q − 1?"
+-- 4. "Every key handed in from 1 to q − 1?" "Question 4 covers all four keys, which may be equal" (02)
 abbrev pub keyOk : ℕ → Bool
 keyOk key = leb 1 key && ltb key q
 

@@ -11,11 +11,12 @@ use Rattle.settings.specs.Schedule.{roundOk}
 
 -- ---- Keys
 
--- "key0 is the server's key, key1 the phone's": keys a side
+-- "Each side has four keys" (02): keys a side. Definitions and theorems take any number k of them; the product's calls cite them at this one
 abbrev pub keyCount : ℕ
-keyCount = 1
+keyCount = 4
 
--- "A shared number is three numbers on each side": the share, and a part under each of the k keys of either side
+-- "A shared number becomes nine numbers: the share, four parts under key group 0, four under group 1" (02): with k keys a side the share, and
+-- a part under each key of the server and of the phone
 abbrev pub widthOf : ℕ → ℕ
 widthOf k = 1 + 2 * k
 
@@ -47,11 +48,11 @@ openingsUpTo p rounds = sumTo rounds (λ (before : ℕ). openings p (before + 1)
 abbrev pub headerBits : ℕ
 headerBits = 64
 
--- "share 23 bits and check part 23"
+-- "share 23 bits and check part 23": a field has 23 bits
 abbrev pub fieldBits : ℕ
 fieldBits = 23
 
--- "Then for each opening .. share .. and check part": a share, and a part under each of the receiver's k keys
+-- "An opening carries one share and four parts" (02): a share, and a part under each of the receiver's k keys
 abbrev pub fieldCount : ℕ → Params → ℕ → ℕ
 fieldCount k p round = (1 + k) * openings p round
 
@@ -88,7 +89,7 @@ groups p = cond (eqb (p .kind) 0) (p .n) 1
 abbrev pub drawnNumbers : Params → ℕ
 drawnNumbers p = 17 * p .n + groups p
 
--- ".. and the phone's three numbers for every shared number of the book": how many numbers a draw has
+-- ".. and the phone's nine numbers for every shared number of the book" (02): how many numbers a draw has, w the width of a shared number
 unfoldable pub drawLength : Params → ℕ → ℕ
 drawLength p w = shared p * w + drawnNumbers p
 
@@ -98,7 +99,7 @@ drawLength p w = shared p * w + drawnNumbers p
 abbrev pub places : ℕ
 places = 1536
 
--- "working slice 4,608 numbers"
+-- "the working slice becomes 13,824 numbers"; "1,536 places of working slice for each number of a shared number" (02)
 abbrev pub workLength : ℕ → ℕ
 workLength k = widthOf k * places
 

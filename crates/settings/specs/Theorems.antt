@@ -7,7 +7,7 @@ use Rattle.settings.specs.Sets.{Scale, scaleOf, base, top, topDigits}
 use Rattle.settings.specs.Settings.{Params, paramsOf, paramsWith}
 use Rattle.settings.specs.Questions.{ShapeReady}
 use Rattle.settings.specs.Schedule.{rounds}
-use Rattle.settings.specs.Sizes.{widthOf, openingsUpTo, shared, drawLength, workLength}
+use Rattle.settings.specs.Sizes.{keyCount, widthOf, width, openings, openingsUpTo, fieldCount, shared, drawLength, workLength}
 
 -- all that the arguments may use of the modulus, α, s and the bases
 pub record Lawful (p : Scale) : Type 0 where
@@ -33,14 +33,18 @@ pub record SizeLaws : Type 0 where
   pub high-1 : (n : ℕ) → shared (ofSet 1 0 n) ≡ 162 * n
   pub bound-0 : (n : ℕ) → shared (ofSet 0 1 n) ≡ 158 * n + 3
   pub bound-1 : (n : ℕ) → shared (ofSet 1 1 n) ≡ 155 * n + 3
-  -- "every r, a, b, ρ and the phone's three numbers"
-  pub high-draw : (set n : ℕ) → drawLength (ofSet set 0 n) (widthOf 1) ≡ 3 * shared (ofSet set 0 n) + 18 * n
-  pub bound-draw : (set n : ℕ) → drawLength (ofSet set 1 n) (widthOf 1) ≡ 3 * shared (ofSet set 1 n) + (17 * n + 1)
+  -- "A shared number becomes nine numbers"; "An opening carries one share and four parts" (02)
+  pub nine : width ≡ 9
+  pub five : (p : Params) (round : ℕ) → fieldCount keyCount p round ≡ 5 * openings p round
+  -- "every r, a, b, ρ and the phone's nine numbers" (02)
+  pub high-draw : (set n : ℕ) → drawLength (ofSet set 0 n) width ≡ 9 * shared (ofSet set 0 n) + 18 * n
+  pub bound-draw : (set n : ℕ) → drawLength (ofSet set 1 n) width ≡ 9 * shared (ofSet set 1 n) + (17 * n + 1)
   -- "Openings in all: 19N or 17N + 2"
   pub high-openings : (set n : ℕ) → openingsUpTo (ofSet set 0 n) rounds ≡ 19 * n
   pub bound-openings : (set n : ℕ) → openingsUpTo (ofSet set 1 n) rounds ≡ 17 * n + 2
-  -- "working slice 4,608 numbers"
-  pub work : workLength 1 ≡ 4608
+  -- "the working slice becomes 13,824 numbers"; for any number of keys "1,536 places .. for each number of a shared number" (02)
+  pub work : workLength keyCount ≡ 13824
+  pub work-for : (k : ℕ) → workLength k ≡ widthOf k * 1536
   -- "90 entries for set 0 and 34 for set 1. Each entry is proved to equal t(d)" (02)
   pub list-0 : length (topDigits (scaleOf 0 .parts)) ≡ 90
   pub list-1 : length (topDigits (scaleOf 1 .parts)) ≡ 34

@@ -65,7 +65,8 @@ pub const SEED: u32 = 16;
 
 // ---- The number of keys a side, and what follows from it alone
 
-pub const KEYS: usize = 1;
+// Each of the server and the phone has four keys.
+pub const KEYS: usize = 4;
 
 // Numbers of a shared number on one side: the share, and a part under each key of either side.
 pub const WIDTH: usize = 1 + 2 * KEYS;

@@ -52,7 +52,7 @@ unfoldable pub begunWork : Params → ℕ → List ℕ → List ℕ → List ℕ
 begunWork p width inputs book =
     joinTo width (λ (c : ℕ). listTo places (begunPlace (shared p) (p .n) width inputs book c))
 
--- "Adding a public k: the server adds k to its share, and each side adds own key × k to its part under its own key":
--- what a public 1 adds to each column on side `number`, with k keys a side
+-- "Adding a public k: the server adds k to its share, and each side adds own key × k to its part under its own key", under each of its
+-- own keys: what a public 1 adds to each column on side `number`, with k keys a side
 unfoldable pub weights : ℕ → ℕ → List ℕ → List ℕ
 weights k number keys = cond (eqb number 0) (1 ∷ keys ++ replicate k 0) (0 ∷ replicate k 0 ++ keys)

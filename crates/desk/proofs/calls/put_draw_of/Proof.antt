@@ -5,6 +5,7 @@ use lib.Seq.{length-take-le}
 use native.Mathlib.Omega.{arith}
 use mathlib.Core.Path.{sym}
 use Rattle.lists.proofs.Lists.{front-zeros}
+use Rattle.desk.specs.Desk.{mostDraw}
 use Rattle.desk.proofs.Draws.{draw-most}
 use borrow.Author.Needs.{needs}
 use Rattle.desk.proofs.calls.put_draw_of.Statement.{statement}
@@ -16,14 +17,14 @@ array-borrow-prefix-numbers c = omega (arith, c .before .draw-size .ensures, dra
 slice-aggregate-put-draw-in : tie.Need-slice-aggregate-put-draw-in
 slice-aggregate-put-draw-in c =
     let size = c .before .before .draw-size .ensures in
-    sym (length-take-le _ _ (omega (arith, size, draw-most (c .before .before .before .before .args .shape), length-replicate {A = ℕ} 4104 0)))
+    sym (length-take-le _ _ (omega (arith, size, draw-most (c .before .before .before .before .args .shape), length-replicate {A = ℕ} mostDraw 0)))
 
 returns : tie.Need-returns
 returns c =
     let size = c .before .before .before .before .before .before .draw-size in
     let shape = c .before .before .before .before .before .before .before .before .args .shape in
-    let most : size .result ≤ 4104 = omega (arith, size .ensures, draw-most shape) in
-    rw (← size .ensures, ← front-zeros (size .result) 4104 most) (c .before .before .before .put-draw-in .ensures)
+    let most : size .result ≤ mostDraw = omega (arith, size .ensures, draw-most shape) in
+    rw (← size .ensures, ← front-zeros (size .result) mostDraw most) (c .before .before .before .put-draw-in .ensures)
 
 pub put-draw-of-spec : {M : Type 1} → statement M
 put-draw-of-spec =
