@@ -22,7 +22,7 @@ pub struct Expected {
 /// Has the message the form that its receiver expects?
 ///
 /// Length, header, fields and padding are tested. Whether the openings pass their checks is not:
-/// that takes the receiver's key.
+/// that takes the receiver's keys.
 ///
 /// # Errors
 ///
@@ -37,13 +37,15 @@ pub struct Expected {
 ///
 /// // The phone expects round 1 of run 1 from the server: set 0, HIGH, one coefficient.
 /// let phone = Expected { side: 1, set: 0, kind: 0, n: 1, bound: 0, round: 1, serial: 1 };
-/// let mut message = [0x00, 0x80, 0, 0, 0, 0, 0, 0x01, 0, 0, 0x02, 0, 0, 0];
+/// // Its opening is the share 1 and four zero parts.
+/// let mut message = [0; 23];
+/// message[..11].copy_from_slice(&[0x00, 0x80, 0, 0, 0, 0, 0, 0x01, 0, 0, 0x02]);
 /// assert_eq!(message_form(&phone, &message), Ok(()));
 ///
 /// assert_eq!(message_form(&phone, &message[1..]), Err(Refusal::MessageLength));
 /// let server = Expected { side: 0, ..phone };
 /// assert_eq!(message_form(&server, &message), Err(Refusal::Header));
-/// message[13] = 0x01;
+/// message[22] = 0x01;
 /// assert_eq!(message_form(&phone, &message), Err(Refusal::FieldOrPadding));
 /// ```
 pub fn message_form(expected: &Expected, message: &[u8]) -> Result<(), Refusal> {

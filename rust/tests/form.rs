@@ -1,9 +1,14 @@
-//! The library's message-form test against a codec of our own, written from document 01.
+//! The library's message-form test against a codec of our own, written from documents 01 and 02.
+
+use std::collections::BTreeSet;
 
 use paired_rounding::{message_form, Expected};
 
 const Q: u32 = 8_380_417;
 const LARGEST_BOUND: u32 = 4_190_208;
+
+/// Keys of a side, as document 02 has it.
+const KEYS: usize = 4;
 
 // ---- The codec: fields in bits, most significant first.
 
@@ -19,11 +24,16 @@ struct Header {
     serial: u32,
 }
 
-/// A message: its header, its openings (share, check part) and the bits that fill the last byte.
+/// An opening's fields: the share, then the parts under the receiver's keys.
+type Opening = [u32; 1 + KEYS];
+
+const OPENING_BITS: usize = 23 * (1 + KEYS);
+
+/// A message: its header, its openings and the bits that fill the last byte.
 #[derive(Clone, Debug, PartialEq, Eq)]
 struct Message {
     header: Header,
-    openings: Vec<(u32, u32)>,
+    openings: Vec<Opening>,
     filling: u32,
 }
 
@@ -42,11 +52,11 @@ fn opening_count(kind: u32, n: u32, round: u32) -> usize {
 
 /// How many bits fill the last byte.
 fn filling_bits(openings: usize) -> u32 {
-    (8 - (64 + 46 * openings) as u32 % 8) % 8
+    (8 - (64 + OPENING_BITS * openings) as u32 % 8) % 8
 }
 
 fn message_length(openings: usize) -> usize {
-    (64 + 46 * openings).div_ceil(8)
+    (64 + OPENING_BITS * openings).div_ceil(8)
 }
 
 struct Writer {
@@ -80,9 +90,8 @@ fn encode(message: &Message) -> Vec<u8> {
     writer.put(header.round, 3);
     writer.put(header.bound, 23);
     writer.put(header.serial, 32);
-    for &(share, part) in &message.openings {
-        writer.put(share, 23);
-        writer.put(part, 23);
+    for &field in message.openings.as_flattened() {
+        writer.put(field, 23);
     }
     writer.put(message.filling, filling_bits(message.openings.len()));
     writer.bytes()
@@ -118,8 +127,8 @@ fn decode(bytes: &[u8], openings: usize) -> Message {
         bound: reader.take(23),
         serial: reader.take(32),
     };
-    let openings: Vec<_> = (0..openings)
-        .map(|_| (reader.take(23), reader.take(23)))
+    let openings: Vec<Opening> = (0..openings)
+        .map(|_| [(); 1 + KEYS].map(|()| reader.take(23)))
         .collect();
     let filling = reader.take(filling_bits(openings.len()));
     assert_eq!(reader.position, 8 * bytes.len());
@@ -184,8 +193,8 @@ fn first_no(expected: &Expected, bytes: &[u8]) -> u32 {
     if message.header != header_for(expected) {
         return 11;
     }
-    let below_q = |&(share, part): &(u32, u32)| share < Q && part < Q;
-    if !message.openings.iter().all(below_q) || message.filling != 0 {
+    let fields = message.openings.as_flattened();
+    if !fields.iter().all(|&field| field < Q) || message.filling != 0 {
         return 12;
     }
     0
@@ -355,7 +364,9 @@ impl Generator {
         let count = opening_count(expected.kind, expected.n, expected.round);
         Message {
             header: header_for(expected),
-            openings: (0..count).map(|_| (self.field(), self.field())).collect(),
+            openings: (0..count)
+                .map(|_| [(); 1 + KEYS].map(|()| self.field()))
+                .collect(),
             filling: 0,
         }
     }
@@ -366,13 +377,9 @@ impl Generator {
         if bits > 0 && self.coin() {
             message.filling = self.within(1, (1 << bits) - 1);
         } else {
-            let place = self.within(0, message.openings.len() as u32 - 1) as usize;
-            let opening = &mut message.openings[place];
-            if self.coin() {
-                opening.0 = self.field_too_large();
-            } else {
-                opening.1 = self.field_too_large();
-            }
+            let fields = message.openings.as_flattened_mut();
+            let place = self.within(0, fields.len() as u32 - 1) as usize;
+            fields[place] = self.field_too_large();
         }
     }
 
@@ -407,11 +414,13 @@ fn for_every_run(mut act: impl FnMut(u32, u32, u32, u32, u32)) {
 
 // ---- Tests.
 
-/// Document 01: server, set 0, HIGH, N = 1, round 1, serial 1, opened share 1, check part 0.
+/// Document 01's sample as document 02 replaces it: server, set 0, HIGH, N = 1, round 1, serial 1,
+/// opened share 1, four zero parts.
 #[test]
 fn sample() {
     let bytes = [
-        0x00, 0x80, 0x00, 0x00, 0x00, 0x00, 0x00, 0x01, 0x00, 0x00, 0x02, 0x00, 0x00, 0x00,
+        0x00, 0x80, 0x00, 0x00, 0x00, 0x00, 0x00, 0x01, 0x00, 0x00, 0x02, 0x00, //
+        0x00, 0x00, 0x00, 0x00, 0x00, 0x00, 0x00, 0x00, 0x00, 0x00, 0x00,
     ];
     let message = Message {
         header: Header {
@@ -423,7 +432,7 @@ fn sample() {
             bound: 0,
             serial: 1,
         },
-        openings: vec![(1, 0)],
+        openings: vec![[1, 0, 0, 0, 0]],
         filling: 0,
     };
     assert_eq!(encode(&message), bytes);
@@ -440,6 +449,46 @@ fn sample() {
     let mut tally = Tally::new();
     tally.check(&phone, &bytes, 0);
     tally.check(&Expected { side: 0, ..phone }, &bytes, 11);
+    // The sample of one key a side is too short now.
+    tally.check(&phone, &bytes[..14], 10);
+}
+
+/// An opening has 115 bits; the length is the header's 8 bytes and the bytes that hold them.
+#[test]
+fn known_lengths() {
+    let lengths = [
+        (1, 23),
+        (2, 37),
+        (3, 52),
+        (4, 66),
+        (5, 80),
+        (6, 95),
+        (7, 109),
+        (8, 123),
+        (12, 181),
+        (16, 238),
+        (20, 296),
+        (24, 353),
+        (28, 411),
+        (32, 468),
+    ];
+    let mut generator = Generator::new(9);
+    let mut tally = Tally::new();
+    let mut seen = BTreeSet::new();
+    for_every_run(|side, set, kind, n, round| {
+        let count = opening_count(kind, n, round);
+        let (_, length) = lengths.into_iter().find(|&(k, _)| k == count).unwrap();
+        seen.insert(count);
+        let expected = generator.expected(side, set, kind, n, round);
+        let mut bytes = encode(&generator.message(&expected));
+        assert_eq!(bytes.len(), length);
+        tally.check(&expected, &bytes, 0);
+        tally.check(&expected, &bytes[..length - 1], 10);
+        bytes.push(0);
+        tally.check(&expected, &bytes, 10);
+    });
+    assert!(seen.into_iter().eq(lengths.map(|(count, _)| count)));
+    assert_eq!(tally.total(), 3 * 448);
 }
 
 /// Openings in all are 19N for HIGH and 17N + 2 for BOUND, as document 01 counts them.
@@ -593,17 +642,8 @@ fn damaged_headers() {
     tally.assert_seen(&[10, 11], 1_000);
 }
 
-/// The share, or else the check part, of an opening.
-fn field_of(message: &mut Message, place: usize, share: bool) -> &mut u32 {
-    let opening = &mut message.openings[place];
-    if share {
-        &mut opening.0
-    } else {
-        &mut opening.1
-    }
-}
-
-/// Each field in turn is not below q; each filling bit in turn is 1.
+/// Each field in turn, the share and the four parts of every opening, is q − 1, which is good, and
+/// then not below q; each filling bit in turn is 1.
 #[test]
 fn damaged_fields_and_filling() {
     let mut generator = Generator::new(4);
@@ -612,13 +652,13 @@ fn damaged_fields_and_filling() {
         let expected = generator.expected(side, set, kind, n, round);
         let message = generator.message(&expected);
         for place in 0..message.openings.len() {
-            for share in [true, false] {
-                let mut damaged = message.clone();
-                *field_of(&mut damaged, place, share) = Q - 1;
-                tally.check(&expected, &encode(&damaged), 0);
-
-                *field_of(&mut damaged, place, share) = generator.field_too_large();
-                tally.check(&expected, &encode(&damaged), 12);
+            for field in 0..=KEYS {
+                let mut changed = message.clone();
+                let large = generator.field_too_large();
+                for (number, known) in [(Q - 1, 0), (Q, 12), (large, 12)] {
+                    changed.openings[place][field] = number;
+                    tally.check(&expected, &encode(&changed), known);
+                }
             }
         }
         for bit in 0..filling_bits(message.openings.len()) {
@@ -627,11 +667,11 @@ fn damaged_fields_and_filling() {
             tally.check(&expected, &encode(&damaged), 12);
         }
     });
-    assert!(tally.total() >= 20_000);
-    tally.assert_seen(&[0, 12], 10_000);
+    assert!(tally.total() >= 3 * 5 * 5_248);
+    tally.assert_seen(&[0, 12], 5 * 5_248);
 }
 
-/// Every length up to 300 bytes but the right one, cut from the front of a message that goes on.
+/// Every length up to 500 bytes but the right one, cut from the front of a message that goes on.
 #[test]
 fn wrong_lengths() {
     let mut generator = Generator::new(5);
@@ -640,13 +680,13 @@ fn wrong_lengths() {
         let expected = generator.expected(side, set, kind, n, round);
         let mut bytes = encode(&generator.message(&expected));
         let right = bytes.len();
-        bytes.resize(300, 0);
-        for length in 0..=300 {
+        bytes.resize(500, 0);
+        for length in 0..=500 {
             let known = if length == right { 0 } else { 10 };
             tally.check(&expected, &bytes[..length], known);
         }
     });
-    assert_eq!(tally.total(), 448 * 301);
+    assert_eq!(tally.total(), 448 * 501);
 }
 
 /// Any bytes, any bytes of the right length, and any fields after the right header.
@@ -658,7 +698,7 @@ fn random_messages() {
         let expected = generator.any_expected();
         let right = encode(&generator.message(&expected));
         let length = match turn % 3 {
-            0 => generator.within(0, 200) as usize,
+            0 => generator.within(0, 500) as usize,
             _ => right.len(),
         };
         let mut bytes: Vec<u8> = (0..length).map(|_| generator.next() as u8).collect();

@@ -33,7 +33,11 @@ fn main() -> Result<ExitCode, Box<dyn Error>> {
             let other = ask_program(&program, &words.join(" "))?;
             if own.as_bytes() != other {
                 differences += 1;
-                eprintln!("run {number} differs: {:?}", &numbers[..7]);
+                eprintln!(
+                    "run {number} differs: {:?}, keys {:?}",
+                    &numbers[..5],
+                    run.keys
+                );
                 eprintln!("own:\n{own}other:\n{}", String::from_utf8_lossy(&other));
             }
         }

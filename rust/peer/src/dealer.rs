@@ -2,23 +2,24 @@
 
 use std::slice::{ChunksExactMut, Iter};
 
-use crate::field::{all_below_q, mul, Q};
+use crate::field::{all_below_q, mul};
 use crate::refusal::{ask, Refusal};
-use crate::settings::{Kind, Shape, TRIPLES};
+use crate::settings::{ask_keys, Kind, Shape, KEYS, TRIPLES, WIDTH};
 use crate::shared::Shared;
 
-/// Makes both books. Asks questions 1, 2, 4, 5 and 6.
+/// Makes both books, with the server's keys and the phone's. Asks questions 1,
+/// 2, 4, 5 and 6.
 pub fn deal(
     set: u32,
     kind: u32,
     count: u32,
-    keys: [u32; 2],
+    keys: [[u32; KEYS]; 2],
     draw: &[u32],
     server_book: &mut [u32],
     phone_book: &mut [u32],
 ) -> Result<(), Refusal> {
     let shape = Shape::new(set, kind, count)?;
-    ask(keys.iter().all(|key| (1..Q).contains(key)), Refusal::Key)?;
+    ask_keys(keys.as_flattened())?;
     let length = shape.book_length();
     ask(draw.len() == shape.draw_length(), Refusal::Length)?;
     ask(server_book.len() == length, Refusal::Length)?;
@@ -28,8 +29,8 @@ pub fn deal(
     let mut dealer = Dealer {
         keys,
         draw: draw.iter(),
-        server: server_book.chunks_exact_mut(3),
-        phone: phone_book.chunks_exact_mut(3),
+        server: server_book.chunks_exact_mut(WIDTH),
+        phone: phone_book.chunks_exact_mut(WIDTH),
     };
     for _ in 0..shape.count {
         let mask = dealer.drawn();
@@ -52,7 +53,7 @@ pub fn deal(
 }
 
 struct Dealer<'a> {
-    keys: [u32; 2],
+    keys: [[u32; KEYS]; 2],
     draw: Iter<'a, u32>,
     server: ChunksExactMut<'a, u32>,
     phone: ChunksExactMut<'a, u32>,
@@ -63,10 +64,11 @@ impl Dealer<'_> {
         *self.draw.next().expect("the draw's length was asked")
     }
 
-    /// Deals a number: the phone's three are drawn, the server's are the difference.
+    /// Deals a number: the phone's numbers are drawn, the server's are the
+    /// difference.
     fn put(&mut self, number: u32) {
-        let phone = Shared([self.next(), self.next(), self.next()]);
-        let server = Shared::whole(number, self.keys) - phone;
+        let phone = Shared([(); WIDTH].map(|()| self.next()));
+        let server = Shared::whole(number, &self.keys) - phone;
         let place = "the books' lengths were asked";
         phone.store(self.phone.next().expect(place), 0);
         server.store(self.server.next().expect(place), 0);

@@ -5,13 +5,14 @@ use std::io::{self, BufRead, Read, Write};
 use crate::dealer::deal;
 use crate::message::MAX_BYTES;
 use crate::refusal::Refusal;
-use crate::settings::{Shape, MAX_COUNT};
+use crate::settings::{Shape, KEYS, MAX_COUNT, WIDTH};
 use crate::shared::Shared;
 use crate::side::{Begin, Side, PHONE, SERVER, WORK_LENGTH};
 
 /// The longest line, without its line end.
 const MAX_LINE: usize = 1_024;
-const KEYS: [u32; 2] = [1, 1];
+/// Both sides' keys.
+const BOTH_KEYS: [[u32; KEYS]; 2] = [[1; KEYS]; 2];
 
 /// Answers every line of the input.
 pub fn run(input: impl BufRead, output: impl Write) -> io::Result<()> {
@@ -148,14 +149,15 @@ impl Table {
         let [server_book, phone_book] = &mut self.books;
         server_book.resize(shape.book_length(), 0);
         phone_book.resize(shape.book_length(), 0);
-        deal(set, kind, count, KEYS, &self.draw, server_book, phone_book)?;
+        let draw = &self.draw;
+        deal(set, kind, count, BOTH_KEYS, draw, server_book, phone_book)?;
 
         self.inputs.clear();
         for &coefficient in coefficients {
-            self.inputs.extend(Shared::whole(coefficient, KEYS).0);
+            self.inputs.extend(Shared::whole(coefficient, &BOTH_KEYS).0);
         }
-        let zeros = [0; 3 * MAX_COUNT];
-        let inputs = [&self.inputs[..], &zeros[..3 * shape.count]];
+        let zeros = [0; WIDTH * MAX_COUNT];
+        let inputs = [&self.inputs[..], &zeros[..WIDTH * shape.count]];
 
         for side in [SERVER, PHONE] {
             let begin = Begin {
@@ -165,7 +167,7 @@ impl Table {
                 count,
                 bound,
                 serial,
-                key: KEYS[side],
+                keys: BOTH_KEYS[side],
                 inputs: inputs[side],
                 book: &self.books[side],
             };

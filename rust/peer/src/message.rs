@@ -3,7 +3,7 @@
 
 use crate::field::Q;
 use crate::refusal::{ask, Refusal};
-use crate::settings::{Settings, MAX_COUNT, ROUNDS};
+use crate::settings::{Settings, KEYS, MAX_COUNT, ROUNDS};
 
 /// The most openings in a message.
 pub const MAX_OPENINGS: usize = 4 * MAX_COUNT;
@@ -11,7 +11,7 @@ pub const MAX_OPENINGS: usize = 4 * MAX_COUNT;
 pub const MAX_BYTES: usize = message_length(MAX_OPENINGS);
 
 const FIELD_BITS: u32 = 23;
-const OPENING_BITS: usize = 2 * FIELD_BITS as usize;
+const OPENING_BITS: usize = (1 + KEYS) * FIELD_BITS as usize;
 
 /// Bytes of a message with this many openings.
 pub const fn message_length(openings: usize) -> usize {
@@ -149,8 +149,8 @@ impl Header {
 #[derive(Clone, Copy, Debug, Default, PartialEq, Eq)]
 pub struct Opening {
     pub share: u32,
-    /// The part under the receiver's key.
-    pub check: u32,
+    /// The parts under the receiver's keys.
+    pub checks: [u32; KEYS],
 }
 
 /// Writes a message; the output's length is exact.
@@ -159,7 +159,9 @@ pub fn write_message(header: &Header, openings: impl Iterator<Item = Opening>, o
     header.write(&mut writer);
     for opening in openings {
         writer.put(opening.share, FIELD_BITS);
-        writer.put(opening.check, FIELD_BITS);
+        for check in opening.checks {
+            writer.put(check, FIELD_BITS);
+        }
     }
     writer.finish();
 }
@@ -181,8 +183,9 @@ pub fn read_message(
     ask(Header::read(&mut reader) == *expected, Refusal::Header)?;
     for opening in openings {
         opening.share = reader.next(FIELD_BITS);
-        opening.check = reader.next(FIELD_BITS);
-        ask(opening.share < Q && opening.check < Q, Refusal::Field)?;
+        opening.checks = [(); KEYS].map(|()| reader.next(FIELD_BITS));
+        let good = opening.share < Q && opening.checks.iter().all(|&check| check < Q);
+        ask(good, Refusal::Field)?;
     }
     ask(reader.rest_is_zero(), Refusal::Field)
 }

@@ -2,7 +2,7 @@
 
 use crate::dealer::deal;
 use crate::field::Q;
-use crate::settings::{Shape, MAX_BOUND, SETS};
+use crate::settings::{Shape, KEYS, MAX_BOUND, SETS, WIDTH};
 use crate::shared::Shared;
 
 pub struct SplitMix64(u64);
@@ -38,9 +38,10 @@ pub struct RandomRun {
     pub kind: u32,
     pub bound: u32,
     pub serial: u32,
-    pub keys: [u32; 2],
+    /// The server's keys and the phone's.
+    pub keys: [[u32; KEYS]; 2],
     pub secret: Vec<u32>,
-    /// The server's and the phone's three numbers for each coefficient.
+    /// The server's and the phone's numbers for each coefficient.
     pub inputs: [Vec<u32>; 2],
     pub draw: Vec<u32>,
 }
@@ -58,13 +59,13 @@ impl RandomRun {
                 _ => generator.between(1, MAX_BOUND),
             },
         };
-        let keys = [generator.between(1, Q - 1), generator.between(1, Q - 1)];
+        let keys = generator.keys();
         let mut inputs = [Vec::new(), Vec::new()];
         let mut secret = Vec::new();
         for _ in 0..count {
             let number = generator.coefficient(set, bound);
-            let phone = Shared([(); 3].map(|()| generator.below(Q)));
-            let server = Shared::whole(number, keys) - phone;
+            let phone = Shared([(); WIDTH].map(|()| generator.below(Q)));
+            let server = Shared::whole(number, &keys) - phone;
             secret.push(number);
             inputs[0].extend(server.0);
             inputs[1].extend(phone.0);
@@ -123,7 +124,7 @@ impl RandomRun {
         let count = self.secret.len() as u32;
         let head = [self.set, self.kind, count, self.bound, self.serial];
         let mut numbers = head.to_vec();
-        numbers.extend(self.keys);
+        numbers.extend(self.keys.as_flattened());
         numbers.extend(&self.inputs[0]);
         numbers.extend(&self.inputs[1]);
         numbers
@@ -131,6 +132,20 @@ impl RandomRun {
 }
 
 impl SplitMix64 {
+    /// Both sides' keys: now and then all equal, or each 1, q − 1 or a number that
+    /// comes several times.
+    fn keys(&mut self) -> [[u32; KEYS]; 2] {
+        let style = self.below(8);
+        let same = self.between(1, Q - 1);
+        [(); 2].map(|()| {
+            [(); KEYS].map(|()| match style {
+                0 => same,
+                1 => [1, Q - 1, same][self.below(3) as usize],
+                _ => self.between(1, Q - 1),
+            })
+        })
+    }
+
     /// A coefficient below q: around a bound, around a step, or anywhere.
     pub fn coefficient(&mut self, set: u32, bound: u32) -> u32 {
         let near = |centre: u32, off: u32| (centre + Q + off - 2) % Q;

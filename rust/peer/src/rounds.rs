@@ -4,13 +4,13 @@
 //!
 //! | from | numbers | contents |
 //! |---|---|---|
-//! | 0 | 24 | inputs, a shared number for each coefficient |
-//! | 24 | 3,960 | book |
-//! | 3,984 | 192 | own openings of odd and of even rounds, 32 shared numbers each |
-//! | 4,176 | 144 | products under way: u, v and addend, two for each coefficient |
-//! | 4,320 | 48 | two registers for each coefficient |
-//! | 4,368 | 8 | opened y for each coefficient |
-//! | 4,376 | 232 | without a use, 0 |
+//! | 0 | 72 | inputs, a shared number for each coefficient |
+//! | 72 | 11,880 | book |
+//! | 11,952 | 576 | own openings of odd and of even rounds, 32 shared numbers each |
+//! | 12,528 | 432 | products under way: u, v and addend, two for each coefficient |
+//! | 12,960 | 144 | two registers for each coefficient |
+//! | 13,104 | 8 | opened y for each coefficient |
+//! | 13,112 | 712 | without a use, 0 |
 //!
 //! Registers: HIGH keeps the carry (F after round 5) and the count of zero
 //! digits (C after round 6); BOUND keeps the results of hi and of lo. The two
@@ -19,20 +19,20 @@
 //! A round's openings are worked out when the round before is taken, so that
 //! they are still there when the phone sends after its take.
 
-use crate::field::{add, mul, sub, Q};
-use crate::message::MAX_OPENINGS;
-use crate::settings::{Kind, Settings, HIGH_CHECK_MAX, MAX_COUNT};
+use crate::field::{add, mul, sub};
+use crate::message::{Opening, MAX_OPENINGS};
+use crate::settings::{Kind, Settings, HIGH_CHECK_MAX, KEYS, MAX_COUNT, MAX_SHARED, WIDTH};
 use crate::shared::Shared;
 
 /// Numbers in a working slice.
-pub const WORK_LENGTH: usize = 4_608;
+pub const WORK_LENGTH: usize = WIDTH * 1_536;
 
 const INPUTS: usize = 0;
-const BOOK: usize = INPUTS + 3 * MAX_COUNT;
-const OPENINGS: usize = BOOK + 3 * 165 * MAX_COUNT;
-const PRODUCTS: usize = OPENINGS + 2 * 3 * MAX_OPENINGS;
-const REGISTERS: usize = PRODUCTS + 2 * 9 * MAX_COUNT;
-const OPENED: usize = REGISTERS + 2 * 3 * MAX_COUNT;
+const BOOK: usize = INPUTS + WIDTH * MAX_COUNT;
+const OPENINGS: usize = BOOK + WIDTH * MAX_SHARED;
+const PRODUCTS: usize = OPENINGS + 2 * WIDTH * MAX_OPENINGS;
+const REGISTERS: usize = PRODUCTS + 2 * 3 * WIDTH * MAX_COUNT;
+const OPENED: usize = REGISTERS + 2 * WIDTH * MAX_COUNT;
 const END: usize = OPENED + MAX_COUNT;
 const _: () = assert!(END <= WORK_LENGTH);
 
@@ -46,7 +46,7 @@ struct Product {
 /// One side's view of a run: who it is, the settings and its working slice.
 pub struct Player<'a> {
     pub side: usize,
-    pub key: u32,
+    pub keys: [u32; KEYS],
     pub settings: Settings,
     pub work: &'a mut [u32],
 }
@@ -264,25 +264,27 @@ impl Player<'_> {
     }
 
     /// Adds a public number: the server to its share, each side own key ×
-    /// number to its part under its own key.
+    /// number to its part under that key, for each of its keys.
     fn add_public(&self, mut shared: Shared, number: u32) -> Shared {
         if self.side == 0 {
             shared.0[0] = add(shared.0[0], number);
         }
-        let part = &mut shared.0[1 + self.side];
-        *part = add(*part, mul(self.key, number));
+        let parts = &mut shared.0[1 + self.side * KEYS..];
+        for (part, &key) in parts.iter_mut().zip(&self.keys) {
+            *part = add(*part, mul(key, number));
+        }
         shared
     }
 
     /// Sum of a digit's vector where j + d ≥ base.
     fn carry(&self, c: usize, digit: usize, d: usize) -> Shared {
         let base = self.settings.shape.set.bases[digit] as usize;
-        Shared::sum(&self.vector(c, digit)[3 * (base - d)..])
+        Shared::sum(&self.vector(c, digit)[WIDTH * (base - d)..])
     }
 
     /// Sum of a digit's vector below a position.
     fn sum_below(&self, c: usize, digit: usize, position: usize) -> Shared {
-        Shared::sum(&self.vector(c, digit)[..3 * position])
+        Shared::sum(&self.vector(c, digit)[..WIDTH * position])
     }
 
     fn vector_entry(&self, c: usize, digit: usize, position: usize) -> Shared {
@@ -292,8 +294,8 @@ impl Player<'_> {
     /// The vector of a digit of a coefficient's mask.
     fn vector(&self, c: usize, digit: usize) -> &[u32] {
         let shape = &self.settings.shape;
-        let from = BOOK + 3 * shape.vector_at(c, digit);
-        &self.work[from..from + 3 * shape.set.bases[digit] as usize]
+        let from = BOOK + WIDTH * shape.vector_at(c, digit);
+        &self.work[from..from + WIDTH * shape.set.bases[digit] as usize]
     }
 
     fn book(&self, place: usize) -> Shared {
@@ -333,21 +335,23 @@ impl Player<'_> {
 }
 
 fn openings_from(round: u8) -> usize {
-    OPENINGS + 3 * MAX_OPENINGS * usize::from(round % 2)
+    OPENINGS + WIDTH * MAX_OPENINGS * usize::from(round % 2)
 }
 
 /// A side's own openings of a round, from its working slice.
 pub fn own_openings(work: &[u32], round: u8, count: usize) -> impl Iterator<Item = Shared> + '_ {
     let from = openings_from(round);
-    work[from..from + 3 * count]
-        .chunks_exact(3)
+    work[from..from + WIDTH * count]
+        .chunks_exact(WIDTH)
         .map(|entry| Shared::load(entry, 0))
 }
 
-/// Checks an opening and joins it: the two parts under my key must add to my
-/// key × the joined number.
-pub fn join(side: usize, key: u32, own: Shared, share: u32, check: u32) -> Option<u32> {
-    debug_assert!(share < Q && check < Q);
-    let joined = add(own.share(), share);
-    (add(own.part(side), check) == mul(key, joined)).then_some(joined)
+/// Checks an opening and joins it: under each of my keys the two parts must add
+/// to that key × the joined number.
+pub fn join(side: usize, keys: &[u32; KEYS], own: Shared, other: &Opening) -> Option<u32> {
+    let joined = add(own.share(), other.share);
+    let parts = own.parts(side);
+    (0..KEYS)
+        .all(|i| add(parts[i], other.checks[i]) == mul(keys[i], joined))
+        .then_some(joined)
 }

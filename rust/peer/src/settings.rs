@@ -7,6 +7,14 @@ pub const MAX_COUNT: usize = 8;
 pub const MAX_BOUND: u32 = (Q - 1) / 2;
 pub const ROUNDS: u8 = 7;
 
+/// Keys of a side.
+pub const KEYS: usize = 4;
+/// Numbers of a shared number: the share, then the parts under the server's
+/// keys, then the parts under the phone's keys.
+pub const WIDTH: usize = 1 + 2 * KEYS;
+/// The most shared numbers in a book: HIGH in set 0.
+pub const MAX_SHARED: usize = 165 * MAX_COUNT;
+
 /// Digits of a split number.
 pub const DIGITS: usize = 5;
 /// Product triples for each coefficient.
@@ -141,7 +149,7 @@ impl Shape {
 
     /// Numbers in one side's book.
     pub fn book_length(&self) -> usize {
-        3 * self.shared_numbers()
+        WIDTH * self.shared_numbers()
     }
 
     /// Numbers in the dealer's draw.
@@ -214,4 +222,9 @@ impl Settings {
         ask(allowed, Refusal::Bound)?;
         Ok(Settings { shape, bound })
     }
+}
+
+/// Asks question 4 of keys.
+pub fn ask_keys(keys: &[u32]) -> Result<(), Refusal> {
+    ask(keys.iter().all(|key| (1..Q).contains(key)), Refusal::Key)
 }

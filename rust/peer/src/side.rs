@@ -1,10 +1,10 @@
 //! A side of a run: begin, send, take, answer and opening count.
 
-use crate::field::{all_below_q, Q};
+use crate::field::all_below_q;
 use crate::message::{message_length, read_message, write_message, Header, Opening, MAX_OPENINGS};
 use crate::refusal::{ask, Refusal};
 use crate::rounds::{join, own_openings, Player};
-use crate::settings::{Settings, MAX_COUNT, ROUNDS};
+use crate::settings::{ask_keys, Settings, KEYS, MAX_COUNT, ROUNDS, WIDTH};
 
 pub use crate::rounds::WORK_LENGTH;
 
@@ -20,9 +20,9 @@ pub struct Begin<'a> {
     pub count: u32,
     pub bound: u32,
     pub serial: u32,
-    /// The side's own key.
-    pub key: u32,
-    /// Three numbers for each coefficient.
+    /// The side's own keys.
+    pub keys: [u32; KEYS],
+    /// A shared number for each coefficient.
     pub inputs: &'a [u32],
     pub book: &'a [u32],
 }
@@ -42,7 +42,7 @@ struct Run {
     side: usize,
     settings: Settings,
     serial: u32,
-    key: u32,
+    keys: [u32; KEYS],
     round: u8,
     state: State,
     answer: [u32; MAX_COUNT],
@@ -68,9 +68,9 @@ impl Side {
         ask(!under_way, Refusal::NotDue)?;
         ask(with.side < 2, Refusal::Selector)?;
         let settings = Settings::new(with.set, with.kind, with.count, with.bound)?;
-        ask((1..Q).contains(&with.key), Refusal::Key)?;
+        ask_keys(&with.keys)?;
         let shape = settings.shape;
-        ask(with.inputs.len() == 3 * shape.count, Refusal::Length)?;
+        ask(with.inputs.len() == WIDTH * shape.count, Refusal::Length)?;
         ask(with.book.len() == shape.book_length(), Refusal::Length)?;
         ask(work.len() == WORK_LENGTH, Refusal::Length)?;
         ask(all_below_q(with.inputs), Refusal::Range)?;
@@ -82,7 +82,7 @@ impl Side {
             side,
             settings,
             serial: with.serial,
-            key: with.key,
+            keys: with.keys,
             round: 1,
             state: if side == SERVER {
                 State::Send
@@ -108,7 +108,7 @@ impl Side {
         let header = Header::new(run.side, &run.settings, run.round, run.serial);
         let own = own_openings(work, run.round, openings).map(|shared| Opening {
             share: shared.share(),
-            check: shared.part(receiver),
+            checks: shared.parts(receiver),
         });
         write_message(&header, own, out);
         match run.side {
@@ -132,7 +132,7 @@ impl Side {
         let joined = &mut joined[..count];
         let own = own_openings(work, run.round, count);
         for ((place, own), other) in joined.iter_mut().zip(own).zip(received) {
-            match join(run.side, run.key, own, other.share, other.check) {
+            match join(run.side, &run.keys, own, other) {
                 Some(number) => *place = number,
                 None => {
                     run.state = State::Stopped;
@@ -187,7 +187,7 @@ impl Run {
     fn player<'a>(&self, work: &'a mut [u32]) -> Player<'a> {
         Player {
             side: self.side,
-            key: self.key,
+            keys: self.keys,
             settings: self.settings,
             work,
         }

@@ -1,16 +1,31 @@
 //! Known results, random runs against the plain meaning, and refusals.
 
+use std::sync::atomic::Ordering;
+
 use crate::dealer::deal;
-use crate::field::{add, mul, sub, Q};
+use crate::field::{add, all_below_q, mul, sub, EARLY_END, Q};
 use crate::line_program;
-use crate::message::{message_length, write_message, FormTest, Header, Opening, MAX_BYTES};
+use crate::message::{
+    message_length, read_message, write_message, FormTest, Header, Opening, MAX_BYTES, MAX_OPENINGS,
+};
 use crate::plain::{parts, verdict, Parts};
 use crate::random::{RandomRun, SplitMix64};
 use crate::refusal::Refusal;
-use crate::settings::{Kind, Settings, Shape, MAX_COUNT, SETS};
+use crate::settings::{Kind, Settings, Shape, KEYS, MAX_COUNT, MAX_SHARED, SETS, WIDTH};
 use crate::shared::Shared;
 use crate::side::{Begin, Side, PHONE, SERVER, WORK_LENGTH};
 use crate::transcript::transcript;
+
+impl RandomRun {
+    /// Sets the server's inputs to what the phone's leave, under the run's keys.
+    fn share_inputs_anew(&mut self) {
+        for (place, &secret) in self.secret.iter().enumerate() {
+            let phone = Shared::load(&self.inputs[PHONE], place);
+            let server = Shared::whole(secret, &self.keys) - phone;
+            server.store(&mut self.inputs[SERVER], place);
+        }
+    }
+}
 
 /// Both sides of a run that has been dealt, with their working slices.
 struct Pair {
@@ -45,7 +60,7 @@ impl Pair {
             count: self.shape.count as u32,
             bound: self.run.bound,
             serial: self.run.serial,
-            key: self.run.keys[side],
+            keys: self.run.keys[side],
             inputs: &self.run.inputs[side],
             book: &self.books[side],
         }
@@ -92,6 +107,32 @@ impl Pair {
         }
     }
 
+    /// Begins, and plays until this side's message of this round is due.
+    fn play_until(&mut self, round: u8, sender: usize) {
+        self.begin();
+        for _ in 1..round {
+            self.pass(SERVER);
+            self.pass(PHONE);
+        }
+        if sender == PHONE {
+            self.pass(SERVER);
+        }
+    }
+
+    /// Takes a message whose check must fail: the side refuses it with 13, keeps
+    /// its working slice and its count, and has stopped.
+    fn assert_stopped_by(&mut self, to: usize, changed: &[u8]) {
+        let before = (self.works[to].clone(), self.sides[to].opening_count());
+        let result = self.take(to, changed).map_err(Refusal::number);
+        assert_eq!(result, Err(13));
+        let after = (self.works[to].clone(), self.sides[to].opening_count());
+        assert!(before == after);
+        let mut out = [0; MAX_BYTES];
+        let sent = self.sides[to].send(&self.works[to], &mut out);
+        assert_eq!(sent, Err(Refusal::NotDue));
+        assert_eq!(self.take(to, changed), Err(Refusal::NotDue));
+    }
+
     /// A bad dealer's books: a number of the answer is greater by an amount,
     /// and no check fails. HIGH subtracts an entry of the group, BOUND opens it.
     fn raise_answer(&mut self, group: usize, amount: u32) {
@@ -102,7 +143,7 @@ impl Pair {
         let first = self.shape.group_at(group) + 1;
         for place in first..first + self.shape.check_entries() {
             let raised =
-                Shared::load(&self.books[SERVER], place) + Shared::whole(by, self.run.keys);
+                Shared::load(&self.books[SERVER], place) + Shared::whole(by, &self.run.keys);
             raised.store(&mut self.books[SERVER], place);
         }
     }
@@ -133,11 +174,11 @@ fn simple_run(set: u32, kind: u32, bound: u32, secret: &[u32]) -> RandomRun {
         kind,
         bound,
         serial: 1,
-        keys: [1, 1],
+        keys: [[1; KEYS]; 2],
         secret: secret.to_vec(),
         inputs: [
-            secret.iter().flat_map(|&w| [w; 3]).collect(),
-            vec![0; 3 * secret.len()],
+            secret.iter().flat_map(|&w| [w; WIDTH]).collect(),
+            vec![0; WIDTH * secret.len()],
         ],
         draw: vec![0; shape.draw_length()],
     }
@@ -174,6 +215,15 @@ fn constants_multiply_to_the_modulus() {
 
 #[test]
 fn lengths_are_those_of_the_request() {
+    assert_eq!((KEYS, WIDTH, WORK_LENGTH), (4, 9, 13_824));
+    let shape = Shape::new(0, 1, 2).unwrap();
+    assert_eq!(shape.book_length(), 9 * (2 * 158 + 3));
+    assert_eq!(shape.draw_length(), 9 * (2 * 158 + 3) + 2 * 17 + 1);
+    for (openings, bytes) in [(1, 23), (2, 37), (8, 123), (32, 468)] {
+        assert_eq!(message_length(openings), bytes);
+    }
+    let longest = Shape::new(0, 0, 8).unwrap();
+    assert_eq!(longest.shared_numbers(), MAX_SHARED);
     for n in 1..=8 {
         let shape = |set, kind| Shape::new(set, kind, n as u32).unwrap();
         assert_eq!(shape(0, 0).shared_numbers(), 165 * n);
@@ -183,6 +233,66 @@ fn lengths_are_those_of_the_request() {
         let openings = |kind| (1..=7).map(|r| shape(0, kind).openings(r)).sum::<usize>();
         assert_eq!(openings(0), 19 * n);
         assert_eq!(openings(1), 17 * n + 2);
+    }
+}
+
+#[test]
+fn field_functions() {
+    let modulo = |number: i64| number.rem_euclid(i64::from(Q)) as u32;
+    let mut generator = SplitMix64::new(20);
+    let edges = [0, 1, 2, Q / 2, Q - 2, Q - 1];
+    for number in 0..1_000 {
+        let [a, b] = match edges.get(number % 6).zip(edges.get(number / 6)) {
+            Some((&a, &b)) => [a, b],
+            None => [generator.below(Q), generator.below(Q)],
+        };
+        let [x, y] = [i64::from(a), i64::from(b)];
+        assert_eq!(add(a, b), modulo(x + y));
+        assert_eq!(sub(a, b), modulo(x - y));
+        assert_eq!(mul(a, b), modulo(x * y));
+    }
+}
+
+/// A number that is not below q is found at every place of a list, in both
+/// forms of the question.
+#[test]
+fn numbers_not_below_q_are_found() {
+    let large = [
+        Q,
+        Q + 1,
+        (1 << 23) - 1,
+        1 << 23,
+        Q + (1 << 23),
+        1 << 31,
+        Q - 1 + (1 << 31),
+        Q + (1 << 31),
+        u32::MAX - ((1 << 23) - Q),
+        u32::MAX - ((1 << 23) - Q) + 1,
+        u32::MAX,
+    ];
+    let mut generator = SplitMix64::new(21);
+    for length in [0, 1, 5, 160, 2_303, 2_304, 2_305, WORK_LENGTH] {
+        let mut list: Vec<u32> = (0..length)
+            .map(|_| [0, 1, Q - 1, generator.below(Q)][generator.below(4) as usize])
+            .collect();
+        assert!(all_below_q(&list));
+        for place in 0..length {
+            let old = list[place];
+            list[place] = large[place % large.len()];
+            assert!(!all_below_q(&list), "{length} {place}");
+            list[place] = old;
+        }
+        for number in large.into_iter().filter(|_| length > 0) {
+            let place = generator.below(length as u32) as usize;
+            let old = list[place];
+            list[place] = number;
+            // Other tests may meet the other form, which answers the same.
+            for early in [true, false] {
+                EARLY_END.store(early, Ordering::Relaxed);
+                assert!(!all_below_q(&list), "{length} {place} {number}");
+            }
+            list[place] = old;
+        }
     }
 }
 
@@ -254,7 +364,7 @@ fn books_join_to_what_was_drawn() {
         let shape = &pair.shape;
         let joined = |place| {
             let whole = Shared::load(&pair.books[0], place) + Shared::load(&pair.books[1], place);
-            assert_eq!(whole, Shared::whole(whole.share(), pair.run.keys));
+            assert_eq!(whole, Shared::whole(whole.share(), &pair.run.keys));
             whole.share()
         };
         let vector_of = |place, length: usize, digit: usize| {
@@ -277,6 +387,37 @@ fn books_join_to_what_was_drawn() {
             let place = shape.group_at(group);
             let step = joined(place) / shape.check_step();
             vector_of(place + 1, shape.check_entries(), step as usize);
+        }
+    }
+}
+
+/// A number, then its parts under the server's keys, then under the phone's.
+#[test]
+fn numbers_of_a_dealt_number_are_in_order() {
+    let keys = [[2, 3, 5, 7], [11, 13, 17, 19]];
+    for (kind, count) in [(0, 1), (1, 2)] {
+        let shape = Shape::new(0, kind, count).unwrap();
+        let mut draw = vec![0; shape.draw_length()];
+        // The first mask is 100, so that its digit 0 is 4; the phone's numbers of
+        // it are 1 to 9, all others 0.
+        draw[0] = 100;
+        for (number, place) in (1..).zip(&mut draw[1..1 + WIDTH]) {
+            *place = number;
+        }
+        let mut books = [vec![0; shape.book_length()], vec![0; shape.book_length()]];
+        let [server, phone] = &mut books;
+        deal(0, kind, count, keys, &draw, server, phone).unwrap();
+        let at = |book: usize, place: usize| Shared::load(&books[book], place).0;
+        assert_eq!(at(PHONE, 0), [1, 2, 3, 4, 5, 6, 7, 8, 9]);
+        assert_eq!(
+            at(SERVER, 0),
+            [99, 198, 297, 496, 695, 1_094, 1_293, 1_692, 1_891]
+        );
+        for place in 0..16 {
+            let one = [1, 2, 3, 5, 7, 11, 13, 17, 19];
+            let expected = if place == 4 { one } else { [0; WIDTH] };
+            assert_eq!(at(SERVER, 1 + place), expected);
+            assert_eq!(at(PHONE, 1 + place), [0; WIDTH]);
         }
     }
 }
@@ -333,15 +474,70 @@ fn zero_check_step() {
     assert_ne!(opened / g, (Q - 1) / g);
 }
 
+/// Server, set 0, HIGH, N = 1, round 1, serial 1, share 1, four zero parts.
+const SAMPLE: [u8; 23] = [
+    0x00, 0x80, 0x00, 0x00, 0x00, 0x00, 0x00, 0x01, 0x00, 0x00, 0x02, 0x00, //
+    0x00, 0x00, 0x00, 0x00, 0x00, 0x00, 0x00, 0x00, 0x00, 0x00, 0x00,
+];
+
 #[test]
 fn message_sample() {
     let settings = Settings::new(0, 0, 1, 0).unwrap();
     let header = Header::new(SERVER, &settings, 1, 1);
     let mut message = vec![0xFF; message_length(1)];
-    let opening = Opening { share: 1, check: 0 };
+    let opening = Opening {
+        share: 1,
+        checks: [0; KEYS],
+    };
     write_message(&header, [opening].into_iter(), &mut message);
-    let expected = [0, 0x80, 0, 0, 0, 0, 0, 1, 0, 0, 2, 0, 0, 0];
-    assert_eq!(message, expected);
+    assert_eq!(message, SAMPLE);
+}
+
+/// Every field of a message where it belongs, for every number of openings.
+#[test]
+fn messages_are_packed_in_order() {
+    let mut generator = SplitMix64::new(22);
+    let settings = Settings::new(1, 1, 3, 4_190_208).unwrap();
+    let header = Header::new(PHONE, &settings, 5, 0x8000_0001);
+    for count in 1..=MAX_OPENINGS {
+        let mut field = || [0, 1, Q - 1, generator.below(Q)][generator.below(4) as usize];
+        let openings: Vec<Opening> = (0..count)
+            .map(|_| Opening {
+                share: field(),
+                checks: [(); KEYS].map(|()| field()),
+            })
+            .collect();
+        let mut message = vec![0xFF; message_length(count)];
+        write_message(&header, openings.iter().copied(), &mut message);
+        // 1 1 1 010 101, then the bound in 23 bits, then the serial in 32.
+        let expected = [0xEA, 0xBF, 0xF0, 0x00, 0x80, 0x00, 0x00, 0x01];
+        assert_eq!(message[..8], expected);
+        let fields: Vec<u32> = openings
+            .iter()
+            .flat_map(|opening| [&[opening.share][..], &opening.checks].concat())
+            .collect();
+        for (place, &field) in fields.iter().enumerate() {
+            assert_eq!(field_of(&message, place), field, "{count} {place}");
+        }
+        let padding = 8 * message.len() - (64 + 23 * fields.len());
+        assert!(padding < 8);
+        assert_eq!(
+            message[message.len() - 1]
+                .trailing_zeros()
+                .min(padding as u32),
+            padding as u32
+        );
+
+        let mut read = vec![Opening::default(); count];
+        read_message(&header, &message, &mut read).unwrap();
+        assert_eq!(read, openings);
+        for bit in 0..padding {
+            let mut changed = message.clone();
+            *changed.last_mut().unwrap() |= 1 << bit;
+            let result = read_message(&header, &changed, &mut read);
+            assert_eq!(result, Err(Refusal::Field));
+        }
+    }
 }
 
 #[test]
@@ -355,7 +551,7 @@ fn form_test_asks_in_order() {
         round: 1,
         serial: 1,
     };
-    let message = [0, 0x80, 0, 0, 0, 0, 0, 1, 0, 0, 2, 0, 0, 0];
+    let message = SAMPLE;
     assert_eq!(good.test(&message), Ok(()));
     let bad = Err;
     assert_eq!(
@@ -399,12 +595,12 @@ fn form_test_asks_in_order() {
         FormTest { round: 6, ..good }.test(&message),
         bad(Refusal::Header)
     );
-    for padding in [1, 2] {
+    for padding in [1, 2, 4, 8, 16] {
         let mut changed = message;
-        changed[13] = padding;
+        changed[22] = padding;
         assert_eq!(good.test(&changed), bad(Refusal::Field));
     }
-    for field in [0, 1] {
+    for field in 0..1 + KEYS {
         let with = |number| with_field(&message, field, |_| number);
         assert_eq!(good.test(&with(Q - 1)), Ok(()));
         assert_eq!(good.test(&with(Q)), bad(Refusal::Field));
@@ -418,28 +614,18 @@ fn tampered_openings_are_caught() {
     for number in 0..280 {
         let (set, kind, count) = shape_of(number);
         let mut pair = Pair::new(RandomRun::new(&mut generator, set, kind, count));
-        pair.begin();
         let bad_round = generator.between(1, 7) as u8;
         let from = generator.below(2) as usize;
         let to = 1 - from;
-        for _ in 1..bad_round {
-            pair.pass(SERVER);
-            pair.pass(PHONE);
-        }
-        if from == PHONE {
-            pair.pass(SERVER);
-        }
+        pair.play_until(bad_round, from);
         let message = pair.send(from);
 
         // Change one field of one opening by a number that is not 0.
-        let openings = pair.shape.openings(bad_round);
-        let field = generator.below(2 * openings as u32) as usize;
+        let fields = (1 + KEYS) * pair.shape.openings(bad_round);
+        let field = generator.below(fields as u32) as usize;
         let shift = generator.between(1, Q - 1);
         let changed = with_field(&message, field, |old| add(old, shift));
-        let before = (pair.works[to].clone(), pair.sides[to].opening_count());
-        assert_eq!(pair.take(to, &changed), Err(Refusal::Check));
-        let after = (pair.works[to].clone(), pair.sides[to].opening_count());
-        assert!(before == after);
+        pair.assert_stopped_by(to, &changed);
 
         // Stopped: nothing is due but a new run with a higher serial.
         assert_eq!(pair.take(to, &message), Err(Refusal::NotDue));
@@ -455,6 +641,118 @@ fn tampered_openings_are_caught() {
         };
         assert_eq!(side.begin(&again, &mut work), Ok(()));
         assert_eq!(side.opening_count(), 0);
+    }
+}
+
+#[test]
+fn every_part_is_checked() {
+    let mut generator = SplitMix64::new(17);
+    for (set, kind, count) in [(0, 0, 2), (1, 1, 3)] {
+        for (round, from, key) in rounds_and_keys() {
+            let mut pair = Pair::new(RandomRun::new(&mut generator, set, kind, count));
+            pair.play_until(round, from);
+            let message = pair.send(from);
+            let opening = generator.below(pair.shape.openings(round) as u32) as usize;
+            let shift = generator.between(1, Q - 1);
+            let part = (1 + KEYS) * opening + 1 + key;
+            let changed = with_field(&message, part, |old| add(old, shift));
+            pair.assert_stopped_by(1 - from, &changed);
+        }
+    }
+}
+
+/// Every round, sender and place of a key.
+fn rounds_and_keys() -> impl Iterator<Item = (u8, usize, usize)> {
+    (1..=7).flat_map(|round| {
+        [SERVER, PHONE]
+            .into_iter()
+            .flat_map(move |from| (0..KEYS).map(move |key| (round, from, key)))
+    })
+}
+
+#[test]
+fn swapped_parts_are_refused() {
+    let mut generator = SplitMix64::new(18);
+    for (round, from, key) in rounds_and_keys() {
+        for other in key + 1..KEYS {
+            let mut run = RandomRun::new(&mut generator, 0, 0, 1);
+            // Shares that are drawn evenly, under keys that are pairwise different.
+            run.keys = [[2, 3, 5, 7], [11, 13, 17, 19]];
+            for number in &mut run.draw {
+                *number = generator.below(Q);
+            }
+            run.share_inputs_anew();
+            let mut pair = Pair::new(run);
+            pair.play_until(round, from);
+            let message = pair.send(from);
+            let [one, two] = [1 + key, 1 + other].map(|field| field_of(&message, field));
+            assert_ne!(one, two);
+            let changed = with_field(&message, 1 + key, |_| two);
+            let changed = with_field(&changed, 1 + other, |_| one);
+            pair.assert_stopped_by(1 - from, &changed);
+        }
+    }
+}
+
+#[test]
+fn keys_may_be_equal() {
+    let mut generator = SplitMix64::new(23);
+    for key in [1, 2, Q - 1] {
+        for kind in [0, 1] {
+            let mut run = RandomRun::new(&mut generator, 1, kind, 2);
+            run.keys = [[key; KEYS]; 2];
+            run.share_inputs_anew();
+            let expected = plain_answer(&run);
+            assert_eq!(Pair::new(run).play(), expected);
+        }
+    }
+}
+
+#[test]
+fn every_key_is_asked() {
+    let mut generator = SplitMix64::new(19);
+    let pair = Pair::new(RandomRun::new(&mut generator, 1, 0, 1));
+    let run = &pair.run;
+    for group in [SERVER, PHONE] {
+        for key in 0..KEYS {
+            for bad in [0, Q, Q + 1, u32::MAX] {
+                let mut keys = run.keys;
+                keys[group][key] = bad;
+                let begin = Begin {
+                    keys: keys[group],
+                    ..pair.begin_with(group)
+                };
+                let mut side = Side::new();
+                let mut work = vec![7; WORK_LENGTH];
+                let result = side.begin(&begin, &mut work).map_err(Refusal::number);
+                assert_eq!(result, Err(4));
+                assert_eq!(side, Side::new());
+                assert!(work == [7; WORK_LENGTH]);
+
+                let [mut server, mut phone] = pair.books.clone();
+                let result = deal(
+                    run.set,
+                    run.kind,
+                    1,
+                    keys,
+                    &run.draw,
+                    &mut server,
+                    &mut phone,
+                );
+                assert_eq!(result.map_err(Refusal::number), Err(4));
+                assert!([server, phone] == pair.books);
+            }
+            for good in [1, Q - 1] {
+                let mut keys = run.keys;
+                keys[group][key] = good;
+                let begin = Begin {
+                    keys: keys[group],
+                    ..pair.begin_with(group)
+                };
+                let mut work = vec![7; WORK_LENGTH];
+                assert_eq!(Side::new().begin(&begin, &mut work), Ok(()));
+            }
+        }
     }
 }
 
@@ -492,7 +790,7 @@ fn calls_refuse_in_order() {
         assert_eq!(side, fresh);
         result.unwrap_err().number()
     };
-    let large = [Q; 6];
+    let large = [Q; 2 * WIDTH];
     assert_eq!(
         refused(Begin {
             side: 2,
@@ -512,14 +810,14 @@ fn calls_refuse_in_order() {
     assert_eq!(
         refused(Begin {
             bound: 1,
-            key: 0,
+            keys: [0; KEYS],
             ..good
         }),
         3
     );
     assert_eq!(
         refused(Begin {
-            key: Q,
+            keys: [Q; KEYS],
             book: &[],
             ..good
         }),
@@ -645,7 +943,7 @@ fn deal_refuses_in_order() {
             set,
             0,
             count,
-            [1, key],
+            [[1; KEYS], [key; KEYS]],
             &draw[from..],
             &mut server,
             &mut phone,
@@ -667,6 +965,9 @@ fn books_in_place_of_a_draw() {
         let run = RandomRun::new(&mut generator, number % 2, number / 2 % 2, number / 4 + 1);
         let mut numbers = run.numbers_with_books();
         assert_eq!(transcript(&numbers), transcript(&run.numbers()));
+        for length in [0, 5, 9, 12, 13 + WIDTH * run.secret.len()] {
+            assert_eq!(transcript(&numbers[..length]), Err(Refusal::Length));
+        }
         // One number more or less makes it a draw, of a wrong length.
         numbers.push(0);
         assert_eq!(transcript(&numbers), Err(Refusal::Length));

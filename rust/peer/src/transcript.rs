@@ -5,26 +5,29 @@ use std::fmt::Write;
 use crate::dealer::deal;
 use crate::message::MAX_BYTES;
 use crate::refusal::Refusal;
-use crate::settings::{Shape, MAX_COUNT};
+use crate::settings::{Shape, KEYS, MAX_COUNT, WIDTH};
 use crate::side::{Begin, Side, PHONE, SERVER, WORK_LENGTH};
 
 /// Plays the run that a list of numbers describes: set, kind, count, bound,
-/// serial, both keys, the server's 3N inputs, the phone's 3N inputs, the draw.
+/// serial, the server's keys, the phone's keys, the server's inputs, the phone's
+/// inputs (a shared number for each coefficient), the draw.
 /// Where exactly as many numbers are left as the two books have, they are the
 /// server's book and the phone's, and nothing is dealt.
 ///
 /// Gives a line `SENDER ROUND HEX` for every message, then each side's answer
 /// or its refusal, then each side's opening count.
 pub fn transcript(numbers: &[u32]) -> Result<String, Refusal> {
-    let (&[set, kind, count, bound, serial, key0, key1], rest) =
-        numbers.split_first_chunk::<7>().ok_or(Refusal::Length)?;
-    let keys = [key0, key1];
+    let (&[set, kind, count, bound, serial], rest) =
+        numbers.split_first_chunk().ok_or(Refusal::Length)?;
+    let (&server_keys, rest) = rest.split_first_chunk::<KEYS>().ok_or(Refusal::Length)?;
+    let (&phone_keys, rest) = rest.split_first_chunk::<KEYS>().ok_or(Refusal::Length)?;
+    let keys = [server_keys, phone_keys];
     let shape = Shape::new(set, kind, count)?;
     let (server_inputs, rest) = rest
-        .split_at_checked(3 * shape.count)
+        .split_at_checked(WIDTH * shape.count)
         .ok_or(Refusal::Length)?;
     let (phone_inputs, rest) = rest
-        .split_at_checked(3 * shape.count)
+        .split_at_checked(WIDTH * shape.count)
         .ok_or(Refusal::Length)?;
     let inputs = [server_inputs, phone_inputs];
 
@@ -48,7 +51,7 @@ pub fn transcript(numbers: &[u32]) -> Result<String, Refusal> {
             count,
             bound,
             serial,
-            key: keys[side],
+            keys: keys[side],
             inputs: inputs[side],
             book: books[side],
         };
