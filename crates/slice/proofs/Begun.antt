@@ -3,23 +3,59 @@ use mathlib.Core.Path.{_≡_, refl, sym, _∙_}
 use mathlib.Core.List.{List}
 use Prim.Native.Nat.{ℕ, _+_, _*_, _-_, _/_, _%_, _≤_, _<_}
 use native.Mathlib.Omega.{arith}
-use lib.ListN.{length, getD}
-use lib.Seq.{ext-getD}
+use native.Mathlib.Decide.{decLt}
+use lib.ListN.{length, getD, drop}
+use lib.Seq.{ext-getD, getD-drop}
 use borrow.Author.Tests.{lt-ltb, le-ltb, le-leb, lt-leb}
 use Rattle.lists.specs.Lists.{fill, listTo}
 use Rattle.lists.proofs.Lists.{length-listFrom, getD-listTo, ahead, ahead-fixed, join-at}
-use Rattle.lists.proofs.Fill.{fill-same, fill-next, whole-is}
+use Rattle.lists.proofs.Fill.{fill-before, fill-behind, fill-at, fill-same, fill-next}
 use Rattle.settings.specs.Settings.{Params}
-use Rattle.settings.specs.Sizes.{shared, places}
-use Rattle.slice.specs.Layout.{inputAt, begunPlace, begunWork}
+use Rattle.settings.specs.Sizes.{width, shared, places}
+use Rattle.slice.specs.Layout.{inputAt, begunPlace, begunWork, BookIn}
 
--- ---- a column, written run by run
+-- ---- a book, put into the columns run by run
+
+-- one column more has taken its numbers of a run: the first c columns have all up to the run's end, the others all before the run
+abbrev pub RunIn : List ℕ → ℕ → ℕ → ℕ → List ℕ → Type 0
+RunIn book first n columns work =
+    BookIn book first work × ((c place : ℕ) → c < columns → place < first + n → getD work (c * places + place) 0 ≡ getD book (place * width + c) 0)
+
+pub run-more : (book : List ℕ) (first n c : ℕ) (s s₁ : List ℕ) → c < width → first + n ≤ places → length s ≡ width * places
+    → s₁ ≡ fill s (c * places + first) n (λ (i : ℕ). getD (drop (first * width) book) (i * width + c) 0) → RunIn book first n c s → RunIn book first n (c + 1) s₁
+run-more book first n c s s₁ h room long e (before, done) = rw e (
+  λ d i l k. apart d i k ∙ before d i l k,
+  λ d i l k. by d i k (decLt d c) (decLt i first) (omega arith),
+)
+  where
+    f : ℕ → ℕ
+    f i = getD (drop (first * width) book) (i * width + c) 0
+
+    -- a place before the run is as it was
+    apart : (d i : ℕ) → i < first → getD (fill s (c * places + first) n f) (d * places + i) 0 ≡ getD s (d * places + i) 0
+    apart d i k = go (decLt c d)
+      where
+        go : Dec (c < d) → getD (fill s (c * places + first) n f) (d * places + i) 0 ≡ getD s (d * places + i) 0
+        go (yes x) = fill-behind s (c * places + first) n f (d * places + i) (omega arith)
+        go (no x) = fill-before s (c * places + first) n f (d * places + i) (omega arith)
+
+    by : (d i : ℕ) → i < first + n → Dec (d < c) → Dec (i < first) → d ≤ c
+        → getD (fill s (c * places + first) n f) (d * places + i) 0 ≡ getD book (i * width + d) 0
+    by d i k (yes x) y l = fill-before s (c * places + first) n f (d * places + i) (omega arith) ∙ done d i x k
+    by d i k (no x) (yes y) l = apart d i y ∙ before d i (omega arith) y
+    by d i k (no x) (no y) l =
+        let here : d ≡ c = omega arith in
+        let at : d * places + i ≡ c * places + first + (i - first) = omega arith in
+        let from : first * width + ((i - first) * width + c) ≡ i * width + d = omega arith in
+        rw (at, fill-at s (c * places + first) n f (i - first) (omega arith) (omega arith), getD-drop, from)
+
+-- ---- a column behind the book's numbers
 
 module _ (count n width : ℕ) (inputs book : List ℕ) (c : ℕ) (room : count ≤ inputAt 0) where
   abbrev place : ℕ → ℕ
   place = begunPlace count n width inputs book c
 
-  from-book : (k : ℕ) → k < count → getD book (k * width + c) 0 ≡ place k
+  pub from-book : (k : ℕ) → k < count → getD book (k * width + c) 0 ≡ place k
   unfolding begunPlace
   from-book k h = rw (lt-ltb k count h)
 
@@ -37,29 +73,59 @@ module _ (count n width : ℕ) (inputs book : List ℕ) (c : ℕ) (room : count 
   unfolding begunPlace
   behind-inputs k h = rw (le-ltb k count (omega arith), le-leb (inputAt 0) k (omega arith), le-ltb k (inputAt n) h)
 
-  pub column-is : (s s₁ s₂ s₃ s₄ : List ℕ) (at : ℕ) → n ≤ 8
-      → s₁ ≡ fill s at count (λ (i : ℕ). getD book (i * width + c) 0)
-      → s₂ ≡ fill s₁ (at + count) (inputAt 0 - count) (λ (i : ℕ). 0)
-      → s₃ ≡ fill s₂ (at + inputAt 0) n (λ (i : ℕ). getD inputs (i * width + c) 0)
-      → s₄ ≡ fill s₃ (at + inputAt 0 + n) (places - inputAt 0 - n) (λ (i : ℕ). 0)
-      → s₄ ≡ fill s at places place
-  column-is s s₁ s₂ s₃ s₄ at most e₁ e₂ e₃ e₄ =
-      let t₁ : s₁ ≡ fill s at count place = e₁ ∙ fill-same s at count _ place from-book in
-      let t₂ : s₂ ≡ fill s at (inputAt 0) place = fill-next s s₁ s₂ at _ count _ (inputAt 0) place _ t₁ e₂ refl (omega arith) (λ k h. before-inputs (count + k) (omega arith) (omega arith)) in
-      let t₃ : s₃ ≡ fill s at (inputAt n) place = fill-next s s₂ s₃ at _ (inputAt 0) n (inputAt n) place _ t₂ e₃ refl refl from-inputs in
-      fill-next s s₃ s₄ at _ (inputAt n) _ places place _ t₃ e₄ (omega arith) (omega arith) (λ k h. behind-inputs (inputAt n + k) (omega arith))
+  abbrev behind : ℕ → ℕ
+  behind k = place (count + k)
 
--- ---- columns, written one after the other
+  pub rest-is : (s s₁ s₂ s₃ : List ℕ) (at : ℕ) → n ≤ 8
+      → s₁ ≡ fill s (at + count) (inputAt 0 - count) (λ (i : ℕ). 0)
+      → s₂ ≡ fill s₁ (at + inputAt 0) n (λ (i : ℕ). getD inputs (i * width + c) 0)
+      → s₃ ≡ fill s₂ (at + inputAt 0 + n) (places - inputAt 0 - n) (λ (i : ℕ). 0)
+      → s₃ ≡ fill s (at + count) (places - count) behind
+  rest-is s s₁ s₂ s₃ at most e₁ e₂ e₃ =
+      let t₁ : s₁ ≡ fill s (at + count) (inputAt 0 - count) behind =
+      e₁ ∙ fill-same s (at + count) (inputAt 0 - count) _ behind (λ k h. before-inputs (count + k) (omega arith) (omega arith)) in
+      let t₂ : s₂ ≡ fill s (at + count) (inputAt n - count) behind =
+      fill-next s s₁ s₂ (at + count) _ (inputAt 0 - count) n (inputAt n - count) behind _ t₁ e₂ (omega arith) (omega arith)
+      (λ k h. let e : count + (inputAt 0 - count + k) ≡ inputAt 0 + k = omega arith in rw e (from-inputs k h)) in
+      fill-next s s₂ s₃ (at + count) _ (inputAt n - count) _ (places - count) behind _ t₂ e₃ (omega arith) (omega arith)
+      (λ k h. behind-inputs (count + (inputAt n - count + k)) (omega arith))
 
-module _ (count n width : ℕ) (inputs book : List ℕ) where
-  abbrev pub begunAt : ℕ → ℕ
-  begunAt i = begunPlace count n width inputs book (i / places) (i % places)
+-- ---- columns, finished one after the other
 
-  pub columns-more : (s s₁ s₂ : List ℕ) (c : ℕ) → s₁ ≡ fill s 0 (c * places) begunAt
-      → s₂ ≡ fill s₁ (c * places) places (begunPlace count n width inputs book c) → s₂ ≡ fill s 0 ((c + 1) * places) begunAt
-  columns-more s s₁ s₂ c e₁ e₂ =
-      fill-next s s₁ s₂ 0 (c * places) (c * places) places _ begunAt _ e₁ e₂ (omega arith) (omega arith)
-      (λ k h. let d : (c * places + k) / places ≡ c = omega arith in let m : (c * places + k) % places ≡ k = omega arith in rw (d, m))
+module _ (count n : ℕ) (inputs book : List ℕ) where
+  -- the book stands in all columns, and the first of them are whole
+  abbrev pub Finished : ℕ → List ℕ → Type 0
+  Finished columns work =
+      BookIn book count work
+      × ((c place : ℕ) → c < columns → place < places → getD work (c * places + place) 0 ≡ begunPlace count n width inputs book c place)
+
+  pub finished-more : (c : ℕ) (s s₁ : List ℕ) → c < width → count ≤ inputAt 0 → length s ≡ width * places
+      → s₁ ≡ fill s (c * places + count) (places - count) (λ (k : ℕ). begunPlace count n width inputs book c (count + k))
+      → Finished c s → Finished (c + 1) s₁
+  finished-more c s s₁ h room long e (stands, whole) = rw e (
+    λ d i l k. apart d i k ∙ stands d i l k,
+    λ d i l k. by d i k (decLt d c) (decLt i count) (omega arith),
+  )
+    where
+      f : ℕ → ℕ
+      f k = begunPlace count n width inputs book c (count + k)
+
+      apart : (d i : ℕ) → i < count → getD (fill s (c * places + count) (places - count) f) (d * places + i) 0 ≡ getD s (d * places + i) 0
+      apart d i k = go (decLt c d)
+        where
+          go : Dec (c < d) → getD (fill s (c * places + count) (places - count) f) (d * places + i) 0 ≡ getD s (d * places + i) 0
+          go (yes x) = fill-behind s (c * places + count) (places - count) f (d * places + i) (omega arith)
+          go (no x) = fill-before s (c * places + count) (places - count) f (d * places + i) (omega arith)
+
+      by : (d i : ℕ) → i < places → Dec (d < c) → Dec (i < count) → d ≤ c
+          → getD (fill s (c * places + count) (places - count) f) (d * places + i) 0 ≡ begunPlace count n width inputs book d i
+      by d i k (yes x) y l = fill-before s (c * places + count) (places - count) f (d * places + i) (omega arith) ∙ whole d i x k
+      by d i k (no x) (yes y) l = apart d i y ∙ stands d i (omega arith) y ∙ from-book count n width inputs book d room i y
+      by d i k (no x) (no y) l =
+          let here : d ≡ c = omega arith in
+          let at : d * places + i ≡ c * places + count + (i - count) = omega arith in
+          let back : count + (i - count) ≡ i = omega arith in
+          rw (at, fill-at s (c * places + count) (places - count) f (i - count) (omega arith) (omega arith), back, here)
 
 -- ---- the whole slice
 
@@ -81,13 +147,10 @@ module _ (p : Params) (width : ℕ) (inputs book : List ℕ) where
       (join-at width begunColumn 0 c i h (rw (length-listFrom 0 places (begunPlace (shared p) (p .n) width inputs book c)) l)
       ∙ getD-listTo places (begunPlace (shared p) (p .n) width inputs book c) i 0 l)
 
-  pub columns-all : (s : List ℕ) → length s ≡ width * places → fill s 0 (width * places) (begunAt (shared p) (p .n) width inputs book) ≡ begunWork p width inputs book
-  columns-all s h =
-      whole-is s (width * places) each h
-      ∙ ext-getD 0 _ _ (length-listFrom 0 (width * places) each ∙ sym begun-length)
-      (λ j l. let b : j < width * places = omega (arith, length-listFrom 0 (width * places) each) in
+  pub begun-all : (s : List ℕ) → length s ≡ width * places
+      → ((c place : ℕ) → c < width → place < places → getD s (c * places + place) 0 ≡ begunPlace (shared p) (p .n) width inputs book c place)
+      → s ≡ begunWork p width inputs book
+  begun-all s long whole =
+      ext-getD 0 s (begunWork p width inputs book) (long ∙ sym begun-length) (λ j l.
       let e : j / places * places + j % places ≡ j = omega arith in
-      getD-listTo (width * places) each j 0 b ∙ rw e at (sym (begun-at (j / places) (j % places) (omega arith) (omega arith))))
-    where
-      each : ℕ → ℕ
-      each = begunAt (shared p) (p .n) width inputs book
+      rw e at (whole (j / places) (j % places) (omega arith) (omega arith) ∙ sym (begun-at (j / places) (j % places) (omega arith) (omega arith))))

@@ -1,6 +1,7 @@
 -- The working slice: columns of 1,536 places, one after the other; a column is one number of each shared number.
 -- In a column the book comes first, then these.
-use Prim.Native.Nat.{ℕ, _+_, _*_, _-_}
+use Prim.Native.Nat.{ℕ, _+_, _*_, _-_, _<_}
+use mathlib.Core.Path.{_≡_}
 use mathlib.Core.Bool.{cond, _&&_}
 use mathlib.Core.List.{List, _∷_, _++_}
 use lib.Dec.{eqb, leb, ltb}
@@ -8,7 +9,7 @@ use lib.ListN.{getD, replicate}
 use Rattle.lists.specs.Lists.{listTo, joinTo}
 use Rattle.field.specs.Forms.{Registers}
 use Rattle.settings.specs.Settings.{Params}
-use Rattle.settings.specs.Sizes.{places, shared}
+use Rattle.settings.specs.Sizes.{width, places, shared}
 
 -- the input of coefficient j
 abbrev pub inputAt : ℕ → ℕ
@@ -51,6 +52,10 @@ begunPlace count n width inputs book c place =
 unfoldable pub begunWork : Params → ℕ → List ℕ → List ℕ → List ℕ
 begunWork p width inputs book =
     joinTo width (λ (c : ℕ). listTo places (begunPlace (shared p) (p .n) width inputs book c))
+
+-- the first n shared numbers of a book stand in their columns: what begin has written before all else
+abbrev pub BookIn : List ℕ → ℕ → List ℕ → Type 0
+BookIn book n work = (c place : ℕ) → c < width → place < n → getD work (c * places + place) 0 ≡ getD book (place * width + c) 0
 
 -- "Adding a public k: the server adds k to its share, and each side adds own key × k to its part under its own key", under each of its
 -- own keys: what a public 1 adds to each column on side `number`, with k keys a side

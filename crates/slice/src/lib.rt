@@ -3,6 +3,7 @@
 // knows each place and digit to be in its range.
 ghost use mathlib.Core.Path.{_≡_};
 ghost use mathlib.Core.Bool.{cond};
+ghost use mathlib.Core.List.{List};
 ghost use mathlib.Core.Logic.{_⊎_};
 ghost use Prim.Native.Nat.{ℕ, _+_, _*_, _-_, _%_, _≤_, _<_};
 ghost use lib.Dec.{leb, ltb};
@@ -15,7 +16,7 @@ ghost use Rattle.settings.specs.Questions.{ShapeReady};
 ghost use Rattle.settings.specs.Sets.{topDigits};
 ghost use Rattle.settings.specs.Settings.{paramsOf};
 ghost use Rattle.settings.specs.Sizes.{keyCount, width, mostOpenings, shared, places, workLength};
-ghost use Rattle.slice.specs.Layout.{ownAt, column, ownIn, maskedIn, begunPlace, begunWork, weights};
+ghost use Rattle.slice.specs.Layout.{ownAt, column, ownIn, maskedIn, begunPlace, begunWork, BookIn, weights};
 ghost use Rattle.slice.specs.Weights.{weigh, topRises, TopFits};
 ghost use Rattle.slice.specs.declared.Rule.the-variants.{Zero, Top};
 use field::Q;
@@ -66,6 +67,9 @@ pub struct Weighted {
 // stores many bytes at a time; for more it uses one instruction that is counted once for each byte, and takes as long.
 const BLOCK: usize = 512;
 
+// How many shared numbers of a book are put into the columns at a time.
+const RUN: usize = 64;
+
 // Sets a run of places to 0.
 fn clear_block(work: &mut [u32], at: usize, count: usize)
     requires { ⌜ at + count ≤ length (now work) ⌝ }
@@ -103,20 +107,39 @@ fn load(work: &mut [u32], at: usize, from: &[u32], column: usize, count: usize)
     }
 }
 
-// A column: the book's numbers, zeros, the inputs, zeros. Each place is written once.
-fn begin_column(
-    work: &mut [u32],
-    column: usize,
-    book: &[u32],
-    count: usize,
-    inputs: &[u32],
-    n: usize,
-)
-    requires { ⌜ (column < width) × (length (now work) ≡ workLength keyCount) × (count ≤ 1320) × (n ≤ 8) × (count * width ≤ length (now book)) × (n * width ≤ length (now inputs)) ⌝ }
-    ensures { λ _. ⌜ now (work .exit) ≡ fill (now (work .entry)) (column * places) places (begunPlace count n width (now (inputs .entry)) (now (book .entry)) column) ⌝ }
+// n shared numbers of a book, from number `first` on, into all columns.
+fn load_run(work: &mut [u32], book: &[u32], first: usize, n: usize)
+    requires { ⌜ (length (now work) ≡ workLength keyCount) × (first + n ≤ 1320) × ((first + n) * width ≤ length (now book)) ⌝ }
+    ensures { λ _. ⌜ (BookIn (now (book .entry)) first (now (work .entry)) → BookIn (now (book .entry)) (first + n) (now (work .exit))) ⌝ }
+{
+    let from = first * WIDTH;
+    let mut c = 0;
+    while c < WIDTH {
+        load(work, c * PLACES + first, &book[from..], c, n);
+        c += 1;
+    }
+}
+
+// A book, some shared numbers at a time: those of one time stay in the processor's cache while each column takes its own.
+fn load_book(work: &mut [u32], book: &[u32], count: usize)
+    requires { ⌜ (length (now work) ≡ workLength keyCount) × (count ≤ 1320) × (count * width ≤ length (now book)) ⌝ }
+    ensures { λ _. ⌜ BookIn (now (book .entry)) count (now (work .exit)) ⌝ }
+{
+    let mut done = 0;
+    while done < count {
+        let more = least(RUN, count - done);
+        load_run(work, book, done, more);
+        done += more;
+    }
+}
+
+// A column behind the book's numbers: zeros, the inputs, zeros. Each place is written once.
+fn finish_column(work: &mut [u32], column: usize, count: usize, inputs: &[u32], n: usize)
+    requires { ⌜ (column < width) × (length (now work) ≡ workLength keyCount) × (count ≤ 1320) × (n ≤ 8) × (n * width ≤ length (now inputs)) ⌝ }
+    ensures { λ _. ⌜ ((book : List ℕ) → now (work .exit) ≡ fill (now (work .entry)) (column * places + count) (places - count)
+        (λ (k : ℕ). begunPlace count n width (now (inputs .entry)) book column (count + k))) ⌝ }
 {
     let at = column * PLACES;
-    load(work, at, book, column, count);
     clear(work, at + count, INPUT - count);
     load(work, at + INPUT, inputs, column, n);
     clear(work, at + INPUT + n, PLACES - INPUT - n);
@@ -130,9 +153,10 @@ pub fn begin_work(work: &mut [u32], shape: Shape, inputs: &[u32], book: &[u32])
 {
     let count = shared_of(shape);
     let n = shape.n as usize;
+    load_book(work, book, count);
     let mut c = 0;
     while c < WIDTH {
-        begin_column(work, c, book, count, inputs, n);
+        finish_column(work, c, count, inputs, n);
         c += 1;
     }
 }

@@ -1,40 +1,53 @@
 -- `slice::begin_work` meets its contract.
 use borrow.Author.Needs.{needs}
-use mathlib.Core.Path.{_≡_, refl, sym, ap, _∙_}
-use Prim.Native.Nat.{_≤_, _-_, _*_}
+use mathlib.Core.Path.{_≡_, refl}
+use Prim.Native.Nat.{_≤_, _-_}
 use native.Mathlib.Omega.{arith}
 use lib.ListN.{length}
-use Rattle.lists.specs.Lists.{fill}
-use Rattle.lists.proofs.Fill.{fill-none, length-fill}
 use Rattle.settings.specs.Settings.{paramsOf}
-use Rattle.settings.specs.Sizes.{width, places}
-use Rattle.slice.proofs.Begun.{begunAt, columns-more, columns-all}
+use Rattle.settings.specs.Sizes.{width}
+use Rattle.slice.proofs.Begun.{Finished, finished-more, begun-all}
 use Rattle.slice.proofs.begin_work.Statement.{statement}
 use Rattle.slice.proofs.begin_work.Tie as tie
 
 abbrev Inv-loop : tie.InvT-loop
-Inv-loop work₀ inputs book count n c₀ work c = (c ≤ width) × (work ≡ fill work₀ 0 (c * places) (begunAt count n width inputs book)) × (length work ≡ length work₀)
+Inv-loop work₀ inputs book count n c₀ work c = (c ≤ width) × (length work ≡ length work₀) × Finished count n inputs book c work
 
 abbrev μ-loop : tie.MeasureT-loop
 μ-loop work₀ inputs book count n c₀ work c = width - c
 
+loop-holds : tie.Need-loop-holds Inv-loop μ-loop
+loop-holds c = (omega arith, refl, (c .before .before .load-book .ensures, λ d i h l. absurd (omega arith)))
+
 loop-again : tie.Need-loop-again Inv-loop μ-loop
 loop-again c =
-    let column = c .before .before .begin-column .ensures in (
+    let at = c .before .before .before .before .before .loop in
+    let a = c .before .before .before .before .before .before .before .before .before .before .before .before .before .before .before .args in (
       omega arith,
-      columns-more _ _ _ _ _ _ _ _ _ (c .before .before .before .before .before .loop .inv .1) column,
-      ap length column ∙ length-fill _ _ _ _ ∙ c .before .before .before .before .before .loop .inv .2,
+      search needs,
+      finished-more _ _ (a .inputs .now) (a .book .now) (at .c) (at .work) _ (omega arith) (omega arith) (omega arith) (c .before .before .finish-column .ensures (a .book .now)) (at .inv .2),
     )
 
 returns : tie.Need-returns Inv-loop μ-loop
 returns c =
-    let a = c .before .before .before .before .before .before .before .args in
-    let e : c .before .loop .c ≡ width = omega arith in
-    let all = rw (e, c .before .before .before .shared-of .ensures .0) at (c .before .loop .inv .1) in
-    all ∙ columns-all (paramsOf (a .shape)) width (a .inputs .now) (a .book .now) (a .work .now) (c .before .before .before .before .before .before .before .pre .1 .2)
+    let a = c .before .before .before .before .before .before .before .before .before .before .before .args in
+    let at = c .before .loop in
+    begun-all (paramsOf (a .shape)) width (a .inputs .now) (a .book .now) (at .work) (omega arith) (λ d i h l.
+    rw (← c .before .before .before .before .before .before .before .shared-of .ensures .0) (at .inv .2 .1 d i (omega arith) l))
 
 pub begin-work-spec : {M : Type 1} → statement M
 begin-work-spec =
     tie.close
-    (tie.spec Inv-loop μ-loop (λ c κs. search needs) (λ c. search needs) (λ c. (omega arith, sym (fill-none _ _ _), refl)) (λ c κs. search needs) (λ c. omega arith) (λ c. omega arith)
-    loop-again (λ c. search needs) returns)
+    (tie.spec
+    Inv-loop
+    μ-loop
+    (λ c κs. search needs)
+    (λ c. search needs)
+    (λ c κs. omega arith)
+    loop-holds
+    (λ c κs. omega arith)
+    (λ c. omega arith)
+    (λ c. omega arith)
+    loop-again
+    (λ c. search needs)
+    returns)

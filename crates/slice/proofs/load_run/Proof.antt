@@ -1,0 +1,54 @@
+-- `slice::load_run` meets its contract.
+use borrow.Author.Needs.{needs}
+use mathlib.Core.Path.{_≡_, refl, ap, _∙_}
+use Prim.Native.Nat.{_≤_, _-_, _+_, _*_}
+use native.Mathlib.Omega.{arith}
+use lib.ListN.{length, drop, length-drop}
+use lib.Seq.{take-all}
+use Rattle.lists.proofs.Fill.{length-fill}
+use Rattle.settings.specs.Sizes.{width}
+use Rattle.slice.specs.Layout.{BookIn}
+use Rattle.slice.proofs.Begun.{RunIn, run-more}
+use Rattle.slice.proofs.load_run.Statement.{statement}
+use Rattle.slice.proofs.load_run.Tie as tie
+
+abbrev Inv-loop : tie.InvT-loop
+Inv-loop work₀ book first n from c₀ work c = (c ≤ width) × (length work ≡ length work₀) × (BookIn book first work₀ → RunIn book first n c work)
+
+abbrev μ-loop : tie.MeasureT-loop
+μ-loop work₀ book first n from c₀ work c = width - c
+
+loop-again : tie.Need-loop-again Inv-loop μ-loop
+loop-again c =
+    let at = c .before .before .before .before .before .before .loop in
+    let a = c .before .before .before .before .before .before .before .before .before .args in
+    let part = take-all (length (a .book .now) - a .first * width) (drop (a .first * width) (a .book .now)) (omega (arith, length-drop (a .first * width) (a .book .now))) in
+    let load = rw part at (c .before .before .load .ensures) in (
+      omega arith,
+      ap length load ∙ length-fill _ _ _ _ ∙ at .inv .1,
+      λ b. run-more (a .book .now) (a .first) (a .n) (at .c) (at .work) _ (omega arith) (omega arith) (omega arith) load (at .inv .2 b),
+    )
+
+returns : tie.Need-returns Inv-loop μ-loop
+returns c = λ b d i h l. c .before .loop .inv .2 b .1 d i (omega arith) l
+
+pub load-run-spec : {M : Type 1} → statement M
+load-run-spec =
+    tie.close
+    (tie.spec
+    Inv-loop
+    μ-loop
+    (λ c. omega arith)
+    (λ c. (omega arith, refl, λ b. (b, λ d i l k. absurd (omega arith))))
+    (λ c. omega arith)
+    (λ c. omega arith)
+    (λ c. omega arith)
+    (λ c. omega arith)
+    (λ c. omega arith)
+    (λ c. omega arith)
+    (λ c κs. omega arith)
+    (λ c. omega arith)
+    (λ c. omega arith)
+    loop-again
+    (λ c. search needs)
+    returns)
