@@ -89,8 +89,8 @@ unfoldable pub drawnIn : List Entry → ℕ
 drawnIn [] = 0
 drawnIn (entry ∷ entries) = bit (isDrawn entry) + drawnIn entries
 
--- "and the phone's nine numbers for every shared number of the book, in book order, a drawn number just before its own nine" (02), `width`
--- for nine: where the numbers for place e begin in the draw
+-- "and the phone's nine numbers for every shared number of the book, in book order, a drawn number just before its own nine" (01 as
+-- amended), `width` for nine: where the numbers for place e begin in the draw
 unfoldable pub drawAt : Params → ℕ → ℕ → ℕ
 drawAt p width e = e * width + drawnIn (take e (plan p))
 

@@ -12,7 +12,8 @@ use Rattle.book.specs.Book.{entryOf, isDrawn, drawAt, drawn, phoneNumber}
 use Rattle.generator.specs.Step.{step, stepped, outputs}
 
 -- "in the order of the book, each number followed by the phone's nine numbers for it. A derived c draws only the phone's nine, and a
--- vector's entries do likewise" (02), `width` for nine: place e has its numbers from output `drawAt` on, first its drawn number if it has one
+-- vector's entries do likewise" (02 as amended), `width` for nine: place e has its numbers from output `drawAt` on, first its drawn number if
+-- it has one
 module _ (p : Params) (width state : ℕ) where
   pub record Order : Type 0 where
     pub drawn-is : (e : ℕ) → e < shared p → isDrawn (entryOf p e) ≡ true

@@ -89,7 +89,7 @@ groups p = cond (eqb (p .kind) 0) (p .n) 1
 abbrev pub drawnNumbers : Params → ℕ
 drawnNumbers p = 17 * p .n + groups p
 
--- ".. and the phone's nine numbers for every shared number of the book" (02): how many numbers a draw has, w the width of a shared number
+-- ".. and the phone's nine numbers for every shared number of the book" (01 as amended): how many numbers a draw has, w for nine
 unfoldable pub drawLength : Params → ℕ → ℕ
 drawLength p w = shared p * w + drawnNumbers p
 

@@ -36,7 +36,7 @@ pub record SizeLaws : Type 0 where
   -- "A shared number becomes nine numbers"; "An opening carries one share and four parts" (02)
   pub nine : width ≡ 9
   pub five : (p : Params) (round : ℕ) → fieldCount keyCount p round ≡ 5 * openings p round
-  -- "every r, a, b, ρ and the phone's nine numbers" (02)
+  -- "every r, a, b, ρ and the phone's nine numbers" (01 as amended)
   pub high-draw : (set n : ℕ) → drawLength (ofSet set 0 n) width ≡ 9 * shared (ofSet set 0 n) + 18 * n
   pub bound-draw : (set n : ℕ) → drawLength (ofSet set 1 n) width ≡ 9 * shared (ofSet set 1 n) + (17 * n + 1)
   -- "Openings in all: 19N or 17N + 2"
