@@ -14,40 +14,48 @@ use Rattle.settings.specs.Settings.{Params}
 use Rattle.settings.specs.Sizes.{width, shared, places}
 use Rattle.slice.specs.Layout.{inputAt, begunPlace, begunWork, BookIn}
 
--- ---- a book, put into the columns run by run
+-- ---- a column filled from a place on
 
--- one column more has taken its numbers of a run: the first c columns have all up to the run's end, the others all before the run
-abbrev pub RunIn : List ℕ → ℕ → ℕ → ℕ → List ℕ → Type 0
-RunIn book first n columns work =
+module _ (s : List ℕ) (c a m : ℕ) (f : ℕ → ℕ) (room : a + m ≤ places) where
+  -- what stands before it in this column, and in the other columns, is as it was
+  apart : (d i : ℕ) → i < places → (d ≡ c → i < a) → getD (fill s (c * places + a) m f) (d * places + i) 0 ≡ getD s (d * places + i) 0
+  apart d i h l = go (decLt c d) (decLt d c)
+    where
+      go : Dec (c < d) → Dec (d < c) → getD (fill s (c * places + a) m f) (d * places + i) 0 ≡ getD s (d * places + i) 0
+      go (yes x) y = fill-behind s (c * places + a) m f (d * places + i) (omega arith)
+      go (no x) (yes y) = fill-before s (c * places + a) m f (d * places + i) (omega arith)
+      go (no x) (no y) = let here : d ≡ c = omega arith in fill-before s (c * places + a) m f (d * places + i) (omega (arith, l here))
+
+  filled : (d i : ℕ) → d ≡ c → a ≤ i → i < a + m → c * places + (a + m) ≤ length s → getD (fill s (c * places + a) m f) (d * places + i) 0 ≡ f (i - a)
+  filled d i e l h long =
+      let at : d * places + i ≡ c * places + a + (i - a) = omega arith in
+      rw at (fill-at s (c * places + a) m f (i - a) (omega arith) (omega arith))
+
+-- ---- a book, put into the columns batch by batch
+
+-- one column more has taken its numbers of a batch: the first c columns have all up to the batch's end, the others all before the batch
+abbrev pub BatchIn : List ℕ → ℕ → ℕ → ℕ → List ℕ → Type 0
+BatchIn book first n columns work =
     BookIn book first work × ((c place : ℕ) → c < columns → place < first + n → getD work (c * places + place) 0 ≡ getD book (place * width + c) 0)
 
-pub run-more : (book : List ℕ) (first n c : ℕ) (s s₁ : List ℕ) → c < width → first + n ≤ places → length s ≡ width * places
-    → s₁ ≡ fill s (c * places + first) n (λ (i : ℕ). getD (drop (first * width) book) (i * width + c) 0) → RunIn book first n c s → RunIn book first n (c + 1) s₁
-run-more book first n c s s₁ h room long e (before, done) = rw e (
-  λ d i l k. apart d i k ∙ before d i l k,
+pub batch-more : (book : List ℕ) (first n c : ℕ) (s s₁ : List ℕ) → c < width → first + n ≤ places → length s ≡ width * places
+    → s₁ ≡ fill s (c * places + first) n (λ (i : ℕ). getD (drop (first * width) book) (i * width + c) 0) → BatchIn book first n c s
+    → BatchIn book first n (c + 1) s₁
+batch-more book first n c s s₁ h room long e (before, done) = rw e (
+  λ d i l k. apart s c first n f room d i (omega arith) (λ x. k) ∙ before d i l k,
   λ d i l k. by d i k (decLt d c) (decLt i first) (omega arith),
 )
   where
     f : ℕ → ℕ
     f i = getD (drop (first * width) book) (i * width + c) 0
 
-    -- a place before the run is as it was
-    apart : (d i : ℕ) → i < first → getD (fill s (c * places + first) n f) (d * places + i) 0 ≡ getD s (d * places + i) 0
-    apart d i k = go (decLt c d)
-      where
-        go : Dec (c < d) → getD (fill s (c * places + first) n f) (d * places + i) 0 ≡ getD s (d * places + i) 0
-        go (yes x) = fill-behind s (c * places + first) n f (d * places + i) (omega arith)
-        go (no x) = fill-before s (c * places + first) n f (d * places + i) (omega arith)
-
     by : (d i : ℕ) → i < first + n → Dec (d < c) → Dec (i < first) → d ≤ c
         → getD (fill s (c * places + first) n f) (d * places + i) 0 ≡ getD book (i * width + d) 0
-    by d i k (yes x) y l = fill-before s (c * places + first) n f (d * places + i) (omega arith) ∙ done d i x k
-    by d i k (no x) (yes y) l = apart d i y ∙ before d i (omega arith) y
+    by d i k (yes x) y l = apart s c first n f room d i (omega arith) (λ z. absurd (omega arith)) ∙ done d i x k
+    by d i k (no x) (yes y) l = apart s c first n f room d i (omega arith) (λ z. y) ∙ before d i (omega arith) y
     by d i k (no x) (no y) l =
-        let here : d ≡ c = omega arith in
-        let at : d * places + i ≡ c * places + first + (i - first) = omega arith in
         let from : first * width + ((i - first) * width + c) ≡ i * width + d = omega arith in
-        rw (at, fill-at s (c * places + first) n f (i - first) (omega arith) (omega arith), getD-drop, from)
+        filled s c first n f room d i (omega arith) (omega arith) k (omega arith) ∙ rw (getD-drop, from)
 
 -- ---- a column behind the book's numbers
 
@@ -103,29 +111,22 @@ module _ (count n : ℕ) (inputs book : List ℕ) where
       → s₁ ≡ fill s (c * places + count) (places - count) (λ (k : ℕ). begunPlace count n width inputs book c (count + k))
       → Finished c s → Finished (c + 1) s₁
   finished-more c s s₁ h room long e (stands, whole) = rw e (
-    λ d i l k. apart d i k ∙ stands d i l k,
+    λ d i l k. apart s c count (places - count) f (omega arith) d i (omega arith) (λ x. k) ∙ stands d i l k,
     λ d i l k. by d i k (decLt d c) (decLt i count) (omega arith),
   )
     where
       f : ℕ → ℕ
       f k = begunPlace count n width inputs book c (count + k)
 
-      apart : (d i : ℕ) → i < count → getD (fill s (c * places + count) (places - count) f) (d * places + i) 0 ≡ getD s (d * places + i) 0
-      apart d i k = go (decLt c d)
-        where
-          go : Dec (c < d) → getD (fill s (c * places + count) (places - count) f) (d * places + i) 0 ≡ getD s (d * places + i) 0
-          go (yes x) = fill-behind s (c * places + count) (places - count) f (d * places + i) (omega arith)
-          go (no x) = fill-before s (c * places + count) (places - count) f (d * places + i) (omega arith)
-
       by : (d i : ℕ) → i < places → Dec (d < c) → Dec (i < count) → d ≤ c
           → getD (fill s (c * places + count) (places - count) f) (d * places + i) 0 ≡ begunPlace count n width inputs book d i
-      by d i k (yes x) y l = fill-before s (c * places + count) (places - count) f (d * places + i) (omega arith) ∙ whole d i x k
-      by d i k (no x) (yes y) l = apart d i y ∙ stands d i (omega arith) y ∙ from-book count n width inputs book d room i y
+      by d i k (yes x) y l = apart s c count (places - count) f (omega arith) d i k (λ z. absurd (omega arith)) ∙ whole d i x k
+      by d i k (no x) (yes y) l =
+          apart s c count (places - count) f (omega arith) d i k (λ z. y) ∙ stands d i (omega arith) y ∙ from-book count n width inputs book d room i y
       by d i k (no x) (no y) l =
           let here : d ≡ c = omega arith in
-          let at : d * places + i ≡ c * places + count + (i - count) = omega arith in
           let back : count + (i - count) ≡ i = omega arith in
-          rw (at, fill-at s (c * places + count) (places - count) f (i - count) (omega arith) (omega arith), back, here)
+          filled s c count (places - count) f (omega arith) d i here (omega arith) (omega arith) (omega arith) ∙ rw (back, here)
 
 -- ---- the whole slice
 

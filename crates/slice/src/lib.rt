@@ -68,7 +68,7 @@ pub struct Weighted {
 const BLOCK: usize = 512;
 
 // How many shared numbers of a book are put into the columns at a time.
-const RUN: usize = 64;
+const BATCH: usize = 64;
 
 // Sets a run of places to 0.
 fn clear_block(work: &mut [u32], at: usize, count: usize)
@@ -107,8 +107,8 @@ fn load(work: &mut [u32], at: usize, from: &[u32], column: usize, count: usize)
     }
 }
 
-// n shared numbers of a book, from number `first` on, into all columns.
-fn load_run(work: &mut [u32], book: &[u32], first: usize, n: usize)
+// A batch: n shared numbers of a book, from number `first` on, into all columns.
+fn load_batch(work: &mut [u32], book: &[u32], first: usize, n: usize)
     requires { ⌜ (length (now work) ≡ workLength keyCount) × (first + n ≤ 1320) × ((first + n) * width ≤ length (now book)) ⌝ }
     ensures { λ _. ⌜ (BookIn (now (book .entry)) first (now (work .entry)) → BookIn (now (book .entry)) (first + n) (now (work .exit))) ⌝ }
 {
@@ -120,15 +120,16 @@ fn load_run(work: &mut [u32], book: &[u32], first: usize, n: usize)
     }
 }
 
-// A book, some shared numbers at a time: those of one time stay in the processor's cache while each column takes its own.
+// A book, a batch of shared numbers at a time: a batch stays in the processor's cache while each column takes its own. What stands behind the
+// book's numbers is left open: `finish_column` writes all of it.
 fn load_book(work: &mut [u32], book: &[u32], count: usize)
     requires { ⌜ (length (now work) ≡ workLength keyCount) × (count ≤ 1320) × (count * width ≤ length (now book)) ⌝ }
     ensures { λ _. ⌜ BookIn (now (book .entry)) count (now (work .exit)) ⌝ }
 {
     let mut done = 0;
     while done < count {
-        let more = least(RUN, count - done);
-        load_run(work, book, done, more);
+        let more = least(BATCH, count - done);
+        load_batch(work, book, done, more);
         done += more;
     }
 }

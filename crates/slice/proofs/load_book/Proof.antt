@@ -15,7 +15,7 @@ abbrev μ-loop : tie.MeasureT-loop
 μ-loop work₀ book count done₀ work done = count - done
 
 loop-again : tie.Need-loop-again Inv-loop μ-loop
-loop-again c = (omega arith, search needs, c .before .before .load-run .ensures (c .before .before .before .before .before .before .loop .inv .2))
+loop-again c = (omega arith, search needs, c .before .before .load-batch .ensures (c .before .before .before .before .before .before .loop .inv .2))
 
 returns : tie.Need-returns Inv-loop μ-loop
 returns c = λ d i h l. c .before .loop .inv .2 d i h (omega arith)

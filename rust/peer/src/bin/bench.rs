@@ -65,21 +65,9 @@ fn run() -> Result<(), Failure> {
     }
     let peer = env::current_exe()?.with_file_name("line_program");
     let programs = [
-        Program {
-            name: "other",
-            path: PathBuf::from(other),
-            early: false,
-        },
-        Program {
-            name: "peer",
-            path: peer.clone(),
-            early: false,
-        },
-        Program {
-            name: "peer --early",
-            path: peer,
-            early: true,
-        },
+        Program { name: "other", path: PathBuf::from(other), early: false },
+        Program { name: "peer", path: peer.clone(), early: false },
+        Program { name: "peer --early", path: peer, early: true },
     ];
     let files = Files::new()?;
 

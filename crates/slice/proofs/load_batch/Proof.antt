@@ -1,4 +1,4 @@
--- `slice::load_run` meets its contract.
+-- `slice::load_batch` meets its contract.
 use borrow.Author.Needs.{needs}
 use mathlib.Core.Path.{_≡_, refl, ap, _∙_}
 use Prim.Native.Nat.{_≤_, _-_, _+_, _*_}
@@ -8,12 +8,12 @@ use lib.Seq.{take-all}
 use Rattle.lists.proofs.Fill.{length-fill}
 use Rattle.settings.specs.Sizes.{width}
 use Rattle.slice.specs.Layout.{BookIn}
-use Rattle.slice.proofs.Begun.{RunIn, run-more}
-use Rattle.slice.proofs.load_run.Statement.{statement}
-use Rattle.slice.proofs.load_run.Tie as tie
+use Rattle.slice.proofs.Begun.{BatchIn, batch-more}
+use Rattle.slice.proofs.load_batch.Statement.{statement}
+use Rattle.slice.proofs.load_batch.Tie as tie
 
 abbrev Inv-loop : tie.InvT-loop
-Inv-loop work₀ book first n from c₀ work c = (c ≤ width) × (length work ≡ length work₀) × (BookIn book first work₀ → RunIn book first n c work)
+Inv-loop work₀ book first n from c₀ work c = (c ≤ width) × (length work ≡ length work₀) × (BookIn book first work₀ → BatchIn book first n c work)
 
 abbrev μ-loop : tie.MeasureT-loop
 μ-loop work₀ book first n from c₀ work c = width - c
@@ -26,14 +26,14 @@ loop-again c =
     let load = rw part at (c .before .before .load .ensures) in (
       omega arith,
       ap length load ∙ length-fill _ _ _ _ ∙ at .inv .1,
-      λ b. run-more (a .book .now) (a .first) (a .n) (at .c) (at .work) _ (omega arith) (omega arith) (omega arith) load (at .inv .2 b),
+      λ b. batch-more (a .book .now) (a .first) (a .n) (at .c) (at .work) _ (omega arith) (omega arith) (omega arith) load (at .inv .2 b),
     )
 
 returns : tie.Need-returns Inv-loop μ-loop
 returns c = λ b d i h l. c .before .loop .inv .2 b .1 d i (omega arith) l
 
-pub load-run-spec : {M : Type 1} → statement M
-load-run-spec =
+pub load-batch-spec : {M : Type 1} → statement M
+load-batch-spec =
     tie.close
     (tie.spec
     Inv-loop
