@@ -1,5 +1,5 @@
 -- The working slice as begin sets it, place by place, and as it is written.
-use mathlib.Core.Path.{_≡_, refl, sym, _∙_}
+use mathlib.Core.Path.{_≡_, sym, ap, _∙_}
 use mathlib.Core.List.{List}
 use Prim.Native.Nat.{ℕ, _+_, _*_, _-_, _/_, _%_, _≤_, _<_}
 use native.Mathlib.Omega.{arith}
@@ -12,50 +12,122 @@ use Rattle.lists.proofs.Lists.{length-listFrom, getD-listTo, ahead, ahead-fixed
 use Rattle.lists.proofs.Fill.{fill-before, fill-behind, fill-at, fill-same, fill-next}
 use Rattle.settings.specs.Settings.{Params}
 use Rattle.settings.specs.Sizes.{width, shared, places}
-use Rattle.slice.specs.Layout.{inputAt, begunPlace, begunWork, BookIn}
+use Rattle.slice.specs.Layout.{inputAt, begunPlace, columnsOf, begunWork, batchPlace, withBatch}
 
--- ---- a column filled from a place on
+-- ---- a slice of columns
 
-module _ (s : List ℕ) (c a m : ℕ) (f : ℕ → ℕ) (room : a + m ≤ places) where
-  -- what stands before it in this column, and in the other columns, is as it was
-  apart : (d i : ℕ) → i < places → (d ≡ c → i < a) → getD (fill s (c * places + a) m f) (d * places + i) 0 ≡ getD s (d * places + i) 0
-  apart d i h l = go (decLt c d) (decLt d c)
-    where
-      go : Dec (c < d) → Dec (d < c) → getD (fill s (c * places + a) m f) (d * places + i) 0 ≡ getD s (d * places + i) 0
-      go (yes x) y = fill-behind s (c * places + a) m f (d * places + i) (omega arith)
-      go (no x) (yes y) = fill-before s (c * places + a) m f (d * places + i) (omega arith)
-      go (no x) (no y) = let here : d ≡ c = omega arith in fill-before s (c * places + a) m f (d * places + i) (omega (arith, l here))
+module _ (width : ℕ) (f : ℕ → ℕ → ℕ) where
+  columns-ahead : (c : ℕ) → ahead 0 c (λ (x : ℕ). listTo places (f x)) ≡ c * places
+  columns-ahead c = ahead-fixed places c (λ (x : ℕ). listTo places (f x)) (λ x. length-listFrom 0 places (f x))
 
-  filled : (d i : ℕ) → d ≡ c → a ≤ i → i < a + m → c * places + (a + m) ≤ length s → getD (fill s (c * places + a) m f) (d * places + i) 0 ≡ f (i - a)
-  filled d i e l h long =
-      let at : d * places + i ≡ c * places + a + (i - a) = omega arith in
-      rw at (fill-at s (c * places + a) m f (i - a) (omega arith) (omega arith))
+  columns-length : length (columnsOf width f) ≡ width * places
+  columns-length = columns-ahead width
+
+  columns-at : (c i : ℕ) → c < width → i < places → getD (columnsOf width f) (c * places + i) 0 ≡ f c i
+  columns-at c i h l =
+      rw (← columns-ahead c)
+      (join-at width (λ (x : ℕ). listTo places (f x)) 0 c i h (rw (length-listFrom 0 places (f c)) l) ∙ getD-listTo places (f c) i 0 l)
+
+  columns-all : (s : List ℕ) → length s ≡ width * places → ((c i : ℕ) → c < width → i < places → getD s (c * places + i) 0 ≡ f c i)
+      → s ≡ columnsOf width f
+  columns-all s long each =
+      ext-getD 0 s (columnsOf width f) (long ∙ sym columns-length) (λ j l.
+      let e : j / places * places + j % places ≡ j = omega arith in
+      rw e at (each (j / places) (j % places) (omega arith) (omega arith) ∙ sym (columns-at (j / places) (j % places) (omega arith) (omega arith))))
+
+-- ---- columns written one after the other
+
+-- the first columns have the numbers of f, the others are as they were in s
+abbrev pub Written : List ℕ → (ℕ → ℕ → ℕ) → ℕ → List ℕ → Type 0
+Written s f columns work =
+    ((c i : ℕ) → c < columns → i < places → getD work (c * places + i) 0 ≡ f c i)
+    × ((c i : ℕ) → columns ≤ c → i < places → getD work (c * places + i) 0 ≡ getD s (c * places + i) 0)
+
+-- one column more: its m places from a on are filled, and what f has at its other places stood there before
+written-more : (s : List ℕ) (f : ℕ → ℕ → ℕ) (c a m : ℕ) (work work₁ : List ℕ) → a + m ≤ places → c * places + (a + m) ≤ length work
+    → ((i : ℕ) → i < a → getD s (c * places + i) 0 ≡ f c i) → ((i : ℕ) → a + m ≤ i → i < places → getD s (c * places + i) 0 ≡ f c i)
+    → work₁ ≡ fill work (c * places + a) m (λ (k : ℕ). f c (a + k)) → Written s f c work → Written s f (c + 1) work₁
+written-more s f c a m work work₁ room long front back e (done, rest) = rw e (
+  λ d i h l. by d i l (decLt d c) (decLt i a) (decLt i (a + m)) (omega arith),
+  λ d i h l. fill-behind work (c * places + a) m g (d * places + i) (omega arith) ∙ rest d i (omega arith) l,
+)
+  where
+    g : ℕ → ℕ
+    g k = f c (a + k)
+
+    -- column c itself
+    own : (i : ℕ) → i < places → Dec (i < a) → Dec (i < a + m) → getD (fill work (c * places + a) m g) (c * places + i) 0 ≡ f c i
+    own i l (yes x) y = fill-before work (c * places + a) m g (c * places + i) (omega arith) ∙ rest c i (omega arith) l ∙ front i x
+    own i l (no x) (yes y) =
+        let at : c * places + i ≡ c * places + a + (i - a) = omega arith in
+        let back : a + (i - a) ≡ i = omega arith in
+        rw at (fill-at work (c * places + a) m g (i - a) (omega arith) (omega arith) ∙ ap (f c) back)
+    own i l (no x) (no y) = fill-behind work (c * places + a) m g (c * places + i) (omega arith) ∙ rest c i (omega arith) l ∙ back i (omega arith) l
+
+    by : (d i : ℕ) → i < places → Dec (d < c) → Dec (i < a) → Dec (i < a + m) → d ≤ c → getD (fill work (c * places + a) m g) (d * places + i) 0 ≡ f d i
+    by d i l (yes x) y z h = fill-before work (c * places + a) m g (d * places + i) (omega arith) ∙ done d i x l
+    by d i l (no x) y z h = let here : d ≡ c = omega arith in rw here (own i l y z)
 
 -- ---- a book, put into the columns batch by batch
 
--- one column more has taken its numbers of a batch: the first c columns have all up to the batch's end, the others all before the batch
-abbrev pub BatchIn : List ℕ → ℕ → ℕ → ℕ → List ℕ → Type 0
-BatchIn book first n columns work =
-    BookIn book first work × ((c place : ℕ) → c < columns → place < first + n → getD work (c * places + place) 0 ≡ getD book (place * width + c) 0)
+module _ (book : List ℕ) (first n : ℕ) (s : List ℕ) (c i : ℕ) where
+  inside : first ≤ i → i < first + n → batchPlace book first n s c i ≡ getD book (i * width + c) 0
+  unfolding batchPlace
+  inside h l = rw (le-leb first i h, lt-ltb i (first + n) l)
 
-pub batch-more : (book : List ℕ) (first n c : ℕ) (s s₁ : List ℕ) → c < width → first + n ≤ places → length s ≡ width * places
-    → s₁ ≡ fill s (c * places + first) n (λ (i : ℕ). getD (drop (first * width) book) (i * width + c) 0) → BatchIn book first n c s
-    → BatchIn book first n (c + 1) s₁
-batch-more book first n c s s₁ h room long e (before, done) = rw e (
-  λ d i l k. apart s c first n f room d i (omega arith) (λ x. k) ∙ before d i l k,
-  λ d i l k. by d i k (decLt d c) (decLt i first) (omega arith),
-)
+  before : i < first → batchPlace book first n s c i ≡ getD s (c * places + i) 0
+  unfolding batchPlace
+  before h = rw (lt-leb first i h)
+
+  beyond : first + n ≤ i → batchPlace book first n s c i ≡ getD s (c * places + i) 0
+  unfolding batchPlace
+  beyond h = rw (le-leb first i (omega arith), le-ltb i (first + n) h)
+
+  batch-at : c < width → i < places → getD (withBatch book first n s) (c * places + i) 0 ≡ batchPlace book first n s c i
+  unfolding withBatch
+  batch-at = columns-at width (batchPlace book first n s) c i
+
+-- one column more takes its numbers of a batch
+pub batch-more : (book s : List ℕ) (first n c : ℕ) (work work₁ : List ℕ) → first + n ≤ places → c * places + (first + n) ≤ length work
+    → work₁ ≡ fill work (c * places + first) n (λ (i : ℕ). getD (drop (first * width) book) (i * width + c) 0)
+    → Written s (batchPlace book first n s) c work → Written s (batchPlace book first n s) (c + 1) work₁
+batch-more book s first n c work work₁ room long e =
+    written-more s (batchPlace book first n s) c first n work work₁ room long
+    (λ i h. sym (before book first n s c i h))
+    (λ i h l. sym (beyond book first n s c i h))
+    (e ∙ fill-same work (c * places + first) n _ _ (λ k h.
+    let from : first * width + (k * width + c) ≡ (first + k) * width + c = omega arith in
+    rw (getD-drop, from) (sym (inside book first n s c (first + k) (omega arith) (omega arith)))))
+
+-- all columns have taken theirs
+pub batch-all : (book s : List ℕ) (first n : ℕ) (work : List ℕ) → length work ≡ width * places → Written s (batchPlace book first n s) width work
+    → work ≡ withBatch book first n s
+unfolding withBatch
+batch-all book s first n work long (done, rest) = columns-all width (batchPlace book first n s) work long done
+
+pub batch-none : (book s : List ℕ) → length s ≡ width * places → s ≡ withBatch book 0 0 s
+unfolding withBatch
+batch-none book s long = columns-all width (batchPlace book 0 0 s) s long (λ c i h l. sym (beyond book 0 0 s c i (omega arith)))
+
+-- a batch behind those before it
+pub batch-next : (book s s₁ s₂ : List ℕ) (a m : ℕ) → length s₂ ≡ width * places → s₁ ≡ withBatch book 0 a s → s₂ ≡ withBatch book a m s₁
+    → s₂ ≡ withBatch book 0 (a + m) s
+unfolding withBatch
+batch-next book s s₁ s₂ a m long e₁ e₂ =
+    columns-all width (batchPlace book 0 (a + m) s) s₂ long (λ c i h l.
+    rw e₂ (batch-at book a m s₁ c i h l) ∙ by c i h l (decLt i a) (decLt i (a + m)))
   where
-    f : ℕ → ℕ
-    f i = getD (drop (first * width) book) (i * width + c) 0
+    stood : (c i : ℕ) → c < width → i < places → getD s₁ (c * places + i) 0 ≡ batchPlace book 0 a s c i
+    stood c i h l = rw e₁ (batch-at book 0 a s c i h l)
 
-    by : (d i : ℕ) → i < first + n → Dec (d < c) → Dec (i < first) → d ≤ c
-        → getD (fill s (c * places + first) n f) (d * places + i) 0 ≡ getD book (i * width + d) 0
-    by d i k (yes x) y l = apart s c first n f room d i (omega arith) (λ z. absurd (omega arith)) ∙ done d i x k
-    by d i k (no x) (yes y) l = apart s c first n f room d i (omega arith) (λ z. y) ∙ before d i (omega arith) y
-    by d i k (no x) (no y) l =
-        let from : first * width + ((i - first) * width + c) ≡ i * width + d = omega arith in
-        filled s c first n f room d i (omega arith) (omega arith) k (omega arith) ∙ rw (getD-drop, from)
+    by : (c i : ℕ) → c < width → i < places → Dec (i < a) → Dec (i < a + m) → batchPlace book a m s₁ c i ≡ batchPlace book 0 (a + m) s c i
+    by c i h l (yes x) y =
+        before book a m s₁ c i x ∙ stood c i h l ∙ inside book 0 a s c i (omega arith) (omega arith)
+        ∙ sym (inside book 0 (a + m) s c i (omega arith) (omega arith))
+    by c i h l (no x) (yes y) = inside book a m s₁ c i (omega arith) y ∙ sym (inside book 0 (a + m) s c i (omega arith) (omega arith))
+    by c i h l (no x) (no y) =
+        beyond book a m s₁ c i (omega arith) ∙ stood c i h l ∙ beyond book 0 a s c i (omega arith)
+        ∙ sym (beyond book 0 (a + m) s c i (omega arith))
 
 -- ---- a column behind the book's numbers
 
@@ -63,7 +135,7 @@ module _ (count n width : ℕ) (inputs book : List ℕ) (c : ℕ) (room : count 
   abbrev place : ℕ → ℕ
   place = begunPlace count n width inputs book c
 
-  pub from-book : (k : ℕ) → k < count → getD book (k * width + c) 0 ≡ place k
+  from-book : (k : ℕ) → k < count → getD book (k * width + c) 0 ≡ place k
   unfolding begunPlace
   from-book k h = rw (lt-ltb k count h)
 
@@ -98,60 +170,32 @@ module _ (count n width : ℕ) (inputs book : List ℕ) (c : ℕ) (room : count 
       fill-next s s₂ s₃ (at + count) _ (inputAt n - count) _ (places - count) behind _ t₂ e₃ (omega arith) (omega arith)
       (λ k h. behind-inputs (count + (inputAt n - count + k)) (omega arith))
 
--- ---- columns, finished one after the other
+-- ---- columns finished behind a book
 
-module _ (count n : ℕ) (inputs book : List ℕ) where
-  -- the book stands in all columns, and the first of them are whole
-  abbrev pub Finished : ℕ → List ℕ → Type 0
-  Finished columns work =
-      BookIn book count work
-      × ((c place : ℕ) → c < columns → place < places → getD work (c * places + place) 0 ≡ begunPlace count n width inputs book c place)
-
-  pub finished-more : (c : ℕ) (s s₁ : List ℕ) → c < width → count ≤ inputAt 0 → length s ≡ width * places
-      → s₁ ≡ fill s (c * places + count) (places - count) (λ (k : ℕ). begunPlace count n width inputs book c (count + k))
-      → Finished c s → Finished (c + 1) s₁
-  finished-more c s s₁ h room long e (stands, whole) = rw e (
-    λ d i l k. apart s c count (places - count) f (omega arith) d i (omega arith) (λ x. k) ∙ stands d i l k,
-    λ d i l k. by d i k (decLt d c) (decLt i count) (omega arith),
-  )
-    where
-      f : ℕ → ℕ
-      f k = begunPlace count n width inputs book c (count + k)
-
-      by : (d i : ℕ) → i < places → Dec (d < c) → Dec (i < count) → d ≤ c
-          → getD (fill s (c * places + count) (places - count) f) (d * places + i) 0 ≡ begunPlace count n width inputs book d i
-      by d i k (yes x) y l = apart s c count (places - count) f (omega arith) d i k (λ z. absurd (omega arith)) ∙ whole d i x k
-      by d i k (no x) (yes y) l =
-          apart s c count (places - count) f (omega arith) d i k (λ z. y) ∙ stands d i (omega arith) y ∙ from-book count n width inputs book d room i y
-      by d i k (no x) (no y) l =
-          let here : d ≡ c = omega arith in
-          let back : count + (i - count) ≡ i = omega arith in
-          filled s c count (places - count) f (omega arith) d i here (omega arith) (omega arith) (omega arith) ∙ rw (back, here)
+-- one column more is whole
+pub finished-more : (count n : ℕ) (inputs book s₀ s : List ℕ) (c : ℕ) (work work₁ : List ℕ) → c < width → count ≤ inputAt 0
+    → c * places + places ≤ length work → s ≡ withBatch book 0 count s₀
+    → work₁ ≡ fill work (c * places + count) (places - count) (λ (k : ℕ). begunPlace count n width inputs book c (count + k))
+    → Written s (begunPlace count n width inputs book) c work → Written s (begunPlace count n width inputs book) (c + 1) work₁
+finished-more count n inputs book s₀ s c work work₁ h room long e =
+    written-more s (begunPlace count n width inputs book) c count (places - count) work work₁ (omega arith) (omega arith)
+    (λ i l. rw e (batch-at book 0 count s₀ c i h (omega arith)) ∙ inside book 0 count s₀ c i (omega arith) (omega arith)
+    ∙ from-book count n width inputs book c room i l)
+    (λ i l k. absurd (omega arith))
 
 -- ---- the whole slice
 
 module _ (p : Params) (width : ℕ) (inputs book : List ℕ) where
-  abbrev begunColumn : ℕ → List ℕ
-  begunColumn c = listTo places (begunPlace (shared p) (p .n) width inputs book c)
-
-  begun-ahead : (c : ℕ) → ahead 0 c begunColumn ≡ c * places
-  begun-ahead c = ahead-fixed places c begunColumn (λ x. length-listFrom 0 places (begunPlace (shared p) (p .n) width inputs book x))
-
   pub begun-length : length (begunWork p width inputs book) ≡ width * places
   unfolding begunWork
-  begun-length = begun-ahead width
+  begun-length = columns-length width (begunPlace (shared p) (p .n) width inputs book)
 
   pub begun-at : (c i : ℕ) → c < width → i < places → getD (begunWork p width inputs book) (c * places + i) 0 ≡ begunPlace (shared p) (p .n) width inputs book c i
   unfolding begunWork
-  begun-at c i h l =
-      rw (← begun-ahead c)
-      (join-at width begunColumn 0 c i h (rw (length-listFrom 0 places (begunPlace (shared p) (p .n) width inputs book c)) l)
-      ∙ getD-listTo places (begunPlace (shared p) (p .n) width inputs book c) i 0 l)
+  begun-at = columns-at width (begunPlace (shared p) (p .n) width inputs book)
 
   pub begun-all : (s : List ℕ) → length s ≡ width * places
-      → ((c place : ℕ) → c < width → place < places → getD s (c * places + place) 0 ≡ begunPlace (shared p) (p .n) width inputs book c place)
+      → ((c i : ℕ) → c < width → i < places → getD s (c * places + i) 0 ≡ begunPlace (shared p) (p .n) width inputs book c i)
       → s ≡ begunWork p width inputs book
-  begun-all s long whole =
-      ext-getD 0 s (begunWork p width inputs book) (long ∙ sym begun-length) (λ j l.
-      let e : j / places * places + j % places ≡ j = omega arith in
-      rw e at (whole (j / places) (j % places) (omega arith) (omega arith) ∙ sym (begun-at (j / places) (j % places) (omega arith) (omega arith))))
+  unfolding begunWork
+  begun-all = columns-all width (begunPlace (shared p) (p .n) width inputs book)

@@ -1,7 +1,6 @@
 -- The working slice: columns of 1,536 places, one after the other; a column is one number of each shared number.
 -- In a column the book comes first, then these.
-use Prim.Native.Nat.{ℕ, _+_, _*_, _-_, _<_}
-use mathlib.Core.Path.{_≡_}
+use Prim.Native.Nat.{ℕ, _+_, _*_, _-_}
 use mathlib.Core.Bool.{cond, _&&_}
 use mathlib.Core.List.{List, _∷_, _++_}
 use lib.Dec.{eqb, leb, ltb}
@@ -41,6 +40,10 @@ ownIn work c o = getD work (c * places + ownAt o) 0
 unfoldable pub maskedIn : List ℕ → ℕ → ℕ
 maskedIn work j = cond (ltb j 8) (getD work (maskedAt j) 0) 0
 
+-- a slice of `width` columns: f c place is the number at a place of column c
+abbrev pub columnsOf : ℕ → (ℕ → ℕ → ℕ) → List ℕ
+columnsOf width f = joinTo width (λ (c : ℕ). listTo places (f c))
+
 -- "Begin sets the whole working slice, numbers without a use to 0": a place of column c, from inputs and book,
 -- which hold n and `count` shared numbers of `width` numbers each
 unfoldable pub begunPlace : ℕ → ℕ → ℕ → List ℕ → List ℕ → ℕ → ℕ → ℕ
@@ -50,12 +53,15 @@ begunPlace count n width inputs book c place =
     0)
 
 unfoldable pub begunWork : Params → ℕ → List ℕ → List ℕ → List ℕ
-begunWork p width inputs book =
-    joinTo width (λ (c : ℕ). listTo places (begunPlace (shared p) (p .n) width inputs book c))
+begunWork p width inputs book = columnsOf width (begunPlace (shared p) (p .n) width inputs book)
 
--- the first n shared numbers of a book stand in their columns: what begin has written before all else
-abbrev pub BookIn : List ℕ → ℕ → List ℕ → Type 0
-BookIn book n work = (c place : ℕ) → c < width → place < n → getD work (c * places + place) 0 ≡ getD book (place * width + c) 0
+-- while begin writes the slice: n shared numbers of a book, from number `first` on, stand in their columns, and all else is as it was
+unfoldable pub batchPlace : List ℕ → ℕ → ℕ → List ℕ → ℕ → ℕ → ℕ
+batchPlace book first n work c place =
+    cond (leb first place && ltb place (first + n)) (getD book (place * width + c) 0) (getD work (c * places + place) 0)
+
+unfoldable pub withBatch : List ℕ → ℕ → ℕ → List ℕ → List ℕ
+withBatch book first n work = columnsOf width (batchPlace book first n work)
 
 -- "Adding a public k: the server adds k to its share, and each side adds own key × k to its part under its own key", under each of its
 -- own keys: what a public 1 adds to each column on side `number`, with k keys a side

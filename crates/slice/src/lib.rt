@@ -16,7 +16,7 @@ ghost use Rattle.settings.specs.Questions.{ShapeReady};
 ghost use Rattle.settings.specs.Sets.{topDigits};
 ghost use Rattle.settings.specs.Settings.{paramsOf};
 ghost use Rattle.settings.specs.Sizes.{keyCount, width, mostOpenings, shared, places, workLength};
-ghost use Rattle.slice.specs.Layout.{ownAt, column, ownIn, maskedIn, begunPlace, begunWork, BookIn, weights};
+ghost use Rattle.slice.specs.Layout.{ownAt, column, ownIn, maskedIn, begunPlace, begunWork, withBatch, weights};
 ghost use Rattle.slice.specs.Weights.{weigh, topRises, TopFits};
 ghost use Rattle.slice.specs.declared.Rule.the-variants.{Zero, Top};
 use field::Q;
@@ -110,7 +110,7 @@ fn load(work: &mut [u32], at: usize, from: &[u32], column: usize, count: usize)
 // A batch: n shared numbers of a book, from number `first` on, into all columns.
 fn load_batch(work: &mut [u32], book: &[u32], first: usize, n: usize)
     requires { ⌜ (length (now work) ≡ workLength keyCount) × (first + n ≤ 1320) × ((first + n) * width ≤ length (now book)) ⌝ }
-    ensures { λ _. ⌜ (BookIn (now (book .entry)) first (now (work .entry)) → BookIn (now (book .entry)) (first + n) (now (work .exit))) ⌝ }
+    ensures { λ _. ⌜ now (work .exit) ≡ withBatch (now (book .entry)) first n (now (work .entry)) ⌝ }
 {
     let from = first * WIDTH;
     let mut c = 0;
@@ -120,11 +120,10 @@ fn load_batch(work: &mut [u32], book: &[u32], first: usize, n: usize)
     }
 }
 
-// A book, a batch of shared numbers at a time: a batch stays in the processor's cache while each column takes its own. What stands behind the
-// book's numbers is left open: `finish_column` writes all of it.
+// The first `count` shared numbers of a book, a batch at a time: a batch stays in the processor's cache while each column takes its own.
 fn load_book(work: &mut [u32], book: &[u32], count: usize)
     requires { ⌜ (length (now work) ≡ workLength keyCount) × (count ≤ 1320) × (count * width ≤ length (now book)) ⌝ }
-    ensures { λ _. ⌜ BookIn (now (book .entry)) count (now (work .exit)) ⌝ }
+    ensures { λ _. ⌜ now (work .exit) ≡ withBatch (now (book .entry)) 0 count (now (work .entry)) ⌝ }
 {
     let mut done = 0;
     while done < count {

@@ -7,13 +7,13 @@ use lib.ListN.{length, drop, length-drop}
 use lib.Seq.{take-all}
 use Rattle.lists.proofs.Fill.{length-fill}
 use Rattle.settings.specs.Sizes.{width}
-use Rattle.slice.specs.Layout.{BookIn}
-use Rattle.slice.proofs.Begun.{BatchIn, batch-more}
+use Rattle.slice.specs.Layout.{batchPlace}
+use Rattle.slice.proofs.Begun.{Written, batch-more, batch-all}
 use Rattle.slice.proofs.load_batch.Statement.{statement}
 use Rattle.slice.proofs.load_batch.Tie as tie
 
 abbrev Inv-loop : tie.InvT-loop
-Inv-loop work₀ book first n from c₀ work c = (c ≤ width) × (length work ≡ length work₀) × (BookIn book first work₀ → BatchIn book first n c work)
+Inv-loop work₀ book first n from c₀ work c = (c ≤ width) × (length work ≡ length work₀) × Written work₀ (batchPlace book first n work₀) c work
 
 abbrev μ-loop : tie.MeasureT-loop
 μ-loop work₀ book first n from c₀ work c = width - c
@@ -26,11 +26,14 @@ loop-again c =
     let load = rw part at (c .before .before .load .ensures) in (
       omega arith,
       ap length load ∙ length-fill _ _ _ _ ∙ at .inv .1,
-      λ b. batch-more (a .book .now) (a .first) (a .n) (at .c) (at .work) _ (omega arith) (omega arith) (omega arith) load (at .inv .2 b),
+      batch-more (a .book .now) _ (a .first) (a .n) (at .c) (at .work) _ (omega arith) (omega arith) load (at .inv .2),
     )
 
 returns : tie.Need-returns Inv-loop μ-loop
-returns c = λ b d i h l. c .before .loop .inv .2 b .1 d i (omega arith) l
+returns c =
+    let at = c .before .loop in
+    let all : at .c ≡ width = omega arith in
+    batch-all _ _ _ _ (at .work) (omega arith) (rw all at (at .inv .2))
 
 pub load-batch-spec : {M : Type 1} → statement M
 load-batch-spec =
@@ -39,7 +42,7 @@ load-batch-spec =
     Inv-loop
     μ-loop
     (λ c. omega arith)
-    (λ c. (omega arith, refl, λ b. (b, λ d i l k. absurd (omega arith))))
+    (λ c. (omega arith, refl, (λ d i h l. absurd (omega arith), λ d i h l. refl)))
     (λ c. omega arith)
     (λ c. omega arith)
     (λ c. omega arith)
