@@ -59,7 +59,7 @@ module _ (k : ℕ) (joins : SlicesJoin) (progress-law : Progress k) (pairs : Dra
 
     same-log : (calls : List ScheduledCall) → observations k s serial (own d) (other x d) w calls ≡ observations k s serial (own d) (other x′ d′) w calls
     same-log =
-        log-same joins k s serial (multipliers keys0 keys1) (N x d) (N x′ d′)
+        log-same joins k s serial (multipliers keys0 keys1) (multipliers keys0 keys1) (N x d) (N x′ d′)
         (λ r l. sym (pairs .same-openings s number keys0 keys1 x x′ d (f .settings) hx hx′ hd alike r l))
         (plainOpening k s d x) (plainOpening k s d′ x′) (own d) (other x d) (other x′ d′)
         (faced x d hx hd) (subst (λ h. Faces x′ d′ h) same-input (faced x′ d′ hx′ possible))

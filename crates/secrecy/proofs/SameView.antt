@@ -1,4 +1,5 @@
 -- Two runs with the same opened numbers and the same input of the observer: the other side sends the same messages, and the joint states look the same.
+-- The other side's keys may differ: what it sends are its shares and its parts under the observer's keys.
 use mathlib.Core.Path.{_≡_, refl, sym, ap, ap₂, _∙_}
 use mathlib.Core.List.{List, [], _∷_}
 use mathlib.Core.Bool.{cond}
@@ -27,9 +28,9 @@ use Rattle.runs.proofs.Opens.{Facing}
 use Rattle.secrecy.proofs.Own.{SameNumbers, work-same, own-same}
 use Rattle.secrecy.proofs.Lockstep.{Alike, events-same}
 
-module _ (joins : SlicesJoin) (k : ℕ) (s : Settings) (serial : ℕ) (factors : List ℕ)
+module _ (joins : SlicesJoin) (k : ℕ) (s : Settings) (serial : ℕ) (factors factors′ : List ℕ)
     (N N′ : ℕ → List ℕ) (same : SameNumbers N N′) (plain plain′ : ℕ → ℕ → ℕ) (h o o′ : PartyInput)
-    (v : Facing k s serial N factors plain h o) (v′ : Facing k s serial N′ factors plain′ h o′) where
+    (v : Facing k s serial N factors plain h o) (v′ : Facing k s serial N′ factors′ plain′ h o′) where
   faces : o .number ≡ o′ .number
   faces = v .faces ∙ sym (v′ .faces)
 
@@ -43,20 +44,28 @@ module _ (joins : SlicesJoin) (k : ℕ) (s : Settings) (serial : ℕ) (factors :
   unfolding ownNumber
   own-same-share R c j l = rw (work-same k s serial N N′ same h R (omega arith))
 
-  share-same : (R c j : ℕ) → R < rounds → c < widthOf k → j < openings (paramsIn s) (suc R) → ownNumber k s serial N o R c j ≡ ownNumber k s serial N′ o′ R c j
-  share-same R c j l b m =
+  -- in a column that adds up to the same multiple of the plain number
+  share-same : (R c j : ℕ) → getD factors c 0 ≡ getD factors′ c 0 → R < rounds → c < widthOf k → j < openings (paramsIn s) (suc R)
+      → ownNumber k s serial N o R c j ≡ ownNumber k s serial N′ o′ R c j
+  share-same R c j e l b m =
       missing-same q (getD factors c 0) (ownNumber k s serial N h R c j) (ownNumber k s serial N o R c j) (ownNumber k s serial N′ o′ R c j) (plain R j)
-      (v .adds R c j b) (rw (own-same-share R c j l, plain-same R j l m) (v′ .adds R c j b))
+      (v .adds R c j b) (rw (e, own-same-share R c j l, plain-same R j l m) (v′ .adds R c j b))
       (sharing-below k s serial N joins o (v .peer) R c j b m) (sharing-below k s serial N′ joins o′ (v′ .peer) R c j b m)
+
+  -- the columns of the observer's keys
+  key-same : (i : ℕ) → i < k → getD factors (partColumn k (1 - o .number) i) 0 ≡ getD factors′ (partColumn k (1 - o .number) i) 0
+  key-same i b =
+      let own : 1 - o .number ≡ h .number = omega (arith, v .faces, which-below h (v .observer .which)) in
+      rw own (v .keyed i b ∙ sym (v′ .keyed i b))
 
   -- its fields
   fields-same : (R : ℕ) → R < rounds → roundFields k s serial N o R ≡ roundFields k s serial N′ o′ R
   unfolding roundFields
   fields-same R l =
       join-cong 0 (openings (paramsIn s) (suc R)) _ _ (λ j m.
-      ap₂ _∷_ (share-same R 0 (0 + j) l (omega arith) (omega arith))
+      ap₂ _∷_ (share-same R 0 (0 + j) (v .unit ∙ sym (v′ .unit)) l (omega arith) (omega arith))
       (listTo-cong k _ _ (λ i b.
-      share-same R (partColumn k (1 - o .number) i) (0 + j) l (part-inside k s serial N o (v .peer .which) i b) (omega arith)
+      share-same R (partColumn k (1 - o .number) i) (0 + j) (key-same i b) l (part-inside k s serial N o (v .peer .which) i b) (omega arith)
       ∙ ap (λ (number : ℕ). ownNumber k s serial N′ o′ R (partColumn k (1 - number) i) (0 + j)) faces)))
 
   message-same : (R : ℕ) → R < rounds → messageAt k s serial N o (suc R) ≡ messageAt k s serial N′ o′ (suc R)

@@ -1,0 +1,13 @@
+-- All choices of keys, and counting.
+pub mod Members
+pub mod Choices
+-- The check of an opening, and the limit.
+pub mod Check
+pub mod Limit
+-- Take, in honest runs under tried keys of the receiver.
+pub mod Takes
+pub mod Follows
+pub mod Tried
+pub mod Runs
+-- All together
+pub mod Theorem

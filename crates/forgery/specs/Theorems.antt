@@ -1,0 +1,73 @@
+-- How often a forger is believed, as types: for any number k of keys a side, and for four.
+use Prim.Native.Nat.{ℕ, _<_}
+use mathlib.Core.Path.{_≡_}
+use mathlib.Core.Bool.{true}
+use mathlib.Core.List.{List}
+use lib.ListN.{length}
+use Rattle.field.specs.Field.{q}
+use Rattle.settings.specs.Sizes.{keyCount}
+use Rattle.opening.specs.Check.{Given, accepts}
+use Rattle.forgery.specs.Choices.{Choice, choices, count, AtMostOne, None, AllChoices}
+use Rattle.forgery.specs.Forgery.{Opening, following, NonZero, PartsOnly, believed, believedAll, guessing}
+use Rattle.forgery.specs.Runs.{HonestRun, dealt, drawUnder, senderRecord, honestMessage, takeAnswer, Due, Formed, ShareDiffers, PartDiffers, undetected}
+
+-- ---- The check
+
+pub record Limit (k : ℕ) : Type 0 where
+  -- "so that it passes unchanged": whatever the keys
+  pub unchanged : (keys : List ℕ) (opening : Opening) → accepts k keys (following keys opening) (opening .sent) ≡ true
+  -- an opening that passes does so with these own parts: no others below q pass
+  pub no-other : (keys : List ℕ) (own sent : Given)
+      → accepts k keys own sent ≡ true
+      → (key : ℕ)
+      → key < k
+      → own .part key < q
+      → own .part key ≡ following keys (record { share = own .share; sent = sent }) .part key
+  -- "change the share by a non-zero amount and the parts by any amounts": "At most one choice .. accepts it"
+  pub one-opening : (opening : Opening) (amounts : Given) → NonZero (amounts .share) → AtMostOne k (believed k opening amounts)
+  -- "If only the parts change, none does"
+  pub parts-only : (opening : Opening) (amounts : Given) → PartsOnly k amounts → None k (believed k opening amounts)
+  -- "For a message of many openings, the same limit holds if any share changed"
+  pub message : (n : ℕ) (openings : ℕ → Opening) (amounts : ℕ → Given) (o : ℕ)
+      → o < n
+      → NonZero (amounts o .share)
+      → AtMostOne k (believedAll k n openings amounts)
+  -- a message in which only the parts of some opening change: none, whatever changes in the others
+  pub message-parts : (n : ℕ) (openings : ℕ → Opening) (amounts : ℕ → Given) (o : ℕ)
+      → o < n
+      → PartsOnly k (amounts o)
+      → None k (believedAll k n openings amounts)
+  -- the limit is reached: whoever guesses the keys is believed under them, and so under one choice of all
+  pub reached : (opening : Opening) (keys : List ℕ) (amount : ℕ) → believed k opening (guessing keys amount) keys ≡ true
+  pub reached-once : (opening : Opening) (keys : List ℕ)
+      → Choice k keys
+      → (amount : ℕ)
+      → NonZero amount
+      → count (believed k opening (guessing keys amount)) (choices k) ≡ 1
+
+-- ---- Take
+
+-- in an honest run, at whichever side, after whichever calls
+pub record Forged (k : ℕ) (r : HonestRun k) : Type 0 where
+  -- the keys that were dealt are among the tried: under them the run is as dealt
+  pub as-dealt : drawUnder k r (dealt k r) ≡ r .draw
+  -- "chosen without those keys": the sender's whole record is the same under every choice, and so is all that it could choose by
+  pub same-record : (tried : List ℕ) → Choice k tried → senderRecord k r tried ≡ senderRecord k r (dealt k r)
+  -- "so that it passes unchanged": every choice takes the sender's message
+  pub unchanged : Due k r → (tried : List ℕ) → Choice k tried → takeAnswer k r tried (honestMessage k r) ≡ 0
+  -- with questions 10 to 12 passed and some share changed, at most one choice does not answer 13
+  pub share : Due k r → (forged : List ℕ) → Formed k r forged → ShareDiffers k r forged → AtMostOne k (undetected k r forged)
+  -- with the share of an opening as it was, and a part changed there, every choice answers 13
+  pub part : Due k r → (forged : List ℕ) → Formed k r forged → PartDiffers k r forged → None k (undetected k r forged)
+
+-- ---- For any number of keys, and for four
+
+pub record Odds (k : ℕ) : Type 0 where
+  pub all : AllChoices k
+  pub limit : Limit k
+  pub runs : (r : HonestRun k) → Forged k r
+
+-- "At most one choice of the four keys accepts it, among (q − 1)⁴"
+pub record FourKeys : Type 0 where
+  pub odds : Odds keyCount
+  pub among : length (choices keyCount) ≡ 4932445659784343776590299136
