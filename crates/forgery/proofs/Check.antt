@@ -1,12 +1,13 @@
 -- What an accepted opening says of the receiver's keys: the change of a part is key × the change of the share, modulo q.
-use Prim.Native.Nat.{ℕ, suc, _+_, _-_, _*_, _%_, _<_}
-use mathlib.Core.Path.{_≡_, refl, sym, ap₂, _∙_}
+use Prim.Native.Nat.{ℕ, _+_, _-_, _*_, _%_, _<_}
+use mathlib.Core.Path.{_≡_, sym, _∙_}
 use mathlib.Core.Logic.{_⊎_, inl, inr}
 use mathlib.Core.Bool.{true, false}
-use mathlib.Core.List.{List, [], _∷_}
+use mathlib.Core.List.{List}
 use native.Mathlib.Nat.{one-mul}
 use native.Mathlib.Omega.{arith}
-use lib.ListN.{length, getD}
+use lib.ListN.{getD}
+use lib.Seq.{ext-getD}
 use Rattle.field.specs.Field.{q}
 use Rattle.field.specs.Congruence.{_⊩_≈_}
 use Rattle.field.proofs.Congruence.{≈-refl, ≈-eq, ≈-sym, ≈-add, ≈-mul, ≈-lt}
@@ -73,17 +74,11 @@ key-same a b y y′ d d′ la lb differ ha hb = go (no-zero-divisors (a + (q - b
 
 -- ---- All keys
 
-same-list : (a b : List ℕ) → length a ≡ length b → ((i : ℕ) → i < length a → getD a i 0 ≡ getD b i 0) → a ≡ b
-same-list [] [] e h = refl
-same-list [] (y ∷ b) e h = absurd (omega arith)
-same-list (x ∷ a) [] e h = absurd (omega arith)
-same-list (x ∷ a) (y ∷ b) e h = ap₂ _∷_ (h 0 (omega arith)) (same-list a b (omega arith) (λ i l. h (suc i) (omega arith)))
-
 -- another share that passes beside the own numbers of two choices: they are one
 pub choice-same : (k : ℕ) (a b : List ℕ) (own own′ sent other : Given) → Choice k a → Choice k b → (q ⊩ other .share ≈ sent .share → ⊥)
     → accepts k a own sent ≡ true → accepts k a own other ≡ true → accepts k b own′ sent ≡ true → accepts k b own′ other ≡ true → a ≡ b
 choice-same k a b own own′ sent other ca cb differ h g h′ g′ =
-    same-list a b (ca .size ∙ sym (cb .size)) (λ i l.
+    ext-getD 0 a b (ca .size ∙ sym (cb .size)) (λ i l.
     let l′ : i < k = omega (arith, ca .size) in
     key-same (getD a i 0) (getD b i 0) (sent .share) (other .share) (sent .part i) (other .part i)
     (key-below k a ca i l′) (key-below k b cb i l′) differ

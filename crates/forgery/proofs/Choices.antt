@@ -2,7 +2,7 @@
 use Prim.Native.Nat.{ℕ, zero, suc, _+_, _-_, _*_, _^_, _≤_, _<_}
 use mathlib.Core.Path.{_≡_, refl, sym, ap, ap₂, _∙_}
 use mathlib.Core.Logic.{_≢_, inl}
-use mathlib.Core.Bool.{Bool, true, false}
+use mathlib.Core.Bool.{Bool, true, false, true≢false}
 use mathlib.Core.List.{List, [], _∷_, map}
 use native.Mathlib.Nat.{pow-succ', pow-zero}
 use native.Mathlib.Omega.{arith}
@@ -137,6 +137,11 @@ module _ (k : ℕ) (test : List ℕ → Bool) where
         fails = fails;
         counted = none-pass test (choices k) (each-more (Choice k) (λ keys. test keys ≡ false) fails (choices k) (all-choices k .no-more));
       }
+
+  -- none is at most one
+  pub none-most : None k test → AtMostOne k test
+  none-most n =
+      record { same = λ a b ca cb ha hb. absurd (true≢false (sym ha ∙ n .fails a ca)); counted = omega (arith, n .counted) }
 
   pub one : AtMostOne k test → (keys : List ℕ) → Choice k keys → test keys ≡ true → count test (choices k) ≡ 1
   one most keys c t =

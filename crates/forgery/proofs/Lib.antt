@@ -6,6 +6,7 @@ pub mod Check
 pub mod Limit
 -- Take, in honest runs under tried keys of the receiver.
 pub mod Takes
+pub mod Others
 pub mod Follows
 pub mod Tried
 pub mod Runs

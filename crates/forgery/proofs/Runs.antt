@@ -2,24 +2,28 @@
 -- are as dealt.
 use Prim.Native.Nat.{ℕ, zero, suc, _-_, _<_}
 use mathlib.Core.Path.{_≡_, refl, sym, ap, subst, _∙_}
-use mathlib.Core.Bool.{true, true≢false}
-use mathlib.Core.List.{List}
+use mathlib.Core.Bool.{Bool, true, false, cond, true≢false}
+use mathlib.Core.List.{List, []}
 use native.Mathlib.Omega.{arith}
 use lib.Dec.{eqb, ltb}
 use borrow.Author.Tests.{eqb-true, eq-eqb}
+use Rattle.lists.specs.Lists.{every, allBelow}
+use Rattle.lists.proofs.Every.{all-below}
 use Rattle.settings.specs.Settings.{termsOf}
 use Rattle.settings.specs.Sizes.{widthOf}
+use Rattle.message.proofs.RoundTrip.{round-trip}
 use Rattle.book.specs.Books.{multipliers}
 use Rattle.book.proofs.Laws.{laws}
 use Rattle.column.specs.Run.{plainOpened}
 use Rattle.column.proofs.Joins.{work-joins}
+use Rattle.opening.specs.Opening.{message}
 use Rattle.side.specs.Side.{begunSide, takeCall}
 use Rattle.runs.specs.Records.{PartyInput, PartyState, JointState, ScheduledCall, Observation, outcome, jointAfter, observations, recordOf}
 use Rattle.runs.specs.Records.Party.{peer}
 use Rattle.runs.specs.Records.Call.{takeLatest}
-use Rattle.runs.specs.Progress.{Counts, none, sentOf, next, stepCounts, countsAfter, sideAt, partyAt, partyFrom, jointAt}
+use Rattle.runs.specs.Progress.{Counts, none, sentOf, next, stepCounts, countsAfter, sideAt, messageAt, partyAt, partyFrom, jointAt}
 use Rattle.runs.proofs.Whole.{honest-pair}
-use Rattle.runs.proofs.Both.{start-pace, pace-after, other-call}
+use Rattle.runs.proofs.Both.{latest-is, start-pace, pace-after, other-call}
 use Rattle.runs.proofs.Opens.{Facing}
 use Rattle.runs.proofs.Runs.{plainOpening, facing}
 use Rattle.runs.proofs.Theorem.{honest, progress}
@@ -42,6 +46,12 @@ module _ (k : ℕ) (r : HonestRun k) where
 
   below : number k r < 2
   below = omega arith
+
+  -- a message, or the empty one
+  message-bytes : (ns : ℕ → List ℕ) (h : PartyInput) (round : ℕ) (b : Bool) → allBelow 256 (cond b [] (messageAt k (r .settings) (r .serial) ns h round)) ≡ true
+  unfolding messageAt message every allBelow
+  message-bytes ns h round true = refl
+  message-bytes ns h round false = all-below 256 (messageAt k (r .settings) (r .serial) ns h round) (round-trip .bytes _ _)
 
   -- ---- One choice
 
@@ -71,6 +81,13 @@ module _ (k : ℕ) (r : HonestRun k) where
     after-is =
         ap (λ (h : PartyInput). jointAfter k (r .settings) (r .serial) h (receiverInput k r tried) (r .start) (r .calls)) (t .sender-is)
         ∙ from-sender (r .calls)
+
+    -- the sender's latest message is bytes
+    latest-bytes : allBelow 256 (after k r tried .observer .latest) ≡ true
+    unfolding jointAt
+    latest-bytes =
+        rw (after-is, latest-is k (r .settings) (r .serial) (numbers k r) (sender k r) (r .start .observer) (r .start-ok .observer .silent) (counts .observer))
+        (message-bytes (numbers k r) (sender k r) (sentOf (number k r) (counts .observer)) (eqb (sentOf (number k r) (counts .observer)) 0))
 
     -- the counts tell whether the receiver takes the sender's latest message
     takes-by-counts : eqb (takeAnswer k r tried (after k r tried .observer .latest)) 0 ≡ ltb (counts .peer) (taken .peer)
@@ -136,6 +153,9 @@ module _ (k : ℕ) (r : HonestRun k) where
 
   as-dealt : Tried k r (dealt k r)
   as-dealt = tried-run k r (dealt k r) (dealt-choice k r)
+
+  pub honest-bytes : allBelow 256 (honestMessage k r) ≡ true
+  honest-bytes = latest-bytes (dealt k r) as-dealt
 
   pub record-is : (tried : List ℕ) → Choice k tried → senderRecord k r tried ≡ senderRecord k r (dealt k r)
   record-is tried c = record-same tried (dealt k r) (tried-run k r tried c) as-dealt

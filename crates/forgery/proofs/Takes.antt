@@ -101,6 +101,13 @@ module _ (k : ℕ) where
         let d = form s msg _ (c .1) in
         record { eight = a .0; five = b .0; six = c .0; formed = d .0; thirteen = passed checks 12 0 (d .1) .0 }
 
+  -- a message that is taken is in due form
+  pub taken-formed : (s : Side) (work msg : List ℕ) → takeCall k s work msg .done .refused ≡ 0 → askForm k (dueHeader s) msg 0 ≡ 0
+  unfolding askForm ask
+  taken-formed s work msg e =
+      let f = through s work msg (sym (answer-is k s work msg) ∙ e) .formed in
+      rw (f .0, f .1, f .2)
+
   -- at a side and slice that take a message, another in due form is left to question 13
   left-to-check : (s : Side) (work msg other : List ℕ) → Passed s work msg → Form s other
       → takeNo k s work other ≡ ask (checks s work other) 13 0

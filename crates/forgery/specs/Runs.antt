@@ -3,10 +3,11 @@
 use Prim.Native.Nat.{ℕ, _-_, _*_, _<_}
 use mathlib.Core.Path.{_≡_}
 use mathlib.Core.Logic.{_≢_}
-use mathlib.Core.Bool.{Bool, cond, not}
+use mathlib.Core.Bool.{Bool, true, cond, not}
 use mathlib.Core.List.{List}
 use lib.Dec.{eqb}
 use lib.ListN.{getD}
+use Rattle.lists.specs.Lists.{allBelow}
 use Rattle.field.specs.Field.{q, sub}
 use Rattle.settings.specs.declared.Settings.{Settings}
 use Rattle.settings.specs.Settings.{paramsIn}
@@ -93,7 +94,8 @@ module _ (k : ℕ) (r : HonestRun k) where
   abbrev pub takeAnswer : List ℕ → List ℕ → ℕ
   takeAnswer tried message = takeCall k (after tried .peer .side) (after tried .peer .work) message .done .refused
 
-  -- the receiver takes the sender's message, if it comes as it was sent
+  -- the receiver takes the sender's message, if it comes as it was sent. By demand 2 this is so before each of the seven takes of either side
+  -- in a run carried through in order
   abbrev pub Due : Type 0
   Due = takeAnswer dealt honestMessage ≡ 0
 
@@ -122,6 +124,12 @@ module _ (k : ℕ) (r : HonestRun k) where
     pub key : ℕ
     pub key-inside : key < k
     pub part : openingIn forged opening .part key ≢ openingIn honestMessage opening .part key
+
+  -- any message of bytes with questions 10 to 12 passed that is not the sender's
+  pub record Another (forged : List ℕ) : Type 0 where
+    pub bytes : allBelow 256 forged ≡ true
+    pub formed : Formed forged
+    pub other : forged ≢ honestMessage
 
   -- the receiver's take does not answer 13
   abbrev pub undetected : List ℕ → List ℕ → Bool

@@ -1,6 +1,7 @@
 -- How often a forger is believed, as types: for any number k of keys a side, and for four.
-use Prim.Native.Nat.{ℕ, _<_}
+use Prim.Native.Nat.{ℕ, _^_, _<_}
 use mathlib.Core.Path.{_≡_}
+use mathlib.Core.Logic.{_⊎_}
 use mathlib.Core.Bool.{true}
 use mathlib.Core.List.{List}
 use lib.ListN.{length}
@@ -9,7 +10,7 @@ use Rattle.settings.specs.Sizes.{keyCount}
 use Rattle.opening.specs.Check.{Given, accepts}
 use Rattle.forgery.specs.Choices.{Choice, choices, count, AtMostOne, None, AllChoices}
 use Rattle.forgery.specs.Forgery.{Opening, following, NonZero, PartsOnly, believed, believedAll, guessing}
-use Rattle.forgery.specs.Runs.{HonestRun, dealt, drawUnder, senderRecord, honestMessage, takeAnswer, Due, Formed, ShareDiffers, PartDiffers, undetected}
+use Rattle.forgery.specs.Runs.{HonestRun, dealt, drawUnder, senderRecord, honestMessage, takeAnswer, Due, Formed, ShareDiffers, PartDiffers, Another, undetected}
 
 -- ---- The check
 
@@ -59,6 +60,10 @@ pub record Forged (k : ℕ) (r : HonestRun k) : Type 0 where
   pub share : Due k r → (forged : List ℕ) → Formed k r forged → ShareDiffers k r forged → AtMostOne k (undetected k r forged)
   -- with the share of an opening as it was, and a part changed there, every choice answers 13
   pub part : Due k r → (forged : List ℕ) → Formed k r forged → PartDiffers k r forged → None k (undetected k r forged)
+  -- nothing else is left to change: any other message that passes 10 to 12 differs in one of these ways
+  pub no-other-way : Due k r → (forged : List ℕ) → Another k r forged → ShareDiffers k r forged ⊎ PartDiffers k r forged
+  -- and so, whatever message it is, at most one choice does not answer 13
+  pub any-other : Due k r → (forged : List ℕ) → Another k r forged → AtMostOne k (undetected k r forged)
 
 -- ---- For any number of keys, and for four
 
@@ -71,3 +76,5 @@ pub record Odds (k : ℕ) : Type 0 where
 pub record FourKeys : Type 0 where
   pub odds : Odds keyCount
   pub among : length (choices keyCount) ≡ 4932445659784343776590299136
+  -- about 92 bits
+  pub bits : (2 ^ 91 < length (choices keyCount)) × (length (choices keyCount) < 2 ^ 92)

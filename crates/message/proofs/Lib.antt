@@ -6,3 +6,4 @@ pub mod Reading
 pub mod Writing
 pub mod Form
 pub mod RoundTrip
+pub mod Tells

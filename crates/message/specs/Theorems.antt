@@ -1,4 +1,4 @@
--- What is proved of messages, as types: what is written is read again.
+-- What is proved of messages, as types: what is written is read again, and nothing else passes.
 use Prim.Native.Nat.{ℕ, _%_, _^_, _<_}
 use mathlib.Core.Path.{_≡_}
 use mathlib.Core.Bool.{true}
@@ -39,3 +39,15 @@ pub record RoundTrip : Type 0 where
   -- "Server, set 0, HIGH, N = 1, round 1, serial 1, opened share 1", with "four zero parts" (02)
   pub sample : messageOf (headerNumber (headerWith 0 (record { shape = record { set = 0; kind = 0; n = 1 }; bound = 0 }) 1 1)) (1 ∷ replicate keyCount 0)
       ≡ 0x00 ∷ 0x80 ∷ 0x00 ∷ 0x00 ∷ 0x00 ∷ 0x00 ∷ 0x00 ∷ 0x01 ∷ 0x00 ∷ 0x00 ∷ 0x02 ∷ replicate 12 0x00
+
+-- what passes questions 10 to 12 is told by its fields: two such messages of bytes, with the same header due and equal fields, are the same
+abbrev pub FieldsTell : Type 0
+FieldsTell =
+    (k : ℕ) (due : Header) (a b : List ℕ)
+    → allBelow 256 a ≡ true
+    → allBelow 256 b ≡ true
+    → askForm k due a 0 ≡ 0
+    → askForm k due b 0 ≡ 0
+    → let fields = fieldCount k (paramsOf (due .settings .shape)) (due .round) in
+    ((f : ℕ) → f < fields → fieldIn fields a f ≡ fieldIn fields b f)
+    → a ≡ b
