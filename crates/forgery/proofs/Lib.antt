@@ -10,5 +10,6 @@ pub mod Others
 pub mod Follows
 pub mod Tried
 pub mod Runs
+pub mod Rounds
 -- All together
 pub mod Theorem

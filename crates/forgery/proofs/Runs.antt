@@ -6,11 +6,13 @@ use mathlib.Core.Bool.{Bool, true, false, cond, true≢false}
 use mathlib.Core.List.{List, []}
 use native.Mathlib.Omega.{arith}
 use lib.Dec.{eqb, ltb}
-use borrow.Author.Tests.{eqb-true, eq-eqb}
+use borrow.Author.Tests.{eqb-true, eq-eqb, lt-ltb}
 use Rattle.lists.specs.Lists.{every, allBelow}
 use Rattle.lists.proofs.Every.{all-below}
+use Rattle.settings.specs.Schedule.{rounds, sendStep, takeStep}
 use Rattle.settings.specs.Settings.{termsOf}
 use Rattle.settings.specs.Sizes.{widthOf}
+use Rattle.settings.proofs.Schedule.{take-round}
 use Rattle.message.proofs.RoundTrip.{round-trip}
 use Rattle.book.specs.Books.{multipliers}
 use Rattle.book.proofs.Laws.{laws}
@@ -24,6 +26,7 @@ use Rattle.runs.specs.Records.Call.{takeLatest}
 use Rattle.runs.specs.Progress.{Counts, none, sentOf, next, stepCounts, countsAfter, sideAt, messageAt, partyAt, partyFrom, jointAt}
 use Rattle.runs.proofs.Whole.{honest-pair}
 use Rattle.runs.proofs.Both.{latest-is, start-pace, pace-after, other-call}
+use Rattle.runs.proofs.Carried.{take-goes}
 use Rattle.runs.proofs.Opens.{Facing}
 use Rattle.runs.proofs.Runs.{plainOpening, facing}
 use Rattle.runs.proofs.Theorem.{honest, progress}
@@ -159,6 +162,23 @@ module _ (k : ℕ) (r : HonestRun k) where
 
   pub record-is : (tried : List ℕ) → Choice k tried → senderRecord k r tried ≡ senderRecord k r (dealt k r)
   record-is tried c = record-same tried (dealt k r) (tried-run k r tried c) as-dealt
+
+  -- where the counts have come to the receiver's take of round R + 1, it is due
+  pub due-by-counts : (R : ℕ) → R < rounds → counts ≡ record { observer = suc (suc (sendStep (number k r) R)); peer = suc (takeStep (1 - number k r) R) } → Due k r
+  unfolding stepCounts
+  due-by-counts R l e =
+      let heard : R < sentOf (number k r) (suc (suc (sendStep (number k r) R))) = omega arith in
+      eqb-true (takeAnswer k r (dealt k r) (honestMessage k r)) 0
+      (takes-by-counts (dealt k r) as-dealt
+      ∙ rw (e, take-goes k (r .settings) (1 - number k r) (sentOf (number k r) (suc (suc (sendStep (number k r) R)))) R (omega arith) l heard)
+      (lt-ltb (suc (takeStep (1 - number k r) R)) (suc (suc (takeStep (1 - number k r) R))) (omega arith)))
+
+  pub round-by-counts : (R : ℕ) → R < rounds → counts ≡ record { observer = suc (suc (sendStep (number k r) R)); peer = suc (takeStep (1 - number k r) R) }
+      → after k r (dealt k r) .peer .side .round ≡ suc R
+  unfolding jointAt partyAt sideAt begunSide
+  round-by-counts R l e =
+      ap (λ (x : JointState). x .peer .side .round) (after-is (dealt k r) as-dealt)
+      ∙ rw e (take-round (1 - number k r) R (omega arith) l)
 
   module _ (due : Due k r) where
     counts-due : ltb (counts .peer) (taken .peer) ≡ true

@@ -15,6 +15,7 @@ use Rattle.forgery.proofs.Takes.{taken-formed, share-law, part-law}
 use Rattle.forgery.proofs.Others.{difference}
 use Rattle.forgery.proofs.Others.Difference.{share-differs, part-differs}
 use Rattle.forgery.proofs.Tried.{draw-as-dealt}
+use Rattle.forgery.proofs.Rounds.{due-in}
 use Rattle.forgery.proofs.Runs.{honest-bytes, record-is, takes-under, side-under}
 
 module _ (k : ℕ) (r : HonestRun k) where
@@ -58,7 +59,7 @@ module _ (k : ℕ) (r : HonestRun k) where
       }
 
 pub odds : (k : ℕ) → Odds k
-odds k = record { all = all-choices k; limit = limit k; runs = forged-messages k }
+odds k = record { all = all-choices k; limit = limit k; runs = forged-messages k; each-round = due-in k }
 
 pub four-keys : FourKeys
 four-keys = record { odds = odds keyCount; among = among; bits = (rw among (lit< tt), rw among (lit< tt)) }

@@ -34,7 +34,7 @@ module _ (k : ℕ) (r : HonestRun k) where
 
 -- the run, its receiver named: a case for each side
 module _ (k : ℕ) (r : HonestRun k) where
-  abbrev with-receiver : (receiver : ℕ) → receiver < 2 → HonestRun k
+  abbrev pub with-receiver : (receiver : ℕ) → receiver < 2 → HonestRun k
   with-receiver receiver side2 =
       record {
         settings = r .settings;

@@ -1,6 +1,6 @@
 -- An honest run under each tried choice of the receiver's keys: what follows the choice, what stays, and what take answers to a message.
 -- k is the number of keys a side.
-use Prim.Native.Nat.{ℕ, _-_, _*_, _<_}
+use Prim.Native.Nat.{ℕ, suc, _-_, _*_, _<_}
 use mathlib.Core.Path.{_≡_}
 use mathlib.Core.Logic.{_≢_}
 use mathlib.Core.Bool.{Bool, true, cond, not}
@@ -94,8 +94,7 @@ module _ (k : ℕ) (r : HonestRun k) where
   abbrev pub takeAnswer : List ℕ → List ℕ → ℕ
   takeAnswer tried message = takeCall k (after tried .peer .side) (after tried .peer .work) message .done .refused
 
-  -- the receiver takes the sender's message, if it comes as it was sent. By demand 2 this is so before each of the seven takes of either side
-  -- in a run carried through in order
+  -- the receiver takes the sender's message, if it comes as it was sent
   abbrev pub Due : Type 0
   Due = takeAnswer dealt honestMessage ≡ 0
 
@@ -134,3 +133,31 @@ module _ (k : ℕ) (r : HonestRun k) where
   -- the receiver's take does not answer 13
   abbrev pub undetected : List ℕ → List ℕ → Bool
   undetected forged tried = not (eqb (takeAnswer tried forged) 13)
+
+-- the run with other calls
+abbrev pub withCalls : (k : ℕ) → HonestRun k → List ScheduledCall → HonestRun k
+withCalls k r calls =
+    record {
+      settings = r .settings;
+      serial = r .serial;
+      keys0 = r .keys0;
+      keys1 = r .keys1;
+      fixed = r .fixed;
+      receiver = r .receiver;
+      side2 = r .side2;
+      secret = r .secret;
+      secret-ok = r .secret-ok;
+      inputs = r .inputs;
+      inputs-ok = r .inputs-ok;
+      draw = r .draw;
+      draw-ok = r .draw-ok;
+      start = r .start;
+      start-ok = r .start-ok;
+      calls = calls;
+    }
+
+-- after some calls the receiver is to take the message of round R + 1
+pub record DueIn (k : ℕ) (r : HonestRun k) (R : ℕ) : Type 0 where
+  pub calls : List ScheduledCall
+  pub due : Due k (withCalls k r calls)
+  pub round : after k (withCalls k r calls) (dealt k r) .peer .side .round ≡ suc R

@@ -6,11 +6,12 @@ use mathlib.Core.Bool.{true}
 use mathlib.Core.List.{List}
 use lib.ListN.{length}
 use Rattle.field.specs.Field.{q}
+use Rattle.settings.specs.Schedule.{rounds}
 use Rattle.settings.specs.Sizes.{keyCount}
 use Rattle.opening.specs.Check.{Given, accepts}
 use Rattle.forgery.specs.Choices.{Choice, choices, count, AtMostOne, None, AllChoices}
 use Rattle.forgery.specs.Forgery.{Opening, following, NonZero, PartsOnly, believed, believedAll, guessing}
-use Rattle.forgery.specs.Runs.{HonestRun, dealt, drawUnder, senderRecord, honestMessage, takeAnswer, Due, Formed, ShareDiffers, PartDiffers, Another, undetected}
+use Rattle.forgery.specs.Runs.{HonestRun, dealt, drawUnder, senderRecord, honestMessage, takeAnswer, Due, Formed, ShareDiffers, PartDiffers, Another, undetected, DueIn}
 
 -- ---- The check
 
@@ -71,6 +72,8 @@ pub record Odds (k : ℕ) : Type 0 where
   pub all : AllChoices k
   pub limit : Limit k
   pub runs : (r : HonestRun k) → Forged k r
+  -- "at either side and round": in each round there are calls after which the message is due
+  pub each-round : (r : HonestRun k) (R : ℕ) → R < rounds → DueIn k r R
 
 -- "At most one choice of the four keys accepts it, among (q − 1)⁴"
 pub record FourKeys : Type 0 where

@@ -3,6 +3,7 @@ use Prim.Native.Nat.{ℕ, zero, suc, _+_, _-_, _≤_, _<_}
 use mathlib.Core.Path.{_≡_, refl, sym, ap, _∙_}
 use mathlib.Core.List.{List, [], _∷_, _++_}
 use mathlib.Core.Bool.{Bool, true, false, not, _&&_, _||_, true≢false}
+use native.Mathlib.Nat.{add-zero}
 use native.Mathlib.Omega.{arith}
 use native.Mathlib.Decide.{decLt}
 use lib.Dec.{eqb, leb, ltb}
@@ -153,7 +154,7 @@ module _ (k : ℕ) (s : Settings) where
   -- ---- The plans
 
   -- both sides before round R + 1
-  abbrev before : ℕ → Counts
+  abbrev pub before : ℕ → Counts
   before R = record { observer = suc (sendStep 0 R); peer = suc (takeStep 1 R) }
 
   enough : (round : ℕ) → roomFor k s round (length (outFor k s round)) ≡ true
@@ -162,10 +163,10 @@ module _ (k : ℕ) (s : Settings) where
       le-leb n (length (replicate {A = ℕ} n 0)) (omega (arith, length-replicate {A = ℕ} n 0))
 
   -- a step that is due is made
-  send-goes : (number heard R : ℕ) → number < 2 → R < rounds → next k s number heard (send (outFor k s (suc R))) (suc (sendStep number R)) ≡ suc (suc (sendStep number R))
+  pub send-goes : (number heard R : ℕ) → number < 2 → R < rounds → next k s number heard (send (outFor k s (suc R))) (suc (sendStep number R)) ≡ suc (suc (sendStep number R))
   send-goes number heard R u r = rw (next-send k s number heard u R r (outFor k s (suc R)), enough (suc R))
 
-  take-goes : (number heard R : ℕ) → number < 2 → R < rounds → R < heard → next k s number heard takeLatest (suc (takeStep number R)) ≡ suc (suc (takeStep number R))
+  pub take-goes : (number heard R : ℕ) → number < 2 → R < rounds → R < heard → next k s number heard takeLatest (suc (takeStep number R)) ≡ suc (suc (takeStep number R))
   take-goes number heard R u r l = rw (next-take k s number heard u R r, lt-ltb R heard l)
 
   round-goes : (R : ℕ) → R < rounds → (rest : List ScheduledCall) → countsAfter k s 0 (before R) (roundInOrder k s (suc R) ++ rest) ≡ countsAfter k s 0 (before (suc R)) rest
@@ -182,28 +183,29 @@ module _ (k : ℕ) (s : Settings) where
         whole,
       )
 
-  rounds-go : (first j n R : ℕ) → first + j ≡ suc R → R + n ≡ rounds → countsAfter k s 0 (before R) (joinFrom j n (λ i. roundInOrder k s (first + i))) ≡ before rounds
+  -- n rounds more
+  pub rounds-go : (first j n R : ℕ) → first + j ≡ suc R → R + n ≤ rounds → countsAfter k s 0 (before R) (joinFrom j n (λ i. roundInOrder k s (first + i))) ≡ before (R + n)
   unfolding joinFrom countsAfter
-  rounds-go first j zero R e f =
-      let g : R ≡ rounds = omega arith in
-      rw g
+  rounds-go first j zero R e f = rw (add-zero R)
   rounds-go first j (suc n) R e f =
       let rest = joinFrom (suc j) n (λ i. roundInOrder k s (first + i)) in
+      let more : suc R + n ≡ R + suc n = omega arith in
       ap (λ (r : ℕ). countsAfter k s 0 (before R) (roundInOrder k s r ++ rest)) e
       ∙ round-goes R (omega arith) rest
       ∙ rounds-go first (suc j) n (suc R) (omega arith) (omega arith)
+      ∙ ap before more
 
   second : countsAfter k s 0 none (phoneSecond k s) ≡ before rounds
   unfolding countsAfter stepCounts next
-  second = rounds-go 1 0 rounds 0 refl refl
+  second = rounds-go 1 0 rounds 0 refl (omega arith)
 
   first : countsAfter k s 0 none (phoneFirst k s) ≡ before rounds
   unfolding countsAfter stepCounts next
-  first = rounds-go 1 0 rounds 0 refl refl
+  first = rounds-go 1 0 rounds 0 refl (omega arith)
 
   late : countsAfter k s 0 none (phoneLate k s) ≡ before rounds
   unfolding joinFrom countsAfter stepCounts next roundAfter
-  late = simp (enough 1) (rounds-go 2 0 (rounds - 1) 1 refl refl)
+  late = simp (enough 1) (rounds-go 2 0 (rounds - 1) 1 refl (omega arith))
 
   -- ---- A run carried through
 
