@@ -65,6 +65,12 @@ module _ (k : ℕ) (s : Settings) (keys0 keys1 draw : List ℕ) (possible-draw :
   unfolding serverNumber
   number-below e c = mod-lt _ some-q
 
+  phone-missing : (e c : ℕ) → sub q (getD (multipliers keys0 keys1) c 0 * bookValue p width draw e) (numberOf e c) ≡ phoneNumber p width draw e c
+  unfolding serverNumber
+  phone-missing e c =
+      missing-back (getD (multipliers keys0 keys1) c 0) (bookValue p width draw e) (phoneNumber p width draw e c)
+      (phone-below (termsOf s) width some-q draw ok e c)
+
   module _ (tried : List ℕ) where
     abbrev new : List ℕ
     new = phoneFollowing k s keys0 keys1 draw tried
@@ -99,14 +105,21 @@ module _ (k : ℕ) (s : Settings) (keys0 keys1 draw : List ℕ) (possible-draw :
     number-same : (e c : ℕ) → e < shared p → c < width → serverNumber p width (multipliers keys0 tried) new e c ≡ numberOf e c
     number-same e c h l = back-from e c (numberOf e c) h (number-below e c) (phone-is e c h l)
 
+    -- what is missing from the server's number is the phone's
+    phone-back : (e c : ℕ) → e < shared p → c < width
+        → sub q (getD (multipliers keys0 keys1) c 0 * bookValue p width new e) (serverNumber p width (multipliers keys0 tried) new e c) ≡ phoneNumber p width draw e c
+    phone-back e c h l = rw (number-same e c h l, value-is e h) (phone-missing e c)
+
     pub server-same : serverBook p width (multipliers keys0 tried) new ≡ serverBook p width (multipliers keys0 keys1) draw
     unfolding serverBook
     server-same = in-order (shared p) width _ _ (omega arith) number-same
 
+    -- the keys dealt, tried in turn, lead back
+    pub back : phoneFollowing k s keys0 tried new keys1 ≡ draw
+    unfolding phoneFollowing
+    back = drawFrom-is p width _ _ draw (ok .size) drawn-same (λ e c h l. phone-back e c h l)
+
   -- with the keys dealt
   pub as-dealt : phoneFollowing k s keys0 keys1 draw keys1 ≡ draw
-  unfolding phoneFollowing serverNumber
-  as-dealt =
-      drawFrom-is p width _ _ draw (ok .size) (λ e h i. refl) (λ e c h l.
-      missing-back (getD (multipliers keys0 keys1) c 0) (bookValue p width draw e) (phoneNumber p width draw e c)
-      (phone-below (termsOf s) width some-q draw ok e c))
+  unfolding phoneFollowing
+  as-dealt = drawFrom-is p width _ _ draw (ok .size) (λ e h i. refl) (λ e c h l. phone-missing e c)

@@ -1,7 +1,6 @@
 -- The limit on the check (Limit): one opening, a message of many, and that the limit is reached.
-use Prim.Native.Nat.{ℕ, _+_, _-_, _*_, _%_, _<_}
-use mathlib.Core.Path.{_≡_, ap}
-use mathlib.Core.Logic.{_≢_}
+use Prim.Native.Nat.{ℕ, _+_, _%_, _<_}
+use mathlib.Core.Path.{_≡_}
 use mathlib.Core.Bool.{true, false}
 use mathlib.Core.List.{List}
 use native.Mathlib.Nat.{mod-lt}

@@ -12,7 +12,7 @@ use Rattle.runs.specs.Records.Call.{begin, send, takeLatest}
 use Rattle.runs.specs.Demands.{scheduled, outFor, roundsFrom}
 use Rattle.runs.specs.Progress.{Counts, none, sentOf, next, stepCounts, countsAfter}
 use Rattle.runs.proofs.Carried.{before, send-goes, take-goes, rounds-go}
-use Rattle.forgery.specs.Runs.{HonestRun, withCalls, DueIn}
+use Rattle.forgery.specs.Runs.{HonestRun, DueIn}
 use Rattle.forgery.proofs.Tried.{with-receiver}
 use Rattle.forgery.proofs.Runs.{due-by-counts, round-by-counts}
 
@@ -88,13 +88,13 @@ module _ (k : ℕ) (r : HonestRun k) (R : ℕ) (l : R < rounds) where
   due-at zero side2 =
       let calls = exchanged (phoneSent k (r .settings) R) in
       let counted = counts-swapped k (r .settings) (phoneSent k (r .settings) R) none ∙ ap swapped (phone-counted k (r .settings) R l) in
-      let run = withCalls k (with-receiver k r 0 side2) calls in
-      record { calls = calls; due = due-by-counts k run R l counted; round = round-by-counts k run R l counted }
+      let run = with-receiver k r 0 side2 in
+      record { calls = calls; due = due-by-counts k run calls R l counted; round = round-by-counts k run calls R l counted }
   due-at (suc zero) side2 =
       let calls = serverSent k (r .settings) R in
       let counted = server-counted k (r .settings) R l in
-      let run = withCalls k (with-receiver k r 1 side2) calls in
-      record { calls = calls; due = due-by-counts k run R l counted; round = round-by-counts k run R l counted }
+      let run = with-receiver k r 1 side2 in
+      record { calls = calls; due = due-by-counts k run calls R l counted; round = round-by-counts k run calls R l counted }
   due-at (suc (suc n)) side2 = absurd (omega arith)
 
   pub due-in : DueIn k r R

@@ -4,15 +4,14 @@ use Prim.Native.Nat.{ℕ, zero, suc, _-_, _<_}
 use mathlib.Core.Path.{_≡_, refl, ap}
 use mathlib.Core.List.{List}
 use native.Mathlib.Omega.{arith}
-use Rattle.settings.specs.declared.Settings.{Settings}
 use Rattle.settings.specs.Settings.{termsOf}
 use Rattle.settings.specs.Sizes.{widthOf}
 use Rattle.column.specs.Run.{plainOpened}
 use Rattle.runs.specs.Records.{PartyInput}
 use Rattle.runs.specs.Demands.{Fixed, Possible, observerInput}
 use Rattle.forgery.specs.Choices.{Choice}
-use Rattle.forgery.specs.Runs.{HonestRun, dealt, serverKeys, phoneKeys, drawUnder, senderInput, receiverInput}
-use Rattle.forgery.proofs.Follows.{possible, numbers-same, server-same, as-dealt}
+use Rattle.forgery.specs.Runs.{HonestRun, dealt, serverKeys, phoneKeys, drawFollowing, drawUnder, senderInput, receiverInput}
+use Rattle.forgery.proofs.Follows.{possible, numbers-same, server-same, back, as-dealt}
 
 module _ (k : ℕ) (r : HonestRun k) where
   -- the sender's number, what its begin is handed, and the numbers that the rounds open, as dealt
@@ -52,7 +51,6 @@ module _ (k : ℕ) (r : HonestRun k) where
         draw-ok = r .draw-ok;
         start = r .start;
         start-ok = r .start-ok;
-        calls = r .calls;
       }
 
   server-tried : (tried : List ℕ) → Choice k tried → Fixed k (r .settings) (r .serial) tried (r .keys1)
@@ -94,6 +92,15 @@ module _ (k : ℕ) (r : HonestRun k) where
   draw-at zero side2 = refl
   draw-at (suc zero) side2 = as-dealt k (r .settings) (r .keys0) (r .keys1) (r .draw) (r .draw-ok)
   draw-at (suc (suc n)) side2 = absurd (omega arith)
+
+  back-at : (receiver : ℕ) (side2 : receiver < 2) (tried : List ℕ) → let run = with-receiver receiver side2 in
+      drawFollowing k (r .settings) receiver (serverKeys k run tried) (phoneKeys k run tried) (drawUnder k run tried) (dealt k run) ≡ r .draw
+  back-at zero side2 tried = refl
+  back-at (suc zero) side2 tried = back k (r .settings) (r .keys0) (r .keys1) (r .draw) (r .draw-ok) tried
+  back-at (suc (suc n)) side2 tried = absurd (omega arith)
+
+  pub draw-back : (tried : List ℕ) → drawFollowing k (r .settings) (r .receiver) (serverKeys k r tried) (phoneKeys k r tried) (drawUnder k r tried) (dealt k r) ≡ r .draw
+  draw-back tried = back-at (r .receiver) (r .side2) tried
 
   pub draw-as-dealt : drawUnder k r (dealt k r) ≡ r .draw
   draw-as-dealt = draw-at (r .receiver) (r .side2)

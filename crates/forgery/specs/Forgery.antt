@@ -1,4 +1,4 @@
--- A forger who changes an opening on its way, and whether the check believes him. k is the number of keys a side.
+-- A forger who changes an opening on its way, and whether the check accepts it. k is the number of keys a side.
 use Prim.Native.Nat.{ℕ, _*_, _%_, _<_}
 use mathlib.Core.Path.{_≡_}
 use mathlib.Core.Logic.{_≢_}

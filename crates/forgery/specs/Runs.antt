@@ -15,16 +15,14 @@ use Rattle.settings.specs.Sizes.{widthOf, openings}
 use Rattle.message.specs.Message.{askForm}
 use Rattle.book.specs.Book.{drawn, bookValue}
 use Rattle.book.specs.Books.{multipliers, serverNumber}
-use Rattle.state.specs.declared.Side.{Side}
 use Rattle.opening.specs.Check.{Given}
 use Rattle.opening.specs.Opening.{dueHeader, given}
 use Rattle.side.specs.Side.{takeCall}
-use Rattle.runs.specs.Records.{PartyInput, PartyState, JointState, ScheduledCall, Record, jointAfter, recordOf}
+use Rattle.runs.specs.Records.{PartyInput, JointState, ScheduledCall, Record, jointAfter, recordOf}
 use Rattle.runs.specs.Demands.{Fixed, Secret, Shares, Possible, Start, observerInput, peerInput}
 use Rattle.secrecy.specs.Paired.{drawFrom}
 
--- an honest run, as demand 2 fixes it, after any list of calls; `observer` of a call is the side that sends the message in question, `peer`
--- the receiver, whose number is `receiver`; the inputs are the sender's
+-- an honest run, as demand 2 fixes it. A message goes from one side to the other, whose number is `receiver`; the inputs are the sender's
 pub record HonestRun (k : ℕ) : Type 0 where
   pub settings : Settings
   pub serial : ℕ
@@ -41,7 +39,6 @@ pub record HonestRun (k : ℕ) : Type 0 where
   pub draw-ok : Possible k settings draw
   pub start : JointState
   pub start-ok : Start k serial start
-  pub calls : List ScheduledCall
 
 -- the draw under tried keys of the phone: the server's book and the drawn numbers stay as dealt, and each of the phone's numbers is what is
 -- missing to factor × value, so that its parts follow its keys
@@ -51,6 +48,11 @@ phoneFollowing k s keys0 keys1 draw tried =
     let width = widthOf k in
     drawFrom p width (drawn p width draw) (λ (e c : ℕ).
     sub q (getD (multipliers keys0 tried) c 0 * bookValue p width draw e) (serverNumber p width (multipliers keys0 keys1) draw e c))
+
+-- the draw under tried keys of the receiver: "the server's are the difference", so they follow its keys with the draw as it was; for the
+-- phone's keys the draw follows
+abbrev pub drawFollowing : ℕ → Settings → ℕ → List ℕ → List ℕ → List ℕ → List ℕ → List ℕ
+drawFollowing k s receiver keys0 keys1 draw tried = cond (eqb receiver 0) draw (phoneFollowing k s keys0 keys1 draw tried)
 
 module _ (k : ℕ) (r : HonestRun k) where
   -- the receiver's keys as dealt
@@ -64,10 +66,8 @@ module _ (k : ℕ) (r : HonestRun k) where
   abbrev pub phoneKeys : List ℕ → List ℕ
   phoneKeys tried = cond (eqb (r .receiver) 0) (r .keys1) tried
 
-  -- the draw: "the server's are the difference", so they follow its keys with the draw as it was; for the phone's keys the draw follows
   abbrev pub drawUnder : List ℕ → List ℕ
-  drawUnder tried =
-      cond (eqb (r .receiver) 0) (r .draw) (phoneFollowing k (r .settings) (r .keys0) (r .keys1) (r .draw) tried)
+  drawUnder tried = drawFollowing k (r .settings) (r .receiver) (r .keys0) (r .keys1) (r .draw) tried
 
   -- what the sender's begin and the receiver's are handed
   abbrev pub senderInput : List ℕ → PartyInput
@@ -78,17 +78,19 @@ module _ (k : ℕ) (r : HonestRun k) where
   receiverInput tried =
       peerInput k (r .settings) (1 - r .receiver) (serverKeys tried) (phoneKeys tried) (r .inputs) (r .secret) (drawUnder tried)
 
-  -- both sides after the calls
+-- after any list of calls; their `observer` is the sender, their `peer` the receiver
+module _ (k : ℕ) (r : HonestRun k) (calls : List ScheduledCall) where
+  -- both sides
   abbrev pub after : List ℕ → JointState
-  after tried = jointAfter k (r .settings) (r .serial) (senderInput tried) (receiverInput tried) (r .start) (r .calls)
+  after tried = jointAfter k (r .settings) (r .serial) (senderInput k r tried) (receiverInput k r tried) (r .start) calls
 
   -- the sender's whole record
   abbrev pub senderRecord : List ℕ → Record
-  senderRecord tried = recordOf k (r .settings) (r .serial) (senderInput tried) (receiverInput tried) (r .start) (r .calls)
+  senderRecord tried = recordOf k (r .settings) (r .serial) (senderInput k r tried) (receiverInput k r tried) (r .start) calls
 
   -- the message that the receiver is to be handed: the sender's latest
   abbrev pub honestMessage : List ℕ
-  honestMessage = after dealt .observer .latest
+  honestMessage = after (dealt k r) .observer .latest
 
   -- what the receiver's take of a message answers under tried keys
   abbrev pub takeAnswer : List ℕ → List ℕ → ℕ
@@ -96,18 +98,18 @@ module _ (k : ℕ) (r : HonestRun k) where
 
   -- the receiver takes the sender's message, if it comes as it was sent
   abbrev pub Due : Type 0
-  Due = takeAnswer dealt honestMessage ≡ 0
+  Due = takeAnswer (dealt k r) honestMessage ≡ 0
 
   -- "questions 10 to 12 passed"
   abbrev pub Formed : List ℕ → Type 0
-  Formed message = askForm k (dueHeader (after dealt .peer .side)) message 0 ≡ 0
+  Formed message = askForm k (dueHeader (after (dealt k r) .peer .side)) message 0 ≡ 0
 
   -- how many openings the message has, and its opening o
   abbrev pub openingsDue : ℕ
-  openingsDue = openings (paramsIn (after dealt .peer .side .settings)) (after dealt .peer .side .round)
+  openingsDue = openings (paramsIn (after (dealt k r) .peer .side .settings)) (after (dealt k r) .peer .side .round)
 
   abbrev pub openingIn : List ℕ → ℕ → Given
-  openingIn message o = given k (after dealt .peer .side) message o
+  openingIn message o = given k (after (dealt k r) .peer .side) message o
 
   -- in place of the sender's message another one: its share of opening o is another
   pub record ShareDiffers (forged : List ℕ) : Type 0 where
@@ -134,30 +136,8 @@ module _ (k : ℕ) (r : HonestRun k) where
   abbrev pub undetected : List ℕ → List ℕ → Bool
   undetected forged tried = not (eqb (takeAnswer tried forged) 13)
 
--- the run with other calls
-abbrev pub withCalls : (k : ℕ) → HonestRun k → List ScheduledCall → HonestRun k
-withCalls k r calls =
-    record {
-      settings = r .settings;
-      serial = r .serial;
-      keys0 = r .keys0;
-      keys1 = r .keys1;
-      fixed = r .fixed;
-      receiver = r .receiver;
-      side2 = r .side2;
-      secret = r .secret;
-      secret-ok = r .secret-ok;
-      inputs = r .inputs;
-      inputs-ok = r .inputs-ok;
-      draw = r .draw;
-      draw-ok = r .draw-ok;
-      start = r .start;
-      start-ok = r .start-ok;
-      calls = calls;
-    }
-
--- after some calls the receiver is to take the message of round R + 1
+-- in round R + 1: there are calls after which the receiver is to take its message
 pub record DueIn (k : ℕ) (r : HonestRun k) (R : ℕ) : Type 0 where
   pub calls : List ScheduledCall
-  pub due : Due k (withCalls k r calls)
-  pub round : after k (withCalls k r calls) (dealt k r) .peer .side .round ≡ suc R
+  pub due : Due k r calls
+  pub round : after k r calls (dealt k r) .peer .side .round ≡ suc R

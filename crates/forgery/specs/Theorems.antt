@@ -9,9 +9,12 @@ use Rattle.field.specs.Field.{q}
 use Rattle.settings.specs.Schedule.{rounds}
 use Rattle.settings.specs.Sizes.{keyCount}
 use Rattle.opening.specs.Check.{Given, accepts}
+use Rattle.runs.specs.Records.{ScheduledCall}
+use Rattle.runs.specs.Demands.{Possible}
 use Rattle.forgery.specs.Choices.{Choice, choices, count, AtMostOne, None, AllChoices}
 use Rattle.forgery.specs.Forgery.{Opening, following, NonZero, PartsOnly, believed, believedAll, guessing}
-use Rattle.forgery.specs.Runs.{HonestRun, dealt, drawUnder, senderRecord, honestMessage, takeAnswer, Due, Formed, ShareDiffers, PartDiffers, Another, undetected, DueIn}
+use Rattle.forgery.specs.Runs.{HonestRun, dealt, serverKeys, phoneKeys, drawFollowing, drawUnder, senderRecord, honestMessage, takeAnswer}
+use Rattle.forgery.specs.Runs.{Due, Formed, ShareDiffers, PartDiffers, Another, undetected, DueIn}
 
 -- ---- The check
 
@@ -49,29 +52,37 @@ pub record Limit (k : ℕ) : Type 0 where
 
 -- ---- Take
 
--- in an honest run, at whichever side, after whichever calls
-pub record Forged (k : ℕ) (r : HonestRun k) : Type 0 where
+-- what is dealt in an honest run under each choice
+pub record DrawsFollow (k : ℕ) (r : HonestRun k) : Type 0 where
   -- the keys that were dealt are among the tried: under them the run is as dealt
   pub as-dealt : drawUnder k r (dealt k r) ≡ r .draw
+  -- draws under the dealt keys pair off one to one with draws under tried ones: the other is possible too, and leads back
+  pub possible : (tried : List ℕ) → Choice k tried → Possible k (r .settings) (drawUnder k r tried)
+  pub back : (tried : List ℕ)
+      → drawFollowing k (r .settings) (r .receiver) (serverKeys k r tried) (phoneKeys k r tried) (drawUnder k r tried) (dealt k r) ≡ r .draw
+
+-- in an honest run, at whichever side, after whichever calls
+pub record Forged (k : ℕ) (r : HonestRun k) (calls : List ScheduledCall) : Type 0 where
   -- "chosen without those keys": the sender's whole record is the same under every choice, and so is all that it could choose by
-  pub same-record : (tried : List ℕ) → Choice k tried → senderRecord k r tried ≡ senderRecord k r (dealt k r)
+  pub same-record : (tried : List ℕ) → Choice k tried → senderRecord k r calls tried ≡ senderRecord k r calls (dealt k r)
   -- "so that it passes unchanged": every choice takes the sender's message
-  pub unchanged : Due k r → (tried : List ℕ) → Choice k tried → takeAnswer k r tried (honestMessage k r) ≡ 0
+  pub unchanged : Due k r calls → (tried : List ℕ) → Choice k tried → takeAnswer k r calls tried (honestMessage k r calls) ≡ 0
   -- with questions 10 to 12 passed and some share changed, at most one choice does not answer 13
-  pub share : Due k r → (forged : List ℕ) → Formed k r forged → ShareDiffers k r forged → AtMostOne k (undetected k r forged)
+  pub share : Due k r calls → (forged : List ℕ) → Formed k r calls forged → ShareDiffers k r calls forged → AtMostOne k (undetected k r calls forged)
   -- with the share of an opening as it was, and a part changed there, every choice answers 13
-  pub part : Due k r → (forged : List ℕ) → Formed k r forged → PartDiffers k r forged → None k (undetected k r forged)
+  pub part : Due k r calls → (forged : List ℕ) → Formed k r calls forged → PartDiffers k r calls forged → None k (undetected k r calls forged)
   -- nothing else is left to change: any other message that passes 10 to 12 differs in one of these ways
-  pub no-other-way : Due k r → (forged : List ℕ) → Another k r forged → ShareDiffers k r forged ⊎ PartDiffers k r forged
+  pub no-other-way : Due k r calls → (forged : List ℕ) → Another k r calls forged → ShareDiffers k r calls forged ⊎ PartDiffers k r calls forged
   -- and so, whatever message it is, at most one choice does not answer 13
-  pub any-other : Due k r → (forged : List ℕ) → Another k r forged → AtMostOne k (undetected k r forged)
+  pub any-other : Due k r calls → (forged : List ℕ) → Another k r calls forged → AtMostOne k (undetected k r calls forged)
 
 -- ---- For any number of keys, and for four
 
 pub record Odds (k : ℕ) : Type 0 where
   pub all : AllChoices k
   pub limit : Limit k
-  pub runs : (r : HonestRun k) → Forged k r
+  pub draws : (r : HonestRun k) → DrawsFollow k r
+  pub runs : (r : HonestRun k) (calls : List ScheduledCall) → Forged k r calls
   -- "at either side and round": in each round there are calls after which the message is due
   pub each-round : (r : HonestRun k) (R : ℕ) → R < rounds → DueIn k r R
 
