@@ -8,16 +8,17 @@ use native.Mathlib.Nat.{mul-le-mul-right}
 use native.Mathlib.Omega.{arith}
 use lib.Dec.{eqb}
 use lib.ListN.{length}
-use borrow.Author.Tests.{ltb-true, eqb-true}
+use borrow.Author.Tests.{eqb-true}
 use Rattle.lists.specs.Answers.{ask}
 use Rattle.lists.specs.Lists.{allBelow, allTo}
 use Rattle.lists.proofs.Every.{allTo-at}
-use Rattle.lists.proofs.Questions.{both-yes, passed}
+use Rattle.lists.proofs.Questions.{passed}
 use Rattle.field.specs.Field.{q}
 use Rattle.field.proofs.Congruence.{≈-eq, ≈-lt}
 use Rattle.settings.specs.Settings.{paramsIn}
-use Rattle.settings.specs.Sizes.{openings, fieldCount, messageLength, workLength}
-use Rattle.message.specs.Message.{headerNumber, headerIn, fieldsOk, askForm}
+use Rattle.settings.specs.Sizes.{openings, workLength}
+use Rattle.message.specs.Message.{askForm}
+use Rattle.message.proofs.Form.{Formed, form-passed, form-rest, field-below}
 use Rattle.state.specs.declared.Side.{Side}
 use Rattle.state.specs.State.{takeDue}
 use Rattle.opening.specs.Check.{accepts}
@@ -51,34 +52,12 @@ module _ (k : ℕ) where
 
   -- ---- The questions
 
-  module _ (s : Side) (msg : List ℕ) where
-    abbrev fields : ℕ
-    fields = fieldCount k (paramsIn (s .settings)) (s .round)
-
-    abbrev long : Bool
-    long = eqb (length msg) (messageLength k (paramsIn (s .settings)) (s .round))
-
-    abbrev mine : Bool
-    mine = eqb (headerIn fields msg) (headerNumber (dueHeader s))
-
-    -- questions 10 to 12 say yes; no record, so that the keys do not matter
-    abbrev Form : Type 0
-    Form = (long ≡ true) × (mine ≡ true) × (fieldsOk fields msg ≡ true)
-
-    form : (rest : ℕ) → askForm k (dueHeader s) msg rest ≡ 0 → Form × (rest ≡ 0)
-    unfolding askForm
-    form rest e =
-        let a = passed long 9 _ e in
-        let b = passed mine 10 _ (a .1) in
-        let c = passed (fieldsOk fields msg) 11 rest (b .1) in
-        ((a .0, b .0, c .0), c .1)
-
-    -- a field below q
-    field-below : Form → (o f : ℕ) → o < count s → f < 1 + k → incoming k s msg o f < q
-    unfolding incoming fieldsOk
-    field-below h o f l m =
-        let inside : suc o * (1 + k) ≤ count s * (1 + k) = mul-le-mul-right (1 + k) l in
-        ltb-true _ q (allTo-at fields _ (o * (1 + k) + f) (both-yes _ _ (h .2) .0) (omega (arith, inside)))
+  -- a field of a message in due form
+  incoming-below : (s : Side) (msg : List ℕ) → Formed k (dueHeader s) msg → (o f : ℕ) → o < count s → f < 1 + k → incoming k s msg o f < q
+  unfolding incoming
+  incoming-below s msg h o f l m =
+      let inside : suc o * (1 + k) ≤ count s * (1 + k) = mul-le-mul-right (1 + k) l in
+      field-below k (dueHeader s) msg h (o * (1 + k) + f) (omega (arith, inside))
 
   module _ (s : Side) (work msg : List ℕ) where
     abbrev checks : Bool
@@ -89,7 +68,7 @@ module _ (k : ℕ) where
       eight : takeDue s ≡ true
       five : eqb (length work) (workLength k) ≡ true
       six : allBelow q work ≡ true
-      formed : Form s msg
+      formed : Formed k (dueHeader s) msg
       thirteen : checks ≡ true
 
     through : takeNo k s work msg ≡ 0 → Passed
@@ -98,21 +77,18 @@ module _ (k : ℕ) where
         let a = passed (takeDue s) 7 _ e in
         let b = passed (eqb (length work) (workLength k)) 4 _ (a .1) in
         let c = passed (allBelow q work) 5 _ (b .1) in
-        let d = form s msg _ (c .1) in
+        let d = form-passed k (dueHeader s) msg _ (c .1) in
         record { eight = a .0; five = b .0; six = c .0; formed = d .0; thirteen = passed checks 12 0 (d .1) .0 }
 
   -- a message that is taken is in due form
   pub taken-formed : (s : Side) (work msg : List ℕ) → takeCall k s work msg .done .refused ≡ 0 → askForm k (dueHeader s) msg 0 ≡ 0
-  unfolding askForm ask
-  taken-formed s work msg e =
-      let f = through s work msg (sym (answer-is k s work msg) ∙ e) .formed in
-      rw (f .0, f .1, f .2)
+  taken-formed s work msg e = form-rest k (dueHeader s) msg (through s work msg (sym (answer-is k s work msg) ∙ e) .formed) 0
 
   -- at a side and slice that take a message, another in due form is left to question 13
-  left-to-check : (s : Side) (work msg other : List ℕ) → Passed s work msg → Form s other
+  left-to-check : (s : Side) (work msg other : List ℕ) → Passed s work msg → Formed k (dueHeader s) other
       → takeNo k s work other ≡ ask (checks s work other) 13 0
-  unfolding takeNo askForm ask
-  left-to-check s work msg other p f = rw (p .eight, p .five, p .six, f .0, f .1, f .2)
+  unfolding takeNo ask
+  left-to-check s work msg other p f = rw (p .eight, p .five, p .six, form-rest k (dueHeader s) other f (ask (checks s work other) 13 0))
 
   -- an opening that passed
   check-at : (s : Side) (work msg : List ℕ) → checks s work msg ≡ true → (o : ℕ) → o < count s
@@ -125,8 +101,8 @@ module _ (k : ℕ) where
   module _ (s : Side) (work : List ℕ → List ℕ) (msg : List ℕ)
       (takes : (keys : List ℕ) → Choice k keys → takeNo k (withKeys s keys) (work keys) msg ≡ 0)
       (forged : List ℕ) (formed : askForm k (dueHeader s) forged 0 ≡ 0) (o : ℕ) (l : o < count s) where
-    form-of : Form s forged
-    form-of = form s forged 0 formed .0
+    form-of : Formed k (dueHeader s) forged
+    form-of = form-passed k (dueHeader s) forged 0 formed .0
 
     at : (keys : List ℕ) → Choice k keys → Passed (withKeys s keys) (work keys) msg
     at keys c = through (withKeys s keys) (work keys) msg (takes keys c)
@@ -143,7 +119,7 @@ module _ (k : ℕ) where
     unfolding incoming
     one-passes differ a b ca cb ha hb =
         choice-same k a b (ownGiven k (withKeys s a) (work a) o) (ownGiven k (withKeys s b) (work b) o) (given k s msg o) (given k s forged o) ca cb
-        (λ e. differ (≈-lt e (field-below s forged form-of o 0 l (omega arith)) (field-below s msg (at a ca .formed) o 0 l (omega arith))))
+        (λ e. differ (≈-lt e (incoming-below s forged form-of o 0 l (omega arith)) (incoming-below s msg (at a ca .formed) o 0 l (omega arith))))
         (check-at (withKeys s a) (work a) msg (at a ca .thirteen) o l)
         (check-at (withKeys s a) (work a) forged ha o l)
         (check-at (withKeys s b) (work b) msg (at b cb .thirteen) o l)
@@ -158,7 +134,7 @@ module _ (k : ℕ) where
         refuted (checksUnder keys) (λ h. true≢false (
         sym (check-at (withKeys s keys) (work keys) forged h o l)
         ∙ part-refused k keys (ownGiven k (withKeys s keys) (work keys) o) (given k s msg o) (given k s forged o) key m (≈-eq same)
-        (λ e. differ (≈-lt e (field-below s forged form-of o (1 + key) l (omega arith)) (field-below s msg (at keys c .formed) o (1 + key) l (omega arith))))
+        (λ e. differ (≈-lt e (incoming-below s forged form-of o (1 + key) l (omega arith)) (incoming-below s msg (at keys c .formed) o (1 + key) l (omega arith))))
         (check-at (withKeys s keys) (work keys) msg (at keys c .thirteen) o l)))
 
   -- ---- The same for a side that has these keys by an equation

@@ -5,23 +5,22 @@ use mathlib.Core.Bool.{true}
 use mathlib.Core.List.{List}
 use native.Mathlib.Nat.{mod-add-div'}
 use native.Mathlib.Omega.{arith}
-use lib.Dec.{eqb, ltb, lit≤}
+use lib.Dec.{ltb, lit≤}
 use lib.ListN.{length}
 use lib.Pow.{shr-shr}
 use lib.Seq.{ext-getD}
 use borrow.Author.Tests.{eqb-true}
 use Rattle.lists.specs.Lists.{allBelow, allTo}
 use Rattle.lists.proofs.Every.{below-at}
-use Rattle.lists.proofs.Questions.{both-yes, passed}
+use Rattle.lists.proofs.Questions.{both-yes}
 use Rattle.field.specs.Field.{q}
-use Rattle.settings.specs.Settings.{paramsOf}
-use Rattle.settings.specs.Sizes.{fieldBits, fieldCount, messageBits, messageLength}
-use Rattle.message.specs.declared.Header.{Header}
+use Rattle.settings.specs.Sizes.{fieldBits, messageBits}
 use Rattle.message.specs.Bits.{padding, numberOf}
 use Rattle.message.specs.Fields.{firstBits}
-use Rattle.message.specs.Message.{headerNumber, headerIn, fieldIn, fieldsOk, askForm}
+use Rattle.message.specs.Message.{fieldIn, fieldsOk}
 use Rattle.message.specs.Theorems.{FieldsTell}
 use Rattle.message.proofs.Numbers.{byte-is}
+use Rattle.message.proofs.Form.{fieldsOf, form-passed}
 
 -- ---- Numbers
 
@@ -66,26 +65,17 @@ same-bytes a b ha hb size number =
 
 -- ---- Messages
 
--- what the questions say of a message
-record Formed (k : ℕ) (due : Header) (msg : List ℕ) : Type 0 where
-  size : length msg ≡ messageLength k (paramsOf (due .settings .shape)) (due .round)
-  header : headerIn (fieldCount k (paramsOf (due .settings .shape)) (due .round)) msg ≡ headerNumber due
-  filled : numberOf msg % 2 ^ padding (messageBits (fieldCount k (paramsOf (due .settings .shape)) (due .round))) ≡ 0
-
-formed : (k : ℕ) (due : Header) (msg : List ℕ) → askForm k due msg 0 ≡ 0 → Formed k due msg
-unfolding askForm fieldsOk
-formed k due msg e =
-    let fields = fieldCount k (paramsOf (due .settings .shape)) (due .round) in
-    let a = passed (eqb (length msg) (messageLength k (paramsOf (due .settings .shape)) (due .round))) 9 _ e in
-    let b = passed (eqb (headerIn fields msg) (headerNumber due)) 10 _ (a .1) in
-    let c = passed (fieldsOk fields msg) 11 0 (b .1) in
-    record { size = eqb-true _ _ (a .0); header = eqb-true _ _ (b .0); filled = eqb-true _ _ (both-yes (allTo fields (λ (f : ℕ). ltb (fieldIn fields msg f) q)) _ (c .0) .1) }
+-- the padding is zero
+filled : (fields : ℕ) (msg : List ℕ) → fieldsOk fields msg ≡ true → numberOf msg % 2 ^ padding (messageBits fields) ≡ 0
+unfolding fieldsOk
+filled fields msg e = eqb-true _ 0 (both-yes (allTo fields (λ (f : ℕ). ltb (fieldIn fields msg f) q)) _ e .1)
 
 pub fields-tell : FieldsTell
 unfolding fieldIn
 fields-tell k due a b ha hb ea eb same =
-    let fields = fieldCount k (paramsOf (due .settings .shape)) (due .round) in
-    let x = formed k due a ea in
-    let y = formed k due b eb in
-    same-bytes a b ha hb (x .size ∙ sym (y .size))
-    (same-number (padding (messageBits fields)) fields (numberOf a) (numberOf b) (x .header ∙ sym (y .header)) same (x .filled ∙ sym (y .filled)))
+    let fields = fieldsOf k due in
+    let x = form-passed k due a 0 ea .0 in
+    let y = form-passed k due b 0 eb .0 in
+    same-bytes a b ha hb (eqb-true _ _ (x .ten) ∙ sym (eqb-true _ _ (y .ten)))
+    (same-number (padding (messageBits fields)) fields (numberOf a) (numberOf b)
+    (eqb-true _ _ (x .eleven) ∙ sym (eqb-true _ _ (y .eleven))) same (filled fields a (x .twelve) ∙ sym (filled fields b (y .twelve))))
