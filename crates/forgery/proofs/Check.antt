@@ -8,6 +8,7 @@ use native.Mathlib.Nat.{one-mul}
 use native.Mathlib.Omega.{arith}
 use lib.ListN.{getD}
 use lib.Seq.{ext-getD}
+use Rattle.lists.proofs.Members.{refuted}
 use Rattle.field.specs.Field.{q}
 use Rattle.field.specs.Congruence.{_⊩_≈_}
 use Rattle.field.proofs.Congruence.{≈-refl, ≈-eq, ≈-sym, ≈-add, ≈-mul, ≈-lt}
@@ -16,7 +17,6 @@ use Rattle.field.proofs.Prime.{no-zero-divisors}
 use Rattle.opening.specs.Check.{Given, accepts}
 use Rattle.opening.proofs.Checks.{check-passes}
 use Rattle.forgery.specs.Choices.{Choice}
-use Rattle.forgery.proofs.Members.{refuted}
 use Rattle.forgery.proofs.Choices.{key-below}
 
 pub some-q : 0 < q

@@ -10,12 +10,13 @@ use lib.Dec.{leb, ltb}
 use lib.ListN.{length, getD, length-append, length-map}
 use borrow.Author.Tests.{lt-ltb, le-leb, ltb-true, leb-true}
 use Rattle.lists.specs.Lists.{every, joinFrom}
+use Rattle.lists.specs.Members.{Each, Among, Different, count}
 use Rattle.lists.proofs.Every.{every-at}
+use Rattle.lists.proofs.Members.{each-any, each-more, each-join, each-map, different-append, among-map, among-join, none-pass, one-passes, some-passes}
 use Rattle.lists.proofs.Questions.{and-yes, both-yes}
 use Rattle.field.specs.Field.{q}
 use Rattle.settings.specs.Questions.{keyOk, keysOk}
-use Rattle.forgery.specs.Choices.{Choice, keyAt, keysUpTo, choices, count, AtMostOne, None, Each, Among, Different, AllChoices}
-use Rattle.forgery.proofs.Members.{each-any, each-more, each-join, each-map, different-append, among-map, among-join, none-pass, one-passes, some-passes}
+use Rattle.forgery.specs.Choices.{Choice, keyAt, keysUpTo, choices, AtMostOne, None, AllChoices}
 
 -- ---- One key
 

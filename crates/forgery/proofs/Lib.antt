@@ -1,5 +1,4 @@
--- All choices of keys, and counting.
-pub mod Members
+-- All choices of keys.
 pub mod Choices
 -- The check of an opening, and the limit.
 pub mod Check

@@ -13,6 +13,7 @@ use Rattle.lists.specs.Answers.{ask}
 use Rattle.lists.specs.Lists.{allBelow, allTo}
 use Rattle.lists.proofs.Every.{allTo-at}
 use Rattle.lists.proofs.Questions.{passed}
+use Rattle.lists.proofs.Members.{refuted}
 use Rattle.field.specs.Field.{q}
 use Rattle.field.proofs.Congruence.{≈-eq, ≈-lt}
 use Rattle.settings.specs.Settings.{paramsIn}
@@ -25,7 +26,6 @@ use Rattle.opening.specs.Check.{accepts}
 use Rattle.opening.specs.Opening.{dueHeader, incoming, ownGiven, given, passes}
 use Rattle.side.specs.Side.{After, after, takeNo, takeCall}
 use Rattle.forgery.specs.Choices.{Choice, AtMostOne, None}
-use Rattle.forgery.proofs.Members.{refuted}
 use Rattle.forgery.proofs.Choices.{at-most-one, none}
 use Rattle.forgery.proofs.Check.{choice-same, part-refused}
 
@@ -110,11 +110,11 @@ module _ (k : ℕ) where
     abbrev checksUnder : List ℕ → Bool
     checksUnder keys = checks (withKeys s keys) (work keys) forged
 
-    pub answer-under : (keys : List ℕ) → Choice k keys → takeNo k (withKeys s keys) (work keys) forged ≡ ask (checksUnder keys) 13 0
+    answer-under : (keys : List ℕ) → Choice k keys → takeNo k (withKeys s keys) (work keys) forged ≡ ask (checksUnder keys) 13 0
     answer-under keys c = left-to-check (withKeys s keys) (work keys) msg forged (at keys c) form-of
 
     -- another share: two choices under which all openings pass are one
-    pub one-passes : given k s forged o .share ≢ given k s msg o .share
+    one-passes : given k s forged o .share ≢ given k s msg o .share
         → (a b : List ℕ) → Choice k a → Choice k b → checksUnder a ≡ true → checksUnder b ≡ true → a ≡ b
     unfolding incoming
     one-passes differ a b ca cb ha hb =
@@ -126,7 +126,7 @@ module _ (k : ℕ) where
         (check-at (withKeys s b) (work b) forged hb o l)
 
     -- the same share and another part: none passes
-    pub none-passes : given k s forged o .share ≡ given k s msg o .share
+    none-passes : given k s forged o .share ≡ given k s msg o .share
         → (key : ℕ) → key < k → given k s forged o .part key ≢ given k s msg o .part key
         → (keys : List ℕ) → Choice k keys → checksUnder keys ≡ false
     unfolding incoming

@@ -100,7 +100,7 @@ module _ (k : ℕ) (r : HonestRun k) (calls : List ScheduledCall) where
   abbrev pub Due : Type 0
   Due = takeAnswer (dealt k r) honestMessage ≡ 0
 
-  -- "questions 10 to 12 passed"
+  -- questions 10 to 12 say yes: the length of the round, the header due, fields below q and zero padding
   abbrev pub Formed : List ℕ → Type 0
   Formed message = askForm k (dueHeader (after (dealt k r) .peer .side)) message 0 ≡ 0
 
@@ -111,13 +111,13 @@ module _ (k : ℕ) (r : HonestRun k) (calls : List ScheduledCall) where
   abbrev pub openingIn : List ℕ → ℕ → Given
   openingIn message o = given k (after (dealt k r) .peer .side) message o
 
-  -- in place of the sender's message another one: its share of opening o is another
+  -- a message in place of the sender's: its share of some opening is another
   pub record ShareDiffers (forged : List ℕ) : Type 0 where
     pub opening : ℕ
     pub inside : opening < openingsDue
     pub share : openingIn forged opening .share ≢ openingIn honestMessage opening .share
 
-  -- the share of an opening is the same, and a part under some key is another
+  -- its share of some opening is the same, and its part there under some key is another
   pub record PartDiffers (forged : List ℕ) : Type 0 where
     pub opening : ℕ
     pub inside : opening < openingsDue
@@ -126,7 +126,7 @@ module _ (k : ℕ) (r : HonestRun k) (calls : List ScheduledCall) where
     pub key-inside : key < k
     pub part : openingIn forged opening .part key ≢ openingIn honestMessage opening .part key
 
-  -- any message of bytes with questions 10 to 12 passed that is not the sender's
+  -- any message of bytes that passes questions 10 to 12 and is not the sender's
   pub record Another (forged : List ℕ) : Type 0 where
     pub bytes : allBelow 256 forged ≡ true
     pub formed : Formed forged

@@ -5,13 +5,14 @@ use mathlib.Core.Logic.{_⊎_}
 use mathlib.Core.Bool.{true}
 use mathlib.Core.List.{List}
 use lib.ListN.{length}
+use Rattle.lists.specs.Members.{count}
 use Rattle.field.specs.Field.{q}
 use Rattle.settings.specs.Schedule.{rounds}
 use Rattle.settings.specs.Sizes.{keyCount}
 use Rattle.opening.specs.Check.{Given, accepts}
 use Rattle.runs.specs.Records.{ScheduledCall}
 use Rattle.runs.specs.Demands.{Possible}
-use Rattle.forgery.specs.Choices.{Choice, choices, count, AtMostOne, None, AllChoices}
+use Rattle.forgery.specs.Choices.{Choice, choices, AtMostOne, None, AllChoices}
 use Rattle.forgery.specs.Forgery.{Opening, following, NonZero, PartsOnly, believed, believedAll, guessing}
 use Rattle.forgery.specs.Runs.{HonestRun, dealt, serverKeys, phoneKeys, drawFollowing, drawUnder, senderRecord, honestMessage, takeAnswer}
 use Rattle.forgery.specs.Runs.{Due, Formed, ShareDiffers, PartDiffers, Another, undetected, DueIn}
@@ -83,7 +84,7 @@ pub record Odds (k : ℕ) : Type 0 where
   pub limit : Limit k
   pub draws : (r : HonestRun k) → DrawsFollow k r
   pub runs : (r : HonestRun k) (calls : List ScheduledCall) → Forged k r calls
-  -- "at either side and round": in each round there are calls after which the message is due
+  -- at either side, in each round, there are calls after which the message is due
   pub each-round : (r : HonestRun k) (R : ℕ) → R < rounds → DueIn k r R
 
 -- "At most one choice of the four keys accepts it, among (q − 1)⁴"

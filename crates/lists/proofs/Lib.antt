@@ -8,3 +8,4 @@ pub mod Part
 pub mod Choices
 pub mod Bytes
 pub mod Strides
+pub mod Members

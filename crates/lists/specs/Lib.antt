@@ -1,3 +1,4 @@
--- The words for lists and answers.
+-- The words for lists, their members, and answers.
 pub mod Answers
 pub mod Lists
+pub mod Members

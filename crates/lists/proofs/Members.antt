@@ -6,9 +6,9 @@ use mathlib.Core.Bool.{Bool, true, false}
 use mathlib.Core.List.{List, [], _∷_, _++_, map}
 use native.Mathlib.Decide.{decLt}
 use native.Mathlib.Omega.{arith}
 use Rattle.lists.specs.Answers.{bit}
 use Rattle.lists.specs.Lists.{joinFrom}
-use Rattle.forgery.specs.Choices.{count, Each, Among, Different}
+use Rattle.lists.specs.Members.{Each, Among, Different, count}
 
 -- ---- Every member
 
