@@ -1,4 +1,4 @@
--- What is proved of messages, as types: what is written is read again, and nothing else passes.
+-- What is proved of messages, as types: what is written is read again, and what passes is told by its fields.
 use Prim.Native.Nat.{ℕ, _%_, _^_, _<_}
 use mathlib.Core.Path.{_≡_}
 use mathlib.Core.Bool.{true}
