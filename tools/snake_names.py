@@ -108,9 +108,16 @@ def main():
         text = read(path)
         rust = path.endswith(".rt")
         own = path.split("/")[-2] if path.endswith("/Proof.antt") else ""
+        # A name that this file has from the library stays.
+        library = set()
+        for module, names in re.findall(r"use ([^\s{;]+)\.\{([^{}]*)\}", text):
+            if not (module.startswith("Rattle.") and os.path.isdir(os.path.join("crates", module.split(".")[1]))):
+                library |= {n.strip().split(" as ")[0] for n in names.split(",")}
 
         def turn(m):
             word = m[0]
+            if word in library:
+                return word
             if own and word == own.replace("_", "-") + "-spec":
                 return own + "_spec"
             if rust and re.fullmatch(r"\w+", word) and not re.search(r"[a-z0-9][A-Z]", word):

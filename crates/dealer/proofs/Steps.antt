@@ -5,7 +5,7 @@ use mathlib.Core.Bool.{Bool, true, false, cond}
 use mathlib.Core.List.{List}
 use Prim.Native.Nat.{ℕ, ◌+◌, ◌*◌, ◌/◌, ◌≤◌, ◌<◌}
 use native.Mathlib.Nat.{add-zero}
-use native.Mathlib.Numerals.{add_one}
+use native.Mathlib.Numerals.{add-one}
 use native.Mathlib.Omega.{arith}
 use lib.Dec.{eqb}
 use borrow.Author.Tests.{eq-eqb, ne_eqb}
@@ -62,7 +62,7 @@ module _ (o : DealContext) where
 
   pub sum_step : (i : ℕ) → sum_to i (base (params_for o).scale) + base (params_for o).scale i ≡ sum_to (i + 1) (base (params_for o).scale)
   unfolding sum_to
-  sum_step i = rw add_one
+  sum_step i = rw add-one
 
   pub bound-group : (g : ℕ) → o.shape.kind ≢ 0 → group_at (params_for o) g ≡ mask_at (params_for o) o.shape.n
   unfolding group_at

@@ -3,7 +3,7 @@ use Prim.Native.Nat.{ℕ, suc, ◌+◌, ◌-◌, ◌≤◌, ◌<◌}
 use mathlib.Core.Path.{◌≡◌, refl, sym, ap, ◌∙◌}
 use mathlib.Core.Bool.{true, false, not}
 use mathlib.Core.List.{List, [], ◌∷◌, ◌++◌}
-use native.Mathlib.Numerals.{add_one}
+use native.Mathlib.Numerals.{add-one}
 use native.Mathlib.Omega.{arith}
 use borrow.Author.Tests.{lt-ltb, le-ltb, le-leb, not-true, not-false}
 use lib.ListN.{length, take, drop, length-drop}
@@ -47,7 +47,7 @@ module _ (line : List ℕ) (n : ℕ) (s : length line ≤ longest_line) (e : n �
     unfolding rest
     two =
         let all : behind ≡ drop (n + 1) line = take_all (length line - (n + 1)) (drop (n + 1) line) (omega (arith, length-drop (n + 1) line)) in
-        rw (short, all, add_one n, le-leb (suc n) (length line) (omega arith)) refl
+        rw (short, all, add-one n, le-leb (suc n) (length line) (omega arith)) refl
 
     pub line_bad : (r : WordsRead) (numbers : List ℕ) → ReadsNumbers (words behind) r numbers → not r.good ≡ true → malformed_text ≡ line_result line
     unfolding words_result

@@ -3,7 +3,7 @@ use Prim.Native.Nat.{ℕ, suc, ◌+◌, ◌-◌, ◌≤◌, ◌<◌}
 use mathlib.Core.Path.{◌≡◌, refl, sym, ap, ◌∙◌}
 use mathlib.Core.Bool.{Bool, true, false, cond, not, true≢false}
 use mathlib.Core.List.{List, [], ◌∷◌, ◌++◌, append_assoc, append-nil}
-use native.Mathlib.Numerals.{add_one}
+use native.Mathlib.Numerals.{add-one}
 use native.Mathlib.Omega.{arith}
 use lib.Dec.{eqb}
 use borrow.Author.Tests.{eq-eqb, ne_eqb, not-true, not-false}
@@ -32,7 +32,7 @@ same_length (x ∷ xs) (y ∷ ys) h = go (eqb x y) (same_length xs ys (λ e. h (
 module _ (v w : List ℕ) (i : ℕ) (l : length v ≡ length w) (inv : same_word (drop i v) (drop i w) ≡ same_word v w) where
   pub same_more : i < length w → get_or v i 0 ≡ get_or w i 0 → same_word (drop (i + 1) v) (drop (i + 1) w) ≡ same_word v w
   unfolding same_word
-  same_more h e = rw add_one (rw (drop-cons v i 0 (omega arith), drop-cons w i 0 h, eq-eqb (get_or v i 0) (get_or w i 0) e) at inv)
+  same_more h e = rw add-one (rw (drop-cons v i 0 (omega arith), drop-cons w i 0 h, eq-eqb (get_or v i 0) (get_or w i 0) e) at inv)
 
   pub same_stop : i < length w → (get_or v i 0 ≡ get_or w i 0 → ⊥) → false ≡ same_word v w
   unfolding same_word
@@ -81,7 +81,7 @@ module _ (line : List ℕ) (at n : ℕ) (word : ReadNumber) (h : at ≤ length l
   unfolding values_of
   read_more numbers t count l i =
       let j : take count numbers ++ word.value ∷ values_of (fields_of (rest line (at + n + 1))) ≡ t = rw (next, ← field) at i in
-      rw (add_one count, take-suc-set numbers count word.value l, append_assoc) j
+      rw (add-one count, take-suc-set numbers count word.value l, append_assoc) j
 
 -- all words have been read
 pub good_end : (line : List ℕ) (at : ℕ) (t : Bool) → length line < at → all_good (fields_of (rest line at)) ≡ t → true ≡ t

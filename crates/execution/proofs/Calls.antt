@@ -2,7 +2,7 @@
 use Prim.Native.Nat.{ℕ, zero, suc, ◌+◌, ◌-◌, ◌≤◌}
 use mathlib.Core.Path.{◌≡◌, refl, sym, ap, ◌∙◌}
 use mathlib.Core.List.{List, [], append-nil}
-use native.Mathlib.Numerals.{add_one}
+use native.Mathlib.Numerals.{add-one}
 use native.Mathlib.Omega.{arith}
 use lib.ListN.{length, drop}
 use lib.Seq.{drop-drop}
@@ -250,7 +250,7 @@ pub round-more : (n : ℕ) (x y r : Execution) (server phone bytes server' phone
     → RoundsRun n x server phone bytes y server' phone' bytes' → RoundsRun 1 y server' phone' bytes' r server'' phone'' bytes''
     → RoundsRun (n + 1) x server phone bytes r server'' phone'' bytes''
 round-more n x y r server phone bytes server' phone' bytes' server'' phone'' bytes'' a b =
-    rw (add_one n)
+    rw (add-one n)
     (record {
       is = λ s serial h o. b.is s serial h o ∙ ap (λ (z : Carried). carry_all s serial h o z (round_calls 1)) (a.is s serial h o) ∙ last-round s serial h o n _;
       fits = λ more f. b.fits more (a.fits (2 + more) (record { server = f.server; phone = f.phone; room = omega (arith, f.room) }));

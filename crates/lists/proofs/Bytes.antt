@@ -3,7 +3,7 @@ use Prim.Native.Nat.{ℕ, suc, ◌+◌, ◌-◌, ◌≤◌, ◌<◌}
 use mathlib.Core.Path.{◌≡◌, refl, sym, ap, ◌∙◌}
 use mathlib.Core.Bool.{Bool, true, false, cond, not, true≢false}
 use mathlib.Core.List.{List, [], ◌∷◌, ◌++◌}
-use native.Mathlib.Numerals.{add_one}
+use native.Mathlib.Numerals.{add-one}
 use native.Mathlib.Nat.{zero-add}
 use native.Mathlib.Omega.{arith}
 use borrow.Author.Tests.{eq-eqb, ne_eqb}
@@ -15,7 +15,7 @@ use Rattle.lists.specs.Lists.{every, length_before}
 -- ---- copying
 
 pub copy_more : (d k s : List ℕ) (at i : ℕ) → at + i < length d → i < length s → k ≡ paste d at s i → set k (at + i) (get_or s i 0) ≡ paste d at s (i + 1)
-copy_more d k s at i h l e = rw (e, add_one i) (paste-suc d at s i 0 h l)
+copy_more d k s at i h l e = rw (e, add-one i) (paste-suc d at s i 0 h l)
 
 pub copy_done : (d k s : List ℕ) (at i n : ℕ) → i ≤ n → n ≤ i → k ≡ paste d at s i → k ≡ paste d at s n
 copy_done d k s at i n h l e = let f : i ≡ n = omega arith in rw f at e
@@ -27,7 +27,7 @@ pub length_more : (b : ℕ) (s : List ℕ) (i t : ℕ) → i < length s → (get
 unfolding length_before
 length_more b s i t h n e =
     let f : i + suc (length_before b (drop (suc i) s)) ≡ t = rw (drop-cons s i 0 h, ne_eqb (get_or s i 0) b n) at e in
-    rw add_one (omega (arith, f))
+    rw add-one (omega (arith, f))
 
 pub length_found : (b : ℕ) (s : List ℕ) (i t : ℕ) → i < length s → get_or s i 0 ≡ b → i + length_before b (drop i s) ≡ t → i ≡ t
 unfolding length_before

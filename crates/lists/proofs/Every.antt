@@ -1,9 +1,9 @@
 -- Tests of every member of a list: one member, and a loop that stops at the first that fails.
 use mathlib.Core.Path.{◌≡◌, refl, sym, ◌∙◌, ap₂}
-use mathlib.Core.Bool.{Bool, true, false, ◌&&◌, and-false, and_true}
+use mathlib.Core.Bool.{Bool, true, false, ◌&&◌, and-false, and-true}
 use mathlib.Core.List.{List, [], ◌∷◌, ◌++◌}
 use Prim.Native.Nat.{ℕ, zero, suc, ◌+◌, ◌≤◌, ◌<◌}
-use native.Mathlib.Numerals.{add_one}
+use native.Mathlib.Numerals.{add-one}
 use native.Mathlib.Nat.{zero-add, add-zero}
 use native.Mathlib.Omega.{arith}
 use native.Mathlib.Decide.{dec_lt}
@@ -19,7 +19,7 @@ use Rattle.lists.proofs.Questions.{both_yes, and_yes}
 module _ (f : ℕ → Bool) (xs : List ℕ) (i : ℕ) where
   pub every_again : i < length xs → f (get_or xs i 0) ≡ true → every f (drop i xs) ≡ every f xs → every f (drop (i + 1) xs) ≡ every f xs
   unfolding every
-  every_again h e inv = rw add_one (rw (drop-cons xs i 0 h, e) at inv)
+  every_again h e inv = rw add-one (rw (drop-cons xs i 0 h, e) at inv)
 
   pub every_stop : i < length xs → f (get_or xs i 0) ≡ false → every f (drop i xs) ≡ every f xs → false ≡ every f xs
   unfolding every
@@ -32,7 +32,7 @@ module _ (f : ℕ → Bool) (xs : List ℕ) (i : ℕ) where
   -- a loop that looks at every number, `good` being whether all passed so far
   step : i < length xs → every f (drop i xs) ≡ (f (get_or xs i 0) && every f (drop (i + 1) xs))
   unfolding every
-  step h = rw (drop-cons xs i 0 h, add_one) refl
+  step h = rw (drop-cons xs i 0 h, add-one) refl
 
   pub every-passed : (good : Bool) → i < length xs → f (get_or xs i 0) ≡ true → (good && every f (drop i xs)) ≡ every f xs → (good && every f (drop (i + 1) xs)) ≡ every f xs
   every-passed good h e inv = rw (step h, e) at inv
@@ -42,7 +42,7 @@ module _ (f : ℕ → Bool) (xs : List ℕ) (i : ℕ) where
 
   pub every_ended : (good : Bool) → length xs ≤ i → (good && every f (drop i xs)) ≡ every f xs → good ≡ every f xs
   unfolding every
-  every_ended good h inv = sym (and_true good) ∙ rw (drop_of_length-le xs h) at inv
+  every_ended good h inv = sym (and-true good) ∙ rw (drop_of_length-le xs h) at inv
 
 -- the same for numbers below m
 module _ (m : ℕ) (xs : List ℕ) (i : ℕ) where

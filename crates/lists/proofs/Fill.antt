@@ -3,7 +3,7 @@ use mathlib.Core.Path.{◌≡◌, refl, sym, ap, ◌∙◌}
 use mathlib.Core.List.{List, ◌∷◌, ◌++◌, []}
 use Prim.Native.Nat.{ℕ, zero, suc, ◌+◌, ◌-◌, ◌≤◌, ◌<◌}
 use native.Mathlib.Omega.{arith}
-use native.Mathlib.Numerals.{add_one}
+use native.Mathlib.Numerals.{add-one}
 use lib.ListN.{length, get_or, set, drop, length-set, take}
 use native.Mathlib.Nat.{zero-add, add-zero, add-suc, add_assoc, suc-add}
 use lib.Seq.{get_or-set_same, get_or-set_other, ext_get_or, drop-set-lt, set_comm, take_at}
@@ -18,7 +18,7 @@ fill_none s i f = refl
 
 pub fill_more : (s : List ℕ) (i n : ℕ) (f : ℕ → ℕ) → fill s i (n + 1) f ≡ set (fill s i n f) (i + n) (f n)
 unfolding fill
-fill_more s i n f = rw add_one
+fill_more s i n f = rw add-one
 
 pub length-fill : (s : List ℕ) (i n : ℕ) (f : ℕ → ℕ) → length (fill s i n f) ≡ length s
 unfolding fill

@@ -5,7 +5,7 @@ use mathlib.Core.List.{List}
 use Prim.Native.Nat.{ℕ, zero, suc, ◌+◌, ◌*◌, ◌≤◌, ◌<◌}
 use native.Mathlib.Decide.{dec_lt}
 use native.Mathlib.Nat.{mul-le-mul_left}
-use native.Mathlib.Numerals.{add_one}
+use native.Mathlib.Numerals.{add-one}
 use native.Mathlib.Omega.{arith}
 use lib.ListN.{length, get_or, set, length-set}
 use lib.Seq.{get_or-set_same, get_or-set_other}
@@ -19,7 +19,7 @@ module _ (step : ℕ) where
 
   pub stride-more : (s₀ s : List ℕ) (i n x : ℕ) (f : ℕ → ℕ) → s ≡ fill_by step s₀ i n f → x ≡ f n → set s (i + step * n) x ≡ fill_by step s₀ i (n + 1) f
   unfolding fill_by
-  stride-more s₀ s i n x f e h = rw (add_one, e, h)
+  stride-more s₀ s i n x f e h = rw (add-one, e, h)
 
   pub length-stride : (s : List ℕ) (i n : ℕ) (f : ℕ → ℕ) → length (fill_by step s i n f) ≡ length s
   unfolding fill_by

@@ -4,7 +4,7 @@ use mathlib.Core.Bool.{true}
 use mathlib.Core.List.{List, [], ◌∷◌, ◌++◌}
 use Prim.Native.Nat.{ℕ, zero, suc, ◌+◌, ◌-◌, ◌*◌, ◌%◌, ◌/◌, ◌^◌, ◌≤◌, ◌<◌}
 use native.Mathlib.Nat.{add-zero, mul-one, mul_assoc, mul-add-mod_self_right}
-use native.Mathlib.Numerals.{add_one}
+use native.Mathlib.Numerals.{add-one}
 use native.Mathlib.Omega.{arith}
 use lib.Dec.{lit<}
 use lib.Arith.{digits_lt}
@@ -80,7 +80,7 @@ module _ (s : List ℕ) (bytes : Bytes s) where
   put-more fs e h i l =
       let x = fields_behind (first_bits s header_bits) (take i fs) in
       let m : 64 + 23 * (i + 1) ≡ 64 + 23 * i + 23 = omega arith in
-      rw (m, add_one i, behind_more (first_bits s header_bits) fs i l)
+      rw (m, add-one i, behind_more (first_bits s header_bits) fs i l)
       (put-packed s bytes (64 + 23 * i) 23 x (get_or fs i 0) (behind_lt (first_bits s header_bits) 64 fs e (first_lt s bytes 64 h) i (omega arith)))
 
   -- the last bits of field i are those that the first i + 1 fields leave in a byte
@@ -94,7 +94,7 @@ module _ (s : List ℕ) (bytes : Bytes s) where
       let k : 23 ≡ 23 - u + u = omega arith in
       let apart : b * 2 ^ 23 ≡ b * 2 ^ (23 - u) * 2 ^ u =
       ap (λ (m : ℕ). b * 2 ^ m) k ∙ ap (λ (y : ℕ). b * y) (pow-add 2 (23 - u) u) ∙ sym (mul_assoc b (2 ^ (23 - u)) (2 ^ u)) in
-      rw (add_one i, first, behind_more x fs i l, apart) (sym (mul-add-mod_self_right (b * 2 ^ (23 - u)) (2 ^ u) (get_or fs i 0)))
+      rw (add-one i, first, behind_more x fs i l, apart) (sym (mul-add-mod_self_right (b * 2 ^ (23 - u)) (2 ^ u) (get_or fs i 0)))
 
   pub put_all : (fs : List ℕ) → put_to s fs (length fs) ≡ put_fields s fs
   unfolding put_fields

@@ -2,7 +2,7 @@
 use mathlib.Core.Path.{◌≡◌, refl, sym, ap, ap₂, ◌∙◌}
 use mathlib.Core.List.{List}
 use Prim.Native.Nat.{ℕ, suc, ◌+◌, ◌*◌, ◌-◌, ◌^◌, ◌≤◌, ◌<◌}
-use native.Mathlib.Numerals.{add_one}
+use native.Mathlib.Numerals.{add-one}
 use native.Mathlib.Omega.{arith}
 use native.Mathlib.Decide.{dec_lt}
 use native.Mathlib.Nat.{mul-le-mul_left, mul-le-mul_right}
@@ -21,7 +21,7 @@ module _ (low high : Rule) (half : ℕ) where
 
   pub block_turn : (z start n : ℕ) (w₀ w w' : List ℕ) → w ≡ block low high half z start n w₀ → w' ≡ pair low high half z (start + n) w → w' ≡ block low high half z start (n + 1) w₀
   unfolding block
-  block_turn z start n w₀ w w' e t = rw add_one (t ∙ ap (pair low high half z (start + n)) e)
+  block_turn z start n w₀ w w' e t = rw add-one (t ∙ ap (pair low high half z (start + n)) e)
 
   pub block_size : (z start n : ℕ) (w₀ w : List ℕ) → w ≡ block low high half z start n w₀ → length w ≡ length w₀
   block_size z start n w₀ w e = ap length e ∙ length-block low high half z start n w₀
@@ -43,7 +43,7 @@ module _ (low high : Rule) (half : ℕ) where
 
   pub layer_turn : (z : ℕ → ℕ) (n f : ℕ) (w₀ w w' : List ℕ) → w ≡ layer low high half z n w₀ → f ≡ z n → w' ≡ block low high half f (n * (2 * half)) half w → w' ≡ layer low high half z (n + 1) w₀
   unfolding layer
-  layer_turn z n f w₀ w w' e g t = rw (add_one, ← g) (t ∙ ap (block low high half f (n * (2 * half)) half) e)
+  layer_turn z n f w₀ w w' e g t = rw (add-one, ← g) (t ∙ ap (block low high half f (n * (2 * half)) half) e)
 
   pub layer-size : (z : ℕ → ℕ) (n : ℕ) (w₀ w : List ℕ) → w ≡ layer low high half z n w₀ → length w ≡ length w₀
   layer-size z n w₀ w e = ap length e ∙ length-layer low high half z n w₀
@@ -76,7 +76,7 @@ module _ (n h b : ℕ) (eh : h ≡ 2 ^ (7 - n)) (eb : b ≡ 2 ^ n) where
   pub forward_turn : (w₀ w w' : List ℕ) → w ≡ lazy_to n w₀ → w' ≡ layer lazy_low lazy_high h (forward_factor b) b w → w' ≡ lazy_to (n + 1) w₀
   unfolding lazy_to lazy_layer
   forward_turn w₀ w w' e t =
-      rw add_one (t ∙ ap₂ (λ h b. layer lazy_low lazy_high h (forward_factor b) b w) eh eb ∙ ap (lazy_layer n) e)
+      rw add-one (t ∙ ap₂ (λ h b. layer lazy_low lazy_high h (forward_factor b) b w) eh eb ∙ ap (lazy_layer n) e)
 
   pub inverse_layer_is : (w w' : List ℕ) → w' ≡ layer lazy_inverse_low (lazy_inverse_high (h * q)) h (inverse_factor b) b w → w' ≡ lazy_inverse_layer n w
   unfolding lazy_inverse_layer
@@ -85,7 +85,7 @@ module _ (n h b : ℕ) (eh : h ≡ 2 ^ (7 - n)) (eb : b ≡ 2 ^ n) where
   -- what is left of the inverse gives what all of it gives
   pub inverse_turn : (m : ℕ) (w₀ w w' : List ℕ) → m ≡ n + 1 → lazy_inverse_from m w ≡ lazy_inverse_from 8 w₀ → w' ≡ layer lazy_inverse_low (lazy_inverse_high (h * q)) h (inverse_factor b) b w → lazy_inverse_from n w' ≡ lazy_inverse_from 8 w₀
   unfolding lazy_inverse_from
-  inverse_turn m w₀ w w' k e t = ap (lazy_inverse_from n) (inverse_layer_is w w' t) ∙ (rw (k, add_one) at e)
+  inverse_turn m w₀ w w' k e t = ap (lazy_inverse_from n) (inverse_layer_is w w' t) ∙ (rw (k, add-one) at e)
 
 pub forward_none : (w : List ℕ) → w ≡ lazy_to 0 w
 unfolding lazy_to

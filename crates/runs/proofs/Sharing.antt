@@ -4,7 +4,7 @@ use mathlib.Core.Path.{◌≡◌, sym, ap, ap₂, ◌∙◌}
 use mathlib.Core.List.{List, ◌∷◌}
 use mathlib.Core.Bool.{true}
 use native.Mathlib.Omega.{arith}
-use native.Mathlib.Numerals.{add_one, one-add}
+use native.Mathlib.Numerals.{add-one, one-add}
 use native.Mathlib.Nat.{zero-add, add-zero, mul-le-mul_right, mul_comm}
 use lib.Dec.{ltb}
 use lib.ListN.{length, get_or}
@@ -58,7 +58,7 @@ module _ (k : ℕ) (s : Settings) (serial : ℕ) (numbers : ℕ → List ℕ) wh
     unfolding outgoing prepared own_number side_at begun_side party_at work_at
     outgoing-is _ (server {keys} {inputs} {book}) v R r c j l m = rw (add-zero R, (at-send k s serial numbers (input_as 0 keys inputs book) R server r).round)
     outgoing-is _ (phone {keys} {inputs} {book}) v R r c j l m =
-        rw (add_one R)
+        rw (add-one R)
         (t.own (terms_of s) (suc R) _ (weights k 1 keys) (work_at k s serial numbers (input_as 1 keys inputs book) R) v.most v.some
         (v.exact R ∙ ap (λ (x : ℕ). x * places) (sym v.sized)) c j (omega (arith, v.sized)) m)
 

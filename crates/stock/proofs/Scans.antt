@@ -3,7 +3,7 @@ use mathlib.Core.Path.{◌≡◌, refl}
 use mathlib.Core.List.{List}
 use Prim.Native.Nat.{ℕ, zero, suc, ◌+◌, ◌*◌, ◌/◌, ◌≤◌, ◌<◌}
 use native.Mathlib.Nat.{suc-mul, le_trans, mul-le-mul_right, div-mul-le_self}
-use native.Mathlib.Numerals.{add_one}
+use native.Mathlib.Numerals.{add-one}
 use native.Mathlib.Omega.{arith}
 use native.Mathlib.Decide.{dec_lt}
 use lib.ListN.{length}
@@ -72,7 +72,7 @@ module _ (x : ℕ → ℕ) (size last n : ℕ) (p : Found) (h : Least x size las
 
   -- a turn of the loop
   pub least_more : (r : Found) → r ≡ better last p (n * size) (x n) → Least x size last (n + 1) r
-  least_more r e = rw (e, add_one) step
+  least_more r e = rw (e, add-one) step
 
 -- among any numbers there is one to find
 pub least_of : (x : ℕ → ℕ) (size last n : ℕ) → (p : Found) × Least x size last n p

@@ -4,7 +4,7 @@ use mathlib.Core.Path.{◌≡◌, refl, sym, ap, ◌∙◌}
 use mathlib.Core.Bool.{Bool, true, false, true≢false}
 use mathlib.Core.List.{List, [], ◌∷◌, ◌++◌, append-nil, append_assoc}
 use native.Mathlib.Omega.{arith}
-use native.Mathlib.Numerals.{add_one}
+use native.Mathlib.Numerals.{add-one}
 use native.Mathlib.Decide.{dec_lt}
 use borrow.Author.Tests.{lt-ltb, le-ltb, ne_eqb}
 use lib.ListN.{length, take, drop, length-take, length-append, length-drop}
@@ -86,7 +86,7 @@ module _ {C : Type 0} (handler : Handler C) (room : ℕ) (cut : LooksAt C room h
 
     used_ended : n < length bytes → (next_line a.stream a.kept bytes).used ≡ suc n
     unfolding next_line
-    used_ended h = rw (lt-ltb n (length bytes) h) (add_one n)
+    used_ended h = rw (lt-ltb n (length bytes) h) (add-one n)
 
     -- the lines to come, before and after
     lines_next : n < length bytes → onto st.line (lines_of (bytes ++ rest)) ≡ grown ∷ lines_of (drop (suc n) bytes ++ rest)

@@ -3,7 +3,7 @@ use Prim.Native.Nat.{ℕ, suc, ◌+◌, ◌-◌, ◌≤◌, ◌<◌}
 use mathlib.Core.Path.{◌≡◌, refl, sym, ap, ◌∙◌}
 use mathlib.Core.Bool.{Bool, true, false, cond, ◌&&◌}
 use mathlib.Core.List.{List, [], ◌∷◌, ◌++◌, append-nil, append_assoc}
-use native.Mathlib.Numerals.{add_one}
+use native.Mathlib.Numerals.{add-one}
 use native.Mathlib.Omega.{arith}
 use lib.Dec.{ltb}
 use lib.ListN.{length, get_or, set, take, drop, length-append, length-drop}
@@ -38,7 +38,7 @@ words_on g vs [] = same_reading (sym (and_true g)) (omega arith) (ap (row 11) (s
 words_on g vs (w ∷ ws) =
     let f : ReadNumber = field_at (length vs) w in
     let us : List ℕ = vs ++ f.value ∷ [] in
-    let e : length us ≡ suc (length vs) = length-append vs (f.value ∷ []) ∙ add_one _ in
+    let e : length us ≡ suc (length vs) = length-append vs (f.value ∷ []) ∙ add-one _ in
     let s : with_word (reading g (length vs) (row 11 vs)) w ≡ reading (g && f.good) (length us) (row 11 us) =
     same_reading refl (sym (length-append vs (f.value ∷ []))) (set-row 11 vs f.value) in
     ap (λ r. with_words r ws) s

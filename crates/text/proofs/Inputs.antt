@@ -4,7 +4,7 @@ use mathlib.Core.Path.{◌≡◌, refl}
 use mathlib.Core.Bool.{true, false}
 use borrow.Author.Tests.{lt-leb, ne_eqb}
 use mathlib.Core.List.{List}
-use native.Mathlib.Numerals.{add_one}
+use native.Mathlib.Numerals.{add-one}
 use lib.ListN.{length, get_or, drop, drop_of_length-le}
 use lib.Seq.{drop-cons}
 use Rattle.text.specs.declared.NumbersRead.{NumbersRead}
@@ -31,7 +31,7 @@ ended_is most s d e n h = rw (ne_eqb s.digits.count 0 n, lt-leb most s.count h, 
 pub bytes-more : (most : ℕ) (s r t : NumbersRead) (bytes : List ℕ) (i : ℕ) → i < length bytes → after_bytes most s (drop i bytes) ≡ t
     → r ≡ after_byte most s (get_or bytes i 0) → after_bytes most r (drop (i + 1) bytes) ≡ t
 unfolding after_bytes
-bytes-more most s r t bytes i h e p = rw (p, add_one) (rw (drop-cons bytes i 0 h) at e)
+bytes-more most s r t bytes i h e p = rw (p, add-one) (rw (drop-cons bytes i 0 h) at e)
 
 pub bytes-done : (most : ℕ) (s t : NumbersRead) (bytes : List ℕ) (i : ℕ) → length bytes ≤ i → after_bytes most s (drop i bytes) ≡ t → s ≡ t
 unfolding after_bytes
@@ -40,7 +40,7 @@ bytes-done most s t bytes i h e = rw (drop_of_length-le bytes h) at e
 pub kept_more : (most : ℕ) (s r : NumbersRead) (ns ms t : List ℕ) (bytes : List ℕ) (i : ℕ) → i < length bytes → kept_over most s (drop i bytes) ns ≡ t
     → r ≡ after_byte most s (get_or bytes i 0) → ms ≡ kept r ns → kept_over most r (drop (i + 1) bytes) ms ≡ t
 unfolding kept_over
-kept_more most s r ns ms t bytes i h e p m = rw (m, p, add_one) (rw (drop-cons bytes i 0 h) at e)
+kept_more most s r ns ms t bytes i h e p m = rw (m, p, add-one) (rw (drop-cons bytes i 0 h) at e)
 
 pub kept-done : (most : ℕ) (s : NumbersRead) (ns t : List ℕ) (bytes : List ℕ) (i : ℕ) → length bytes ≤ i → kept_over most s (drop i bytes) ns ≡ t → ns ≡ t
 unfolding kept_over

@@ -3,7 +3,7 @@ use Prim.Native.Nat.{ℕ, suc, ◌+◌, ◌≤◌, ◌<◌}
 use mathlib.Core.Path.{◌≡◌, refl, sym, ap, ◌∙◌}
 use mathlib.Core.Bool.{Bool, true, false, cond}
 use mathlib.Core.List.{List, [], ◌∷◌, ◌++◌, append-nil, append_assoc}
-use native.Mathlib.Numerals.{add_one}
+use native.Mathlib.Numerals.{add-one}
 use native.Mathlib.Omega.{arith}
 use native.Mathlib.Decide.{dec_lt}
 use lib.Dec.{ltb}
@@ -55,7 +55,7 @@ puts-within t (b ∷ bs) h =
 
 put-room : (out : List ℕ) (at b : ℕ) → at < length out → put (text_at out at) b ≡ text_at (set out at b) (suc at)
 unfolding put
-put-room out at b h = rw (lt-ltb at (length out) h, add_one at) refl
+put-room out at b h = rw (lt-ltb at (length out) h, add-one at) refl
 
 -- where there is room for all, the next place is behind them
 pub puts-at : (out : List ℕ) (at : ℕ) (bs : List ℕ) → at + length bs ≤ length out → (puts (text_at out at) bs).at ≡ at + length bs
@@ -96,7 +96,7 @@ module _ (out : List ℕ) (at : ℕ) (bs now : List ℕ) (r : ℕ) (e : text_at 
 
 pub puts-more : (s r t : Text) (bytes : List ℕ) (i : ℕ) → i < length bytes → puts s (drop i bytes) ≡ t → r ≡ puts s (get_or bytes i 0 ∷ []) → puts r (drop (i + 1) bytes) ≡ t
 unfolding puts
-puts-more s r t bytes i h e p = rw (p, add_one) (rw (drop-cons bytes i 0 h) at e)
+puts-more s r t bytes i h e p = rw (p, add-one) (rw (drop-cons bytes i 0 h) at e)
 
 pub puts-done : (s t : Text) (bytes : List ℕ) (i : ℕ) → length bytes ≤ i → puts s (drop i bytes) ≡ t → s ≡ t
 unfolding puts
@@ -105,7 +105,7 @@ puts-done s t bytes i h e = rw (drop_of_length-le bytes h) at e
 pub numbers_more : (s r t : Text) (ns : List ℕ) (i : ℕ) → i < length ns → puts s (numbers_text (drop i ns)) ≡ t
     → r ≡ puts s (32 ∷ decimal (get_or ns i 0)) → puts r (numbers_text (drop (i + 1) ns)) ≡ t
 unfolding numbers_text
-numbers_more s r t ns i h e p = rw (p, add_one, puts_append) (rw (drop-cons ns i 0 h) at e)
+numbers_more s r t ns i h e p = rw (p, add-one, puts_append) (rw (drop-cons ns i 0 h) at e)
 
 pub numbers-done : (s t : Text) (ns : List ℕ) (i : ℕ) → length ns ≤ i → puts s (numbers_text (drop i ns)) ≡ t → s ≡ t
 unfolding numbers_text puts
@@ -114,7 +114,7 @@ numbers-done s t ns i h e = rw (drop_of_length-le ns h) at e
 pub hex_more : (s r t : Text) (bytes : List ℕ) (i : ℕ) → i < length bytes → puts s (hex_bytes (drop i bytes)) ≡ t
     → r ≡ puts s (hex_byte (get_or bytes i 0)) → puts r (hex_bytes (drop (i + 1) bytes)) ≡ t
 unfolding hex_bytes
-hex_more s r t bytes i h e p = rw (p, add_one, puts_append) (rw (drop-cons bytes i 0 h) at e)
+hex_more s r t bytes i h e p = rw (p, add-one, puts_append) (rw (drop-cons bytes i 0 h) at e)
 
 pub hex_done : (s t : Text) (bytes : List ℕ) (i : ℕ) → length bytes ≤ i → puts s (hex_bytes (drop i bytes)) ≡ t → s ≡ t
 unfolding hex_bytes puts

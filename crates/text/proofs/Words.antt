@@ -3,7 +3,7 @@ use Prim.Native.Nat.{ℕ, suc, ◌+◌, ◌*◌, ◌-◌, ◌≤◌, ◌<◌}
 use mathlib.Core.Path.{◌≡◌, refl, sym, ap, ◌∙◌}
 use mathlib.Core.Bool.{Bool, true, false, cond}
 use mathlib.Core.List.{List, [], ◌∷◌}
-use native.Mathlib.Numerals.{add_one}
+use native.Mathlib.Numerals.{add-one}
 use native.Mathlib.Omega.{arith}
 use native.Mathlib.Decide.{dec_lt}
 use lib.Dec.{leb, ltb}
@@ -100,7 +100,7 @@ read_word (b ∷ w) =
 
 pub digits_more : (s r t : DigitsRead) (w : List ℕ) (i : ℕ) → i < length w → with_digits s (drop i w) ≡ t → r ≡ with_digit s (get_or w i 0) → with_digits r (drop (i + 1) w) ≡ t
 unfolding with_digits
-digits_more s r t w i h e p = rw (p, add_one) (rw (drop-cons w i 0 h) at e)
+digits_more s r t w i h e p = rw (p, add-one) (rw (drop-cons w i 0 h) at e)
 
 pub digits-done : (s t : DigitsRead) (w : List ℕ) (i : ℕ) → length w ≤ i → with_digits s (drop i w) ≡ t → s ≡ t
 unfolding with_digits

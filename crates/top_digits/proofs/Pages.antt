@@ -3,7 +3,7 @@ use Prim.Native.Nat.{ℕ, zero, suc, ◌+◌, ◌≤◌, ◌<◌}
 use mathlib.Core.Path.{◌≡◌, refl, sym, ◌∙◌}
 use mathlib.Core.Bool.{Bool, true, false, cond}
 use mathlib.Core.List.{List, []}
-use native.Mathlib.Numerals.{add_one}
+use native.Mathlib.Numerals.{add-one}
 use native.Mathlib.Omega.{arith}
 use native.Mathlib.Decide.{dec_lt}
 use lib.Dec.{ltb}
@@ -23,7 +23,7 @@ use Rattle.top_digits.specs.Page.{head_text, entry_line, entry_lines, page_text,
 pub entries-more : (s r t : Text) (list : List ℕ) (d : ℕ) → d < length list → puts s (entry_lines d (drop d list)) ≡ t
     → r ≡ puts s (entry_line d (get_or list d 0)) → puts r (entry_lines (d + 1) (drop (d + 1) list)) ≡ t
 unfolding entry_lines
-entries-more s r t list d h e p = rw (p, add_one, puts_append) (rw (drop-cons list d 0 h) at e)
+entries-more s r t list d h e p = rw (p, add-one, puts_append) (rw (drop-cons list d 0 h) at e)
 
 pub entries-done : (s t : Text) (list : List ℕ) (d : ℕ) → length list ≤ d → puts s (entry_lines d (drop d list)) ≡ t → s ≡ t
 unfolding entry_lines puts

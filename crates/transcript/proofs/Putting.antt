@@ -2,7 +2,7 @@
 use Prim.Native.Nat.{ℕ, zero, suc, ◌+◌, ◌*◌, ◌-◌, ◌%◌, ◌≤◌, ◌<◌, min}
 use mathlib.Core.Path.{◌≡◌, refl, sym, ap, ◌∙◌}
 use mathlib.Core.List.{List, [], ◌++◌}
-use native.Mathlib.Numerals.{add_one}
+use native.Mathlib.Numerals.{add-one}
 use native.Mathlib.Omega.{arith}
 use native.Mathlib.Decide.{dec_lt}
 use borrow.Author.Tests.{eq-eqb, ne_eqb}
@@ -65,7 +65,7 @@ lines_more a s r t messages i from k l h m e p =
     let rest : drop (from + k) messages ≡ drop (size_of a i) bytes = sym (drop-drop k from messages) ∙ drop_min (size_of a i) k bytes size in
     let left : 2 * rounds - i ≡ suc (2 * rounds - suc i) = omega arith in
     let step = some_left a (2 * rounds - suc i) i bytes (omega (arith, length-drop from messages)) in
-    rw (p, first, rest, add_one i)
+    rw (p, first, rest, add-one i)
     (puts_append s (message_line (i % 2) (round_of i) (take (size_of a i) bytes)) (message_lines a (2 * rounds - suc i) (suc i) (drop (size_of a i) bytes))
     ∙ ap (puts s) (sym step ∙ ap (λ (n : ℕ). message_lines a n i bytes) (sym left))
     ∙ e)

@@ -4,7 +4,7 @@ use Rattle.column.specs.Held.{HeldAll, RegistersHeld}
 use Rattle.steps.specs.Work.{taken_columns}
 use Rattle.steps.specs.Context.{public_by}
 use Rattle.lists.proofs.Fill.{length-fill}
-use native.Mathlib.Numerals.{add_one}
+use native.Mathlib.Numerals.{add-one}
 use Prim.Native.Nat.{ℕ, ◌≤◌, ◌-◌, ◌*◌}
 use mathlib.Core.Path.{◌≡◌, refl, ap, ◌∙◌}
 use native.Mathlib.Omega.{arith}
@@ -42,7 +42,7 @@ loop-again c =
     let d = at.c in (
       omega arith,
       λ masked opened held next.
-          rw (add_one d)
+          rw (add-one d)
           (column-taken (public_by a.settings masked) a.round opened p.0.shape.most a.weights.now a.work.now a.own.now a.next.now d (omega arith) held next
           at.work _ (at.invariant.1 masked opened held next) put-column.ensures),
       ap length put-column.ensures ∙ length-fill _ _ _ _ ∙ length-fill _ _ _ _ ∙ length-fill _ _ _ _ ∙ at.invariant.2,

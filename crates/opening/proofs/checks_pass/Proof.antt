@@ -2,7 +2,7 @@
 use mathlib.Core.Bool.{true}
 use mathlib.Core.Path.{◌≡◌, refl, sym, ◌∙◌}
 use Prim.Native.Nat.{◌≤◌, ◌-◌}
-use native.Mathlib.Numerals.{add_one}
+use native.Mathlib.Numerals.{add-one}
 use native.Mathlib.Omega.{arith}
 use borrow.Author.Tests.{not-true, not-false}
 use Rattle.lists.specs.Lists.{all_to}
@@ -31,7 +31,7 @@ loop-again : tie.Need-loop-preserved invariant-loop decreases-loop
 unfolding all_to
 loop-again c =
     let loop = c.before.before.before.loop in
-    (omega arith, rw (add_one loop.o) (and_yes _ _ loop.invariant.1 (sym c.before.check-passes.ensures ∙ not-false _ c.if1.false)))
+    (omega arith, rw (add-one loop.o) (and_yes _ _ loop.invariant.1 (sym c.before.check-passes.ensures ∙ not-false _ c.if1.false)))
 
 returns-2 : tie.Need-returns-2 invariant-loop decreases-loop
 returns-2 c =

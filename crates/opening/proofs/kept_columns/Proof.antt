@@ -6,7 +6,7 @@ use Rattle.lists.proofs.Part.{fill-part}
 use Rattle.lists.proofs.Fill.{length-fill}
 use Rattle.lists.specs.Lists.{fill}
 use borrow.Rule.Slice.PartMut.{put_mid}
-use native.Mathlib.Numerals.{add_one}
+use native.Mathlib.Numerals.{add-one}
 use mathlib.Core.List.{List}
 use Prim.Native.Nat.{ℕ, ◌≤◌, ◌-◌, ◌+◌, ◌*◌}
 use mathlib.Core.Path.{◌≡◌, refl, ap, ◌∙◌}
@@ -34,7 +34,7 @@ loop-again c = let loop = c.before.before.before.before.before.loop in
     let more : _ ≡ fill loop.sent (most_openings * m) a.count (own_in a.work.now m) =
     ap (λ (l : List ℕ). put_mid (most_openings * m) (most_openings * m + most_openings - most_openings * m) loop.sent l) c.before.before.own-column.ensures
     ∙ fill-part loop.sent (most_openings * m) (most_openings * m + most_openings - most_openings * m) (own_in a.work.now m) (omega arith) _ (omega arith) in
-    (omega arith, rw (add_one m, ← loop.invariant.1) more, ap length more ∙ length-fill _ _ _ _ ∙ loop.invariant.2)
+    (omega arith, rw (add-one m, ← loop.invariant.1) more, ap length more ∙ length-fill _ _ _ _ ∙ loop.invariant.2)
 
 returns : tie.Need-returns invariant-loop decreases-loop
 returns c = let e : c.before.loop.f ≡ 1 + key_count = omega arith in

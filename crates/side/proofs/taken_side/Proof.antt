@@ -1,5 +1,5 @@
 -- `side::taken_side` meets its contract.
-use native.Mathlib.Numerals.{add_one}
+use native.Mathlib.Numerals.{add-one}
 use borrow.Author.Rules.{rules}
 use Rattle.side.specs.Side.{taken_side}
 use Rattle.side.proofs.taken_side.Statement.{statement}
@@ -7,7 +7,7 @@ use Rattle.side.proofs.taken_side.Tie as tie
 
 returns : tie.Need-returns
 unfolding taken_side
-returns c = rw (← c.before.step_of_lem.ensures.0, ← add_one c.before.step_of_lem.result, ← c.before.before.kept-answer.ensures) c.at-step.ensures
+returns c = rw (← c.before.step_of_lem.ensures.0, ← add-one c.before.step_of_lem.result, ← c.before.before.kept-answer.ensures) c.at-step.ensures
 
 pub taken_side_spec : {M : Type 1} → statement M
 taken_side_spec = tie.close (tie.spec (λ c κs. search rules) (λ c κs. search rules) (λ c. search rules) (λ c κs. search rules) returns)

@@ -1,7 +1,7 @@
 -- `slice::listed_sum` meets its contract.
 use Prim.Native.Nat.{ℕ, ◌≤◌, ◌-◌, ◌+◌, ◌*◌, ◌%◌}
 use mathlib.Core.Path.{◌≡◌, refl, ap}
-use native.Mathlib.Numerals.{add_one}
+use native.Mathlib.Numerals.{add-one}
 use native.Mathlib.Omega.{arith}
 use Rattle.field.specs.Field.{q}
 use Rattle.field.specs.Sums.{sum_to}
@@ -27,7 +27,7 @@ times-requires c κs = c.before.before.before.before.before.before.before.before
 loop-again : tie.Need-loop-preserved invariant-loop decreases-loop
 unfolding sum_to
 loop-again c =
-    (omega arith, rw (add_one, ← c.before.register.ensures, ← c.times.ensures.0, ← c.before.before.before.before.before.before.loop.invariant.1), omega arith)
+    (omega arith, rw (add-one, ← c.before.register.ensures, ← c.times.ensures.0, ← c.before.before.before.before.before.before.loop.invariant.1), omega arith)
 
 returns : tie.Need-returns invariant-loop decreases-loop
 returns c =

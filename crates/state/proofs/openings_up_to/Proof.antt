@@ -1,7 +1,7 @@
 -- `state::openings_up_to` meets its contract: the total so far is the count of the rounds so far.
 use mathlib.Core.Path.{◌≡◌, refl, ap, ◌∙◌}
 use Prim.Native.Nat.{◌≤◌, ◌-◌, ◌*◌}
-use native.Mathlib.Numerals.{add_one}
+use native.Mathlib.Numerals.{add-one}
 use native.Mathlib.Omega.{arith}
 use Rattle.field.specs.Sums.{sum_to}
 use Rattle.settings.specs.Settings.{params_of}
@@ -21,7 +21,7 @@ loop-holds c = (omega arith, refl, omega arith)
 
 loop-again : tie.Need-loop-preserved invariant-loop decreases-loop
 unfolding openings_up_to sum_to
-loop-again c = (omega arith, rw (add_one c.before.before.loop.round) (omega (arith, c.openings-in.ensures.0, c.before.before.loop.invariant.1)), omega arith)
+loop-again c = (omega arith, rw (add-one c.before.before.loop.round) (omega (arith, c.openings-in.ensures.0, c.before.before.loop.invariant.1)), omega arith)
 
 returns : tie.Need-returns invariant-loop decreases-loop
 returns c =

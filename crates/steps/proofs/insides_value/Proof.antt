@@ -1,6 +1,6 @@
 -- `steps::insides_value` meets its contract. Assumes nothing.
 use Rattle.steps.proofs.Contexts.{hi_is, lo_is}
-use native.Mathlib.Numerals.{add_one}
+use native.Mathlib.Numerals.{add-one}
 use Rattle.steps.specs.Steps.{insides, inside_form}
 use Rattle.field.specs.Forms.{value}
 use Rattle.field.specs.Field.{q}
@@ -31,7 +31,7 @@ loop-again c = let known = c.before.before.before.before.before.before.before.be
       omega arith,
       λ masked made.
           rw (
-            add_one,
+            add-one,
             ← c.before.before.before.before.before.loop.invariant.1 masked made,
             ← hi_is known.settings known.round masked known made p.1 p.2 j (omega arith),
             ← lo_is known.settings known.round masked known made p.1 p.2 j (omega arith),
