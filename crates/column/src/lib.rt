@@ -26,7 +26,7 @@ use steps::{
 };
 
 // Columns of a working slice: the share's, and behind it those of parts from column 1 + skip on; `count` in all.
-#[derive(Drop)]
+#[derive(Clone, Copy)]
 pub struct ColumnChoice {
     pub count: usize,
     pub skip: usize,

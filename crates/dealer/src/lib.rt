@@ -24,7 +24,7 @@ use settings::{
 };
 
 // What the working functions are told: the settings, and what each column's numbers add up to, as a factor.
-#[derive(Drop)]
+#[derive(Clone, Copy)]
 struct DealContext {
     shape: Shape,
     factors: [u32; WIDTH],

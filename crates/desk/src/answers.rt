@@ -14,7 +14,7 @@ use stream::{Stream, is_left, next_line};
 pub const LONGEST_ANSWER: usize = 11 * (MOST_DRAW + 1) + 1;
 
 // How many bytes of a part have been used, where the input stands after them, and how many bytes wait to be written.
-#[derive(Drop)]
+#[derive(Clone, Copy)]
 pub struct Answered {
     pub used: usize,
     pub stream: Stream,

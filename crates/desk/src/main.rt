@@ -38,7 +38,7 @@ const MOST_NUMBERS: usize = 524288;
 const OUT: usize = 65536 + LONGEST_ANSWER;
 
 // Where an input stands: whether to read on, and whether every read and write so far has been done.
-#[derive(Drop)]
+#[derive(Clone, Copy)]
 struct InputState {
     more: bool,
     good: bool,

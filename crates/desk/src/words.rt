@@ -8,7 +8,7 @@ use lists::length_before;
 use text::number_in;
 
 // A call, by the first word of its line.
-#[derive(Drop)]
+#[derive(Clone, Copy)]
 pub enum CallName {
     Parts,
     BoundVerdict,
@@ -18,7 +18,7 @@ pub enum CallName {
 }
 
 // The words that have been read as numbers: whether each was one, and how many there are.
-#[derive(Drop)]
+#[derive(Clone, Copy)]
 pub struct WordsRead {
     pub good: bool,
     pub count: usize,

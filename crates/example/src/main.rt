@@ -20,14 +20,14 @@ const DRAW_LENGTH: usize = BOOK_LENGTH + 144;
 const INPUT_LENGTH: usize = 8 * WIDTH;
 
 // Both sides of a run.
-#[derive(Drop)]
+#[derive(Clone, Copy)]
 struct Sides {
     server: Side,
     phone: Side,
 }
 
 // The two sides of a message, after it was taken.
-#[derive(Drop)]
+#[derive(Clone, Copy)]
 struct Passed {
     sender: Side,
     receiver: Side,

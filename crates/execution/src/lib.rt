@@ -21,7 +21,7 @@ pub const RUN_BYTES: usize = 2 * ROUNDS as usize * MOST_BYTES;
 pub const BOOK_LENGTH: usize = 1320 * WIDTH;
 
 // What both sides and the dealer agree on before a run.
-#[derive(Drop)]
+#[derive(Clone, Copy)]
 pub struct RunTerms {
     pub settings: Settings,
     pub serial: u32,
@@ -30,7 +30,7 @@ pub struct RunTerms {
 }
 
 // The calls that can refuse.
-#[derive(Drop)]
+#[derive(Clone, Copy)]
 pub enum CallKind {
     Deal,
     Begin,
@@ -40,7 +40,7 @@ pub enum CallKind {
 }
 
 // The call that refused, its party (0 server or dealer, 1 phone), and the number of the first no; number 0: no call has refused.
-#[derive(Drop)]
+#[derive(Clone, Copy)]
 pub struct Refusal {
     pub call: CallKind,
     pub party: u32,
@@ -48,7 +48,7 @@ pub struct Refusal {
 }
 
 // A side, and where its latest message stands among the messages.
-#[derive(Drop)]
+#[derive(Clone, Copy)]
 pub struct Endpoint {
     pub side: Side,
     pub from: usize,
@@ -56,7 +56,7 @@ pub struct Endpoint {
 }
 
 // How far a run has come: the first refusal, both sides, and how many bytes all messages have so far.
-#[derive(Drop)]
+#[derive(Clone, Copy)]
 pub struct Execution {
     pub refusal: Refusal,
     pub server: Endpoint,
@@ -185,7 +185,7 @@ fn begin_phone(x: Execution, run: Run, inputs: &[u32], book: &[u32], work: &mut 
 // ---- The rounds
 
 // What a send leaves: its refusal, the endpoint, and how many bytes all messages have.
-#[derive(Drop)]
+#[derive(Clone, Copy)]
 struct SendStep {
     refused: u32,
     endpoint: Endpoint,
@@ -345,7 +345,7 @@ fn run_rounds(x: Execution, server: &mut [u32], phone: &mut [u32], messages: &mu
 // ---- The whole run
 
 // Where the phone's inputs begin among the numbers, and where the draw does, or the books in its place.
-#[derive(Drop)]
+#[derive(Clone, Copy)]
 struct Cuts {
     phone: usize,
     draw: usize,

@@ -23,13 +23,13 @@ fn next_state(x: u32) -> u32
 
 // ---- A generator, which is lent and advances
 
-#[derive(Drop)]
+#[derive(Clone, Copy)]
 pub struct Generator {
     pub state: u32,
 }
 
 // A generator, or the number of the first no.
-#[derive(Drop)]
+#[derive(Clone, Copy)]
 pub enum Seeded {
     Ready(Generator),
     No(u32),
@@ -86,7 +86,7 @@ fn draw_no(shape: Shape, out: &[u32]) -> u32
 }
 
 // What a draw gives beside its numbers: the number of the first no, or 0; and the state after it.
-#[derive(Drop)]
+#[derive(Clone, Copy)]
 pub struct Advance {
     pub refused: u32,
     pub state: u32,

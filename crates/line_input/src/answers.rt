@@ -16,7 +16,7 @@ use text::{put_byte, put_number};
 const LONGEST_ANSWER: usize = 112;
 
 // How many bytes of a part have been used, where the input stands after them, how many bytes wait to be written, and the generator's state.
-#[derive(Drop)]
+#[derive(Clone, Copy)]
 pub struct Answered {
     pub used: usize,
     pub stream: Stream,

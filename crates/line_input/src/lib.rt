@@ -30,7 +30,7 @@ const STDOUT: i32 = 1;
 const KEPT: usize = 1025;
 
 // Where an input stands: whether to read on, whether every read and write so far has been done, and the generator's state.
-#[derive(Drop)]
+#[derive(Clone, Copy)]
 struct InputState {
     more: bool,
     good: bool,

@@ -29,7 +29,7 @@ const ANSWER_PLACES: usize = 8;
 pub const RUN_NUMBERS: usize = 2 * 8 * WIDTH + 1320 * WIDTH + 144;
 
 // What a line gives: the number of the first no, or 0; and how many numbers, and the numbers, with zeros behind.
-#[derive(Drop)]
+#[derive(Clone, Copy)]
 struct LineResult {
     refused: u32,
     length: usize,
@@ -37,14 +37,14 @@ struct LineResult {
 }
 
 // The same, and the state that it leaves the generator in.
-#[derive(Drop)]
+#[derive(Clone, Copy)]
 struct RunResult {
     line: LineResult,
     state: u32,
 }
 
 // The place behind an output line, and the state that the line leaves the generator in.
-#[derive(Drop)]
+#[derive(Clone, Copy)]
 pub struct LineEnd {
     pub at: usize,
     pub state: u32,

@@ -16,7 +16,7 @@ use settings::{
 // ---- Header
 
 // What a message begins with, in this order.
-#[derive(Drop)]
+#[derive(Clone, Copy)]
 pub struct Header {
     pub sender: u32,
     pub settings: Settings,
@@ -165,14 +165,14 @@ fn put_bits(out: &mut [u8], at: usize, width: usize, head: u64, value: u32)
 // ---- Reader
 
 // A lent slice of bytes, and the position of the next bit.
-#[derive(Drop)]
+#[derive(Clone, Copy)]
 pub struct Reader<'a> {
     pub bytes: &'a [u8],
     pub at: usize,
 }
 
 // What was read, and the reader behind it.
-#[derive(Drop)]
+#[derive(Clone, Copy)]
 pub struct Read<'a> {
     pub value: u32,
     pub reader: Reader<'a>,
@@ -236,7 +236,7 @@ pub fn put_message(out: &mut [u8], header: Header, fields: &[u32]) -> usize
 // ---- Reading a message of so many fields. `form_no` asks its length first.
 
 // What stands before and behind the fields: the header's two halves, and the padding.
-#[derive(Drop)]
+#[derive(Clone, Copy)]
 pub struct Ends {
     pub high: u32,
     pub low: u32,

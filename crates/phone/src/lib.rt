@@ -15,7 +15,7 @@ use settings::{Settings, Shape};
 
 // What `high_part` and `low_part` give of one coefficient.
 #[repr(C)]
-#[derive(Drop)]
+#[derive(Clone, Copy)]
 pub struct PartsCode {
     pub high: i64,
     pub low: i64,

@@ -14,28 +14,28 @@ use field::{Q, all_below_q};
 use settings::{BOUND, COUNT, NOT_BELOW_Q, SIDE_SET_OR_KIND, alpha_of, base_of, bound_ok};
 
 // A number and its five digits, lowest first.
-#[derive(Drop)]
+#[derive(Clone, Copy)]
 pub struct Split {
     pub number: u32,
     pub digits: [u32; 5],
 }
 
 // High and signed low part of a coefficient.
-#[derive(Drop)]
+#[derive(Clone, Copy)]
 pub struct HighLow {
     pub high: u32,
     pub low: i32,
 }
 
 // Both parts, or the number of the first no.
-#[derive(Drop)]
+#[derive(Clone, Copy)]
 pub enum Decomposition {
     Parts(HighLow),
     No(u32),
 }
 
 // A verdict, 1 or 0, or the number of the first no.
-#[derive(Drop)]
+#[derive(Clone, Copy)]
 pub enum Verdict {
     Is(u32),
     No(u32),

@@ -17,7 +17,7 @@ use field::Q;
 // ---- Settings
 
 // What a book is for: the set, the kind (0 HIGH, 1 BOUND) and N.
-#[derive(Drop)]
+#[derive(Clone, Copy)]
 pub struct Shape {
     pub set: u32,
     pub kind: u32,
@@ -25,7 +25,7 @@ pub struct Shape {
 }
 
 // What a run is for: the shape of its books, and the bound B.
-#[derive(Drop)]
+#[derive(Clone, Copy)]
 pub struct Settings {
     pub shape: Shape,
     pub bound: u32,

@@ -24,7 +24,7 @@ use slice::{begin_work, weights_of};
 use state::{Phase, Side, at_step, in_phase, phase_after, send_due, step_of, take_due, under_way};
 
 // What a run begins with at a side: its number, 0 server and 1 phone, the settings, its own keys, and the run's serial.
-#[derive(Drop)]
+#[derive(Clone, Copy)]
 pub struct Run {
     pub number: u32,
     pub settings: Settings,
@@ -33,14 +33,14 @@ pub struct Run {
 }
 
 // What begin and take give back: the number of the first no, or 0, and the side.
-#[derive(Drop)]
+#[derive(Clone, Copy)]
 pub struct Done {
     pub refused: u32,
     pub side: Side,
 }
 
 // What send gives back: also how many bytes it wrote.
-#[derive(Drop)]
+#[derive(Clone, Copy)]
 pub struct Sent {
     pub refused: u32,
     pub length: usize,

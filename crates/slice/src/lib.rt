@@ -33,7 +33,7 @@ pub const OWN: usize = 1344;
 pub const MASKED: usize = 1376;
 
 // How the entries of a digit's vector are summed.
-#[derive(Drop)]
+#[derive(Clone, Copy)]
 pub enum Rule {
     Carry,
     Zero,
@@ -43,7 +43,7 @@ pub enum Rule {
 }
 
 // A weighted sum over the n entries of a digit's vector at a place: their weights are by the rule, its limit and the public digit.
-#[derive(Drop)]
+#[derive(Clone, Copy)]
 pub struct Weighted {
     pub place: usize,
     pub n: usize,

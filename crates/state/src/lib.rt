@@ -15,7 +15,7 @@ use settings::{
 };
 
 // Where a side stands in its round.
-#[derive(Drop)]
+#[derive(Clone, Copy)]
 pub enum Phase {
     Sending,
     Taking,
@@ -25,7 +25,7 @@ pub enum Phase {
 
 // What a side keeps: its number, 0 server and 1 phone, and settings; its keys; the serial of its latest run; where that run
 // stands; and the opened answer.
-#[derive(Drop)]
+#[derive(Clone, Copy)]
 pub struct Side {
     pub number: u32,
     pub settings: Settings,
@@ -37,7 +37,7 @@ pub struct Side {
 }
 
 // What answer gives back: the number of the first no, or 0, and how many places it wrote.
-#[derive(Drop)]
+#[derive(Clone, Copy)]
 pub struct AnswerResult {
     pub refused: u32,
     pub length: usize,

@@ -29,7 +29,7 @@ use slice::{FIRST, INPUT, Rule, SECOND, Weighted, raised_by, register, weighted_
 // five digits: HIGH, y of each coefficient; BOUND, hi and lo of each coefficient in turn. All of it follows from the settings and from what
 // round 1 opened: no share, no part and no key is in it. It is made once for each call, and every round that needs a digit reads it here;
 // for a round that needs none, nothing is split.
-#[derive(Drop)]
+#[derive(Clone, Copy)]
 pub struct Context {
     pub settings: Settings,
     pub round: u32,
@@ -37,14 +37,14 @@ pub struct Context {
 }
 
 // A column of the working slice, and what a public 1 adds to it.
-#[derive(Drop)]
+#[derive(Clone, Copy)]
 pub struct Column {
     pub index: usize,
     pub weight: u32,
 }
 
 // The first (which = 0) or second (1) gate of coefficient j for a digit: addend + u × v, by the triple at a place. All columns share it.
-#[derive(Drop)]
+#[derive(Clone, Copy)]
 pub struct Gate {
     pub kind: u32,
     pub j: usize,
@@ -292,7 +292,7 @@ fn times(a: u32, b: u64) -> u64
 }
 
 // The numbers of a gate's two openings: for u − a, and for v − b.
-#[derive(Drop)]
+#[derive(Clone, Copy)]
 pub struct Factors {
     pub u: u32,
     pub v: u32,

@@ -9,7 +9,7 @@ ghost use Rattle.stock.specs.Scan.{Least, LeastOf, serial_at};
 use settings::{LENGTH, NO_BOOK, Shape, WIDTH, shape_no, shared_of};
 
 // A book's place in its stock, and its serial; serial 0 for none.
-#[derive(Drop)]
+#[derive(Clone, Copy)]
 struct Found {
     at: usize,
     serial: u32,

@@ -8,7 +8,7 @@ ghost use Rattle.stream.specs.Stream.{at_start, number_after, at_line, with_byte
 use lists::{copy_bytes, least, length_before_by_blocks};
 
 // Where an input stands: the number of the line that is being read, from 1; how many of its bytes are held; whether it has ended.
-#[derive(Drop)]
+#[derive(Clone, Copy)]
 pub struct Stream {
     pub number: u64,
     pub held: usize,
@@ -16,7 +16,7 @@ pub struct Stream {
 }
 
 // How many bytes a call took in, and where the input stands after them.
-#[derive(Drop)]
+#[derive(Clone, Copy)]
 pub struct Step {
     pub used: usize,
     pub stream: Stream,

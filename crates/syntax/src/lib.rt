@@ -15,7 +15,7 @@ pub const LONGEST_INPUT_LINE: usize = 1024;
 
 // What a line asks for: kind 0 HIGH or 1 BOUND, set, B, how many coefficients, and the first 8 of them. All is 0 where the line
 // is malformed (`good` is false).
-#[derive(Drop)]
+#[derive(Clone, Copy)]
 pub struct Request {
     pub good: bool,
     pub kind: u32,
@@ -27,7 +27,7 @@ pub struct Request {
 
 // How far a line has been read: whether each word had its form, how many there were, and the numbers of the first 11: kind, set, B and
 // eight coefficients.
-#[derive(Drop)]
+#[derive(Clone, Copy)]
 struct WordsRead {
     good: bool,
     count: usize,

@@ -16,14 +16,14 @@ pub const TOO_LARGE: u64 = 1 << 32;
 const MOST_DIGITS: u32 = 10;
 
 // A word: whether it has its form, and the number that it stands for.
-#[derive(Drop)]
+#[derive(Clone, Copy)]
 pub struct ReadNumber {
     pub good: bool,
     pub value: u32,
 }
 
 // How far a number has been read: whether all is well so far, how many digits there are, and their value.
-#[derive(Drop)]
+#[derive(Clone, Copy)]
 pub struct DigitsRead {
     pub good: bool,
     pub count: u32,
@@ -126,7 +126,7 @@ pub fn number_in(word: &[u8]) -> ReadNumber
 // ---- The numbers of an input. `most` is how many it may have: the places of the slice that they are read into.
 
 // How far an input has been read: whether all is well so far; the number being read; and how many numbers have ended before it.
-#[derive(Drop)]
+#[derive(Clone, Copy)]
 pub struct NumbersRead {
     pub good: bool,
     pub digits: DigitsRead,

@@ -18,7 +18,7 @@ const STDIN: i32 = 0;
 const STDOUT: i32 = 1;
 
 // What one read left: go on, or the input has ended.
-#[derive(Drop)]
+#[derive(Clone, Copy)]
 struct InputRead {
     more: bool,
     read: NumbersRead,
