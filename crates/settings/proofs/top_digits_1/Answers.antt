@@ -2,12 +2,8 @@
 use mathlib.Core.Path.{refl}
 use Rattle.lists.specs.Lists.{list_from}
 use Rattle.settings.specs.Sets.{top, top_digits}
-use Rattle.settings.proofs.top_digits_1.Statement.{statement}
-use Rattle.settings.proofs.top_digits_1.Tie as tie
+use Rattle.settings.proofs.top_digits_1.Goals as goal
 
-returns : tie.Need-returns
+pub returns : goal.returns
 unfolding top_digits list_from top
 returns c = refl
-
-pub top_digits_1_spec : {M : Type 1} → statement M
-top_digits_1_spec = tie.close (tie.spec returns)
