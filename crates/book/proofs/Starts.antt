@@ -13,13 +13,3 @@ start-at set i k r h e is =
     let s : k / 6 ≡ set = omega arith in
     let d : k % 6 ≡ i = omega arith in
     rw (s, d) at is
-
--- the last arm: the key is none of those before it
-pub first_arm : (k : ℕ) → k ≢ 0 → 1 ≤ k
-first_arm k n = omega arith
-
-pub above : (a k : ℕ) → k ≢ a → a ≤ k → suc a ≤ k
-above a k n h = omega arith
-
-pub last_arm : (k : ℕ) → k < 12 → 11 ≤ k → k ≡ 11
-last_arm k h l = omega arith
