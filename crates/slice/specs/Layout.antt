@@ -17,8 +17,8 @@ abbrev pub running_at : ℕ → ℕ → ℕ
 running_at which j = 1328 + 8 * which + j
 
 -- behind the registers: this side's own numbers for the openings of the round that it took last
-abbrev pub field_own : ℕ → ℕ
-field_own o = 1344 + o
+abbrev pub own_at : ℕ → ℕ
+own_at o = 1344 + o
 
 -- in column 0 alone: the y that round 1 opened, of coefficient j
 abbrev pub masked_at : ℕ → ℕ
@@ -26,11 +26,11 @@ masked_at j = 1376 + j
 
 -- the registers of column c: 0 behind the last of them, so that no form reads there
 unfoldable pub column : List ℕ → ℕ → Registers
-column work c place = cond (ltb place (field_own 0)) (get_or work (c * places + place) 0) 0
+column work c place = cond (ltb place (own_at 0)) (get_or work (c * places + place) 0) 0
 
 -- this side's own numbers in column c
 unfoldable pub own_in : List ℕ → ℕ → ℕ → ℕ
-own_in work c o = get_or work (c * places + field_own o) 0
+own_in work c o = get_or work (c * places + own_at o) 0
 
 -- the masked numbers that the slice holds, of eight coefficients at most
 unfoldable pub masked_in : List ℕ → ℕ → ℕ

@@ -2,7 +2,7 @@
 use mathlib.Core.Path.{refl}
 use native.Mathlib.Omega.{arith}
 use Rattle.field.specs.Sums.{sum_to}
-use Rattle.book.proofs.Starts.{start-at, first_arm, above, last_arm}
+use Rattle.book.proofs.Starts.{start-at}
 use Rattle.book.proofs.start_of.Goals as goal
 
 pub returns-in-0 : goal.returns-in-0

@@ -1,0 +1,62 @@
+-- `slice::raised_by` meets its contract: each rule's law.
+use Prim.Native.Nat.{ℕ, ◌+◌, ◌%◌}
+use mathlib.Core.Path.{sym, ap, ap₂, ◌∙◌}
+use native.Mathlib.Omega.{arith}
+use Rattle.field.specs.Field.{q, sub}
+use Rattle.field.proofs.Differences.{reduced_difference}
+use Rattle.slice.specs.Layout.{column}
+use Rattle.slice.specs.Weights.{weigh}
+use Rattle.slice.proofs.Ranges.{carry_raised, zero-sum, top_raised, rises_length, rises_small, over_raised, below_raised}
+use lib.ListN.{length}
+use Rattle.slice.proofs.raised_by.Goals as goal
+
+pub listed_sum-requires : goal.listed_sum-requires
+listed_sum-requires c =
+    let a = c.args in
+    let fits = c.requires.1.1 c.enum_told-in-Top-1.given.1 in
+    let long = ap length fits.0 ∙ rises_length a.terms.limit in
+    (omega (arith, fits, long), rises_small a.terms.limit a.rises.now (omega arith) fits.0)
+
+pub returns-in-Carry : goal.returns-in-Carry
+returns-in-Carry c κ =
+    let a = c.args in
+    rw c.enum_told-1.given.1
+    (c.entry_at.ensures ∙ carry_raised a.terms.n a.terms.limit a.terms.digit (λ (j : ℕ). column a.work.now a.col (a.terms.place + j)) _ c.back_from.ensures)
+
+pub returns-in-Zero : goal.returns-in-Zero
+returns-in-Zero c κ =
+    let start = c in
+    let a = start.args in
+    let told = c.enum_told-in-Zero-1.given.1 in
+    let z = start.requires.1.0 told in
+    let above = c.zero_entry in
+    let here = c.zero_entry-in-Zero in
+    rw (told, z.0)
+    (c.sub_mod.ensures
+    ∙ ap₂ (sub q) c.register.ensures c.register-in-Zero.ensures
+    ∙ reduced_difference _ _
+    ∙ ap₂ (λ (x y : ℕ). sub q (x % q) (y % q))
+    (sym (zero-sum a.terms.limit (a.terms.digit + 1) above.result z.1 above.ensures.0 (λ (j : ℕ). column a.work.now a.col (a.terms.place + j)) above.ensures.1))
+    (sym (zero-sum a.terms.limit a.terms.digit here.result (omega (arith, z.1)) here.ensures.0 (λ (j : ℕ). column a.work.now a.col (a.terms.place + j)) here.ensures.1)))
+
+pub returns-in-Top : goal.returns-in-Top
+unfolding weigh
+returns-in-Top c κ =
+    let a = c.args in
+    let told = c.enum_told-in-Top-1.given.1 in
+    let fits = c.requires.1.1 told in
+    rw told
+    (c.listed_sum.ensures
+    ∙ top_raised a.terms.n a.terms.limit a.terms.digit (λ (j : ℕ). column a.work.now a.col (a.terms.place + j)) a.rises.now fits.1 fits.2 (omega arith) fits.0)
+
+pub returns-in-Over : goal.returns-in-Over
+returns-in-Over c κ =
+    let a = c.args in
+    rw c.enum_told-in-Over-1.given.1
+    (c.entry_at-in-Over.ensures ∙ over_raised a.terms.n a.terms.limit a.terms.digit (λ (j : ℕ). column a.work.now a.col (a.terms.place + j)) _ c.back_from-in-Over.ensures)
+
+pub returns-in-Below : goal.returns-in-Below
+returns-in-Below c κ =
+    let a = c.args in
+    rw c.enum_told-in-Below-1.given.1
+    (c.entry_at-in-Below.ensures ∙ below_raised a.terms.n a.terms.limit a.terms.digit (λ (j : ℕ). column a.work.now a.col (a.terms.place + j)))
