@@ -1,5 +1,5 @@
 -- What is proved of messages, as types: what is written is read again, and what passes is told by its fields.
-use Rattle.std.specs.Prelude.{ℕ, ◌%◌, ◌^◌, ◌<◌, ◌≡◌, true, List, [], ◌∷◌, length, get_or, replicate}
+use Rattle.std.specs.Prelude.{ℕ, ◌%◌, ◌^◌, ◌<◌, ◌≡◌, true, List, ◌∷◌, length, get_or, replicate}
 use Rattle.lists.specs.Lists.{all_below}
 use Rattle.field.specs.Field.{q}
 use Rattle.settings.specs.Settings.{params_of}
