@@ -13,22 +13,22 @@ use Rattle.slice.proofs.raised_by.Goals as goal
 pub listed_sum-requires : goal.listed_sum-requires
 listed_sum-requires c =
     let a = c.args in
-    let fits = c.requires.1.1 c.enum_told-in-Top-1.given.1 in
+    let fits = c.requires.n_value.1 c.in-Top.is in
     let long = ap length fits.0 ∙ rises_length a.terms.limit in
-    (omega (arith, fits, long), rises_small a.terms.limit a.rises.now (omega arith) fits.0)
+    record { places_in_bounds = omega (arith, fits, long); by_index = rises_small a.terms.limit a.rises.now (omega arith) fits.0 }
 
 pub returns-in-Carry : goal.returns-in-Carry
 returns-in-Carry c κ =
     let a = c.args in
-    rw c.enum_told-1.given.1
+    rw c.in-Carry.is
     (c.entry_at.ensures ∙ carry_raised a.terms.n a.terms.limit a.terms.digit (λ (j : ℕ). column a.work.now a.col (a.terms.place + j)) _ c.back_from.ensures)
 
 pub returns-in-Zero : goal.returns-in-Zero
 returns-in-Zero c κ =
     let start = c in
     let a = start.args in
-    let told = c.enum_told-in-Zero-1.given.1 in
-    let z = start.requires.1.0 told in
+    let told = c.in-Zero.is in
+    let z = start.requires.n_value.0 told in
     let above = c.zero_entry in
     let here = c.zero_entry-in-Zero in
     rw (told, z.0)
@@ -43,8 +43,8 @@ pub returns-in-Top : goal.returns-in-Top
 unfolding weigh
 returns-in-Top c κ =
     let a = c.args in
-    let told = c.enum_told-in-Top-1.given.1 in
-    let fits = c.requires.1.1 told in
+    let told = c.in-Top.is in
+    let fits = c.requires.n_value.1 told in
     rw told
     (c.listed_sum.ensures
     ∙ top_raised a.terms.n a.terms.limit a.terms.digit (λ (j : ℕ). column a.work.now a.col (a.terms.place + j)) a.rises.now fits.1 fits.2 (omega arith) fits.0)
@@ -52,11 +52,11 @@ returns-in-Top c κ =
 pub returns-in-Over : goal.returns-in-Over
 returns-in-Over c κ =
     let a = c.args in
-    rw c.enum_told-in-Over-1.given.1
+    rw c.in-Over.is
     (c.entry_at-in-Over.ensures ∙ over_raised a.terms.n a.terms.limit a.terms.digit (λ (j : ℕ). column a.work.now a.col (a.terms.place + j)) _ c.back_from-in-Over.ensures)
 
 pub returns-in-Below : goal.returns-in-Below
 returns-in-Below c κ =
     let a = c.args in
-    rw c.enum_told-in-Below-1.given.1
+    rw c.in-Below.is
     (c.entry_at-in-Below.ensures ∙ below_raised a.terms.n a.terms.limit a.terms.digit (λ (j : ℕ). column a.work.now a.col (a.terms.place + j)))

@@ -13,22 +13,22 @@ use Rattle.slice.proofs.weighted_sum.Goals as goal
 pub listed_sum-requires : goal.listed_sum-requires
 listed_sum-requires c =
     let a = c.args in
-    let fits = c.requires.1.1 c.enum_told-in-Top-1.given.1 in
+    let fits = c.requires.n_value.1 c.in-Top.is in
     let long = ap length fits.0 ∙ top-length a.terms.limit in
-    (omega (arith, fits, long), λ i h. omega (arith, tops_small a.terms.limit a.tops.now (omega arith) fits.0 i h))
+    record { places_in_bounds = omega (arith, fits, long); by_index = λ i h. omega (arith, tops_small a.terms.limit a.tops.now (omega arith) fits.0 i h) }
 
 pub returns-in-Carry : goal.returns-in-Carry
 returns-in-Carry c κ =
     let a = c.args in
-    rw c.enum_told-1.given.1
+    rw c.in-Carry.is
     (c.part_sum.ensures ∙ rw c.less_by.ensures (ap (λ (x : ℕ). x % q)
     (sym (carry-sum a.terms.n a.terms.limit a.terms.digit (λ (j : ℕ). column a.work.now a.col (a.terms.place + j))))))
 
 pub returns-in-Zero : goal.returns-in-Zero
 returns-in-Zero c κ =
     let a = c.args in
-    let told = c.enum_told-in-Zero-1.given.1 in
-    let z = c.requires.1.0 told in
+    let told = c.in-Zero.is in
+    let z = c.requires.n_value.0 told in
     let entry = c.zero_entry in
     rw (told, z.0)
     (ap (λ (x : ℕ). x % q) (c.register.ensures ∙ sym (zero-sum a.terms.limit a.terms.digit entry.result z.1 entry.ensures.0
@@ -38,8 +38,8 @@ pub returns-in-Top : goal.returns-in-Top
 unfolding weigh
 returns-in-Top c κ =
     let a = c.args in
-    let told = c.enum_told-in-Top-1.given.1 in
-    let fits = c.requires.1.1 told in
+    let told = c.in-Top.is in
+    let fits = c.requires.n_value.1 told in
     rw told
     (c.listed_sum.ensures ∙ ap (λ (x : ℕ). x % q)
     (top_listed a.terms.n a.terms.limit a.terms.digit (λ (j : ℕ). column a.work.now a.col (a.terms.place + j)) a.tops.now fits.1 fits.2 fits.0))
@@ -47,13 +47,13 @@ returns-in-Top c κ =
 pub returns-in-Over : goal.returns-in-Over
 returns-in-Over c κ =
     let a = c.args in
-    rw c.enum_told-in-Over-1.given.1
+    rw c.in-Over.is
     (c.part_sum-in-Over.ensures ∙ rw c.less_by-in-Over.ensures (ap (λ (x : ℕ). x % q)
     (sym (over-sum a.terms.n a.terms.limit a.terms.digit (λ (j : ℕ). column a.work.now a.col (a.terms.place + j))))))
 
 pub returns-in-Below : goal.returns-in-Below
 returns-in-Below c κ =
     let a = c.args in
-    rw c.enum_told-in-Below-1.given.1
+    rw c.in-Below.is
     (c.part_sum-in-Below.ensures ∙ rw c.least.ensures.0 (ap (λ (x : ℕ). x % q)
     (sym (below-sum a.terms.n a.terms.limit a.terms.digit (λ (j : ℕ). column a.work.now a.col (a.terms.place + j))))))
