@@ -1,0 +1,27 @@
+-- `steps::insides_value` meets its contract. Assumes nothing.
+use Rattle.steps.proofs.Contexts.{hi_is, lo_is}
+use native.Mathlib.Numerals.{add-one}
+use Rattle.steps.specs.Steps.{insides, inside_form}
+use Prim.Native.Nat.{◌-◌}
+use native.Mathlib.Omega.{arith}
+use Rattle.steps.proofs.insides_value.Goals as goal
+
+pub loop-j-init : goal.loop-j-init
+unfolding insides
+loop-j-init c = (omega arith, λ masked made. c.mul_mod-total.ensures)
+
+pub loop-j-preserved : goal.loop-j-preserved
+unfolding insides inside_form
+loop-j-preserved c = let known = c.args.t3 in
+    let p = c.requires.1 in
+    let j = c.loop-j.j in (
+      omega arith,
+      λ masked made.
+          rw (
+            add-one,
+            ← c.loop-j.invariant.1 masked made,
+            ← hi_is known.settings known.round masked known made p.1 p.2 j (omega arith),
+            ← lo_is known.settings known.round masked known made p.1 p.2 j (omega arith),
+            ← c.inside_value.ensures,
+          ) c.add_mod-total.ensures,
+    )
