@@ -303,7 +303,7 @@ fn answer_no(side: Side, out: &[u32]) -> u32
 
 // The opened answer of a finished run, in front of `out`; none if a number of it is out of range.
 pub fn answer(side: Side, out: &mut [u32]) -> AnswerResult
-    ensures* { λ r. ⌜ record { result = r; out = out.new } ≡ answer_call side out.old ⌝ }
+    ensures { record { result = result; out = out.new } ≡ answer_call side out.old }
 {
     let refused = answer_no(side, out);
     if refused != 0 {
