@@ -5,7 +5,7 @@
 
 ghost use Rattle.std.specs.Prelude.{◌≡◌, ℕ, ◌+◌, ◌*◌, ◌^◌, ◌<◌, ◌≤◌, length, get_or};
 ghost use Rattle.field.specs.Field.{q};
-ghost use Rattle.ring.specs.Product.{product as productOf};
+ghost use Rattle.ring.specs.Product.{product as product_of};
 ghost use Rattle.ring.specs.Factors.{factor_list};
 ghost use Rattle.ring.specs.Ntt.{pair, block, ntt, inverse_ntt, pointwise, scaled};
 ghost use Rattle.ring.specs.Calls.{ring_no, transform_no, ring_call, transform_call, transformed_call};
@@ -239,7 +239,7 @@ fn product_with(left: &[u32], row: &[u32], out: &mut [u32], list: &[u32])
 // The product of two rows of 256 numbers below q.
 fn product(public: &[u32], row: &[u32], out: &mut [u32])
     requires { (length public.now ≡ 256) × (length row.now ≡ 256) × (length out.old ≡ 256) × ((i : ℕ) → get_or public.now i 0 < q) × ((i : ℕ) → get_or row.now i 0 < q) }
-    ensures { out.new ≡ productOf public.now row.now }
+    ensures { out.new ≡ product_of public.now row.now }
 {
     let list = factors();
     let mut left = [0u32; 256];

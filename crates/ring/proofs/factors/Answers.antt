@@ -2,12 +2,8 @@
 use mathlib.Core.Path.{refl}
 use Rattle.lists.specs.Lists.{list_from}
 use Rattle.ring.specs.Factors.{reversed, factor, factor_list}
-use Rattle.ring.proofs.factors.Statement.{statement}
-use Rattle.ring.proofs.factors.Tie as tie
+use Rattle.ring.proofs.factors.Goals as goal
 
-returns : tie.Need-returns
+pub returns : goal.returns
 unfolding list_from reversed factor factor_list
 returns c = refl
-
-pub factors_spec : {M : Type 1} → statement M
-factors_spec = tie.close (tie.spec returns)
