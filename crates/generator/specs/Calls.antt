@@ -7,7 +7,6 @@ use Rattle.settings.specs.Settings.{params_of}
 use Rattle.settings.specs.Questions.{ask_shape}
 use Rattle.settings.specs.Sizes.{width_of, draw_length}
 use Rattle.generator.specs.declared.Seeded.{Seeded}
-use Rattle.generator.specs.declared.Seeded.TheVariants as Seeded
 use Rattle.generator.specs.Step.{stepped, outputs}
 
 -- "A 32-bit generator with a non-zero seed": "16, is the seed non-zero, asked first by the call that makes a generator"
