@@ -7,13 +7,13 @@ pub returns-then-kind-eq0 : goal.returns-then-kind-eq0
 unfolding after_check
 returns-then-kind-eq0 c =
     let if1 = c.if-kind-eq0 in
-    let Group-of = c.Group-of in
+    
     let check_entry_lem = c.check_entry-wrap in
-    λ masked κ. rw (eq-eqb _ _ if1.true, ← Group-of.ensures, ← check_entry_lem.ensures masked κ, ← c.register.ensures) c.sub_mod.ensures
+    λ masked κ. rw (eq-eqb _ _ if1.true, ← c.group_of.ensures, ← check_entry_lem.ensures masked κ, ← c.register.ensures) c.sub_mod.ensures
 
 pub returns-then-j-eq0 : goal.returns-then-j-eq0
 unfolding after_check
-returns-then-j-eq0 c = λ masked κ. rw (ne_eqb _ _ c.if-kind-eq0.false, eq-eqb _ _ c.if-j-eq0.true, ← c.Group-of.ensures)
+returns-then-j-eq0 c = λ masked κ. rw (ne_eqb _ _ c.if-kind-eq0.false, eq-eqb _ _ c.if-j-eq0.true, ← c.group_of.ensures)
     (c.check_entry.ensures masked κ)
 
 pub returns : goal.returns

@@ -21,4 +21,4 @@ returns c =
     let r = column a.work.now a.col.index in
     rw (c.times-3.ensures.0, c.mul_mod-product.ensures, times.ensures.0, times2.ensures.0, register.ensures, register2.ensures, register3.ensures, addend-value.ensures κ)
     (gate_sum (value q κ r (addend_form a.gate)) (value q κ r (u_form a.gate)) (value q κ r (v_form a.gate)) (r (a.gate.triple + 2)) a.opened.u a.opened.v κ
-    (r a.gate.triple) (r (a.gate.triple + 1)) a.own.u a.own.v p.places_in_bounds.1.0 p.1.1.1)
+    (r a.gate.triple) (r (a.gate.triple + 1)) a.own.u a.own.v p.u_value.0 p.u_value.1)

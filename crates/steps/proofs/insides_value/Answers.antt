@@ -12,8 +12,8 @@ loop-j-init c = (omega arith, λ masked made. c.mul_mod-total.ensures)
 
 pub loop-j-preserved : goal.loop-j-preserved
 unfolding insides inside_form
-loop-j-preserved c = let known = c.args.t3 in
-    let p = c.requires.1 in
+loop-j-preserved c = let known = c.args.known in
+    let p = c.requires.places_in_bounds in
     let j = c.loop-j.j in (
       omega arith,
       λ masked made.

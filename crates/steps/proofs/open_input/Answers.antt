@@ -6,8 +6,7 @@ pub returns : goal.returns
 unfolding open_input
 returns c =
     let mask_at = c.mask_at-place in
-    let Shift-of = c.Shift-of in
     let register = c.register in
     let mul-mod = c.mul_mod in
     let add-mod = c.add_mod-a in
-    λ masked. rw (← mask_at.ensures.0, ← Shift-of.ensures, ← register.ensures, ← mul-mod.ensures, ← add-mod.ensures, ← c.register-2.ensures) c.sub_mod.ensures
+    λ masked. rw (← mask_at.ensures.0, ← c.shift_of-shift.ensures, ← register.ensures, ← mul-mod.ensures, ← add-mod.ensures, ← c.register-2.ensures) c.sub_mod.ensures
