@@ -1,0 +1,17 @@
+-- `column::sums_into` meets its contract. Assumes nothing.
+use Rattle.steps.specs.Gates.{sum_form}
+use Rattle.slice.specs.Layout.{column}
+use Rattle.field.specs.Forms.{value}
+use Rattle.field.specs.Field.{q}
+use Rattle.lists.specs.Lists.{fill_by}
+use Prim.Native.Nat.{ℕ, ◌≤◌, ◌-◌}
+use mathlib.Core.Path.{◌≡◌}
+use lib.ListN.{length}
+use Rattle.column.proofs.sums_into.Given as goal
+
+abbrev pub invariant-loop-c : goal.invariant-loop-c
+invariant-loop-c l = (c ≤ l.columns) × ((κ : ℕ → ℕ) → l.c ≡ fill_by 16 l.initial.next l.at c (λ (d : ℕ). value q (κ d) (column l.work d) (sum_form l.terms 0))) ×
+    (length l.c ≡ length l.initial.next)
+
+abbrev pub decreases-loop-c : goal.decreases-loop-c
+decreases-loop-c l = l.columns - c
