@@ -125,9 +125,9 @@ sound k s secret draw e x d =
       halves = b.1;
       room = shared-most s.shape set_is n-most;
       gaps = gaps-fit s.shape.n (omega arith);
-      secret_size = x.size-is;
+      secret_size = x.size_is;
       secret_below = λ j. below_at q secret j (omega arith) x.below;
-      draw_size = d.size-is;
+      draw_size = d.size_is;
       draw_below = λ j. below_at q draw j (omega arith) d.below;
     }
 
