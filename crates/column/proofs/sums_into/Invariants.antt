@@ -10,8 +10,8 @@ use lib.ListN.{length}
 use Rattle.column.proofs.sums_into.Given as goal
 
 abbrev pub invariant-loop-c : goal.invariant-loop-c
-invariant-loop-c l = (c ≤ l.columns) × ((κ : ℕ → ℕ) → l.c ≡ fill_by 16 l.initial.next l.at c (λ (d : ℕ). value q (κ d) (column l.work d) (sum_form l.terms 0))) ×
-    (length l.c ≡ length l.initial.next)
+invariant-loop-c l = (l.c ≤ l.columns) × ((κ : ℕ → ℕ) → l.next ≡ fill_by 16 l.initial.next l.at l.c (λ (d : ℕ). value q (κ d) (column l.work d) (sum_form l.terms 0))) ×
+    (length l.next ≡ length l.initial.next)
 
 abbrev pub decreases-loop-c : goal.decreases-loop-c
-decreases-loop-c l = l.columns - c
+decreases-loop-c l = l.columns - l.c

@@ -1,0 +1,93 @@
+-- `column::prepare_gates` meets its contract. Assumes nothing.
+use Rattle.column.proofs.Contexts.{gate_u, gate_v}
+use Rattle.column.proofs.Tables.{gates_more}
+use Rattle.slice.specs.Layout.{column}
+use Rattle.settings.specs.Sizes.{most_openings}
+use Rattle.field.specs.Forms.{Form, value}
+use Rattle.field.specs.Field.{q}
+use Rattle.lists.proofs.Strides.{length-stride}
+use Rattle.lists.specs.Lists.{fill_by}
+use Rattle.steps.proofs.Contexts.{place_in, count_most}
+use Rattle.steps.proofs.Gates.{listed}
+use Rattle.slice.specs.Weights.{top_rises}
+use Rattle.column.specs.Held.{column_at, opening_in}
+use Rattle.steps.specs.Context.{public_by}
+use Prim.Native.Nat.{ℕ, ◌≤◌, ◌-◌, ◌+◌, ◌*◌}
+use mathlib.Core.Path.{◌≡◌, refl, ap, ◌∙◌}
+use native.Mathlib.Omega.{arith}
+use borrow.Author.Tests.{eq-eqb}
+use lib.ListN.{length, get_or}
+use Rattle.column.proofs.prepare_gates.Goals as goal
+
+pub offset_bounds-known-x : goal.offset_bounds-known-x
+offset_bounds-known-x c =
+    let a = c.args in
+    let at = c.loop-g in
+    let p = c.requires in
+    omega (arith, place_in a.known.settings.shape at.g (omega arith), count_most a.known.settings.shape p.ready.0.shape.most, c.split_place-x.ensures)
+
+pub bounds-known-x : goal.bounds-known-x
+bounds-known-x c =
+    let a = c.args in
+    let at = c.loop-g in
+    let p = c.requires in
+    omega (arith, place_in a.known.settings.shape at.g (omega arith), count_most a.known.settings.shape p.ready.0.shape.most, c.split_place-x.ensures)
+
+pub gate_of-gate-requires : goal.gate_of-gate-requires
+gate_of-gate-requires c =
+    let a = c.args in
+    let at = c.loop-g in
+    let p = c.requires in
+    let known = a.known in
+    let in_count = place_in known.settings.shape at.g (omega arith) in
+    record {
+      shape_ready = p.ready.0.shape;
+      g_bound = (omega arith, omega arith, omega arith, p.ready.1 c.split_place-x.result _ (rw c.split_place-x.ensures in_count) (omega arith));
+    }
+
+pub v_into-requires : goal.v_into-requires
+v_into-requires c =
+    let gate-of = c.gate_of-gate in
+    let p = c.requires in
+    let known = c.args.known in
+    let fifth : 4 ≤ known.round - 1 → known.round ≡ 5 = λ last. omega (arith, last, p.le_round) in
+    record {
+      gate_fits = (
+        gate-of.ensures.1,
+        rw gate-of.ensures.0 (listed top_rises known.settings.shape _ (known.round - 1) _ (λ kind last. p.ready.2 (rw (eq-eqb _ _ kind, eq-eqb _ _ (fifth last)) refl))),
+      );
+      at_lt_most_openings = (omega (arith, p.ready.0.shape.most), omega arith, omega arith, omega arith);
+    }
+
+pub loop-g-preserved : goal.loop-g-preserved
+loop-g-preserved c =
+    let at = c.loop-g in
+    let p = c.requires in
+    let split-place = c.split_place-x in
+    let gate-of = c.gate_of-gate in
+    let u-into = c.u_into in
+    let v-into = c.v_into in
+    let a = c.args in
+    let known = a.known in
+    let g = at.g in
+    let later : 2 ≤ known.round = p.le_round.0 in
+    let test = c.loop-g-test.true in
+    let skip = a.columns.skip in (
+      omega (arith, test),
+      λ masked κs made.
+          let w = public_by known.settings masked in
+          let κ : ℕ → ℕ = λ (d : ℕ). get_or κs (column_at skip d) 0 in
+          let u = gate_u known masked made g split-place.result (omega (arith, test)) split-place.ensures later p.le_round.1 gate-of.result gate-of.ensures.0 in
+          let v = gate_v known masked made g split-place.result (omega (arith, test)) split-place.ensures later p.le_round.1 gate-of.result gate-of.ensures.0 in
+          gates_more (λ (d o : ℕ). opening_in w known.round κs a.work.now (column_at skip d) o) at.out a.columns.count g _ _
+          (omega (arith, test, p.ready.0.shape.most)) (omega (arith, p.count_in_bounds, at.invariant.2))
+          (u-into.ensures κ
+          ∙ ap (λ (form : Form). fill_by most_openings at.out (2 * g) a.columns.count (λ (d : ℕ). value q (κ d) (column a.work.now (column_at skip d)) form)) u)
+          (v-into.ensures κ
+          ∙ ap (λ (form : Form). fill_by most_openings u-into.new.out (2 * g + 1) a.columns.count (λ (d : ℕ). value q (κ d) (column a.work.now (column_at skip d)) form)) v)
+          (at.invariant.1 masked κs made),
+      ap length (v-into.ensures (λ (d : ℕ). 0)) ∙ length-stride most_openings _ _ _ _ ∙ ap length (u-into.ensures (λ (d : ℕ). 0)) ∙ length-stride most_openings _ _ _ _ ∙ at.invariant.2,
+    )
+
+pub returns : goal.returns
+returns c = λ masked κs made d o h l. c.loop-g.invariant.1 masked κs made d o h (omega arith)

@@ -1,0 +1,36 @@
+-- `column::put_columns` meets its contract. Assumes nothing.
+use Rattle.column.proofs.Written.{column-taken}
+use Rattle.steps.specs.Work.{taken_columns}
+use Rattle.steps.specs.Context.{public_by}
+use Rattle.lists.proofs.Fill.{length-fill}
+use native.Mathlib.Numerals.{add-one}
+use Prim.Native.Nat.{◌-◌}
+use mathlib.Core.Path.{◌≡◌, refl, ap, ◌∙◌}
+use native.Mathlib.Omega.{arith}
+use lib.ListN.{length}
+use Rattle.column.proofs.put_columns.Goals as goal
+
+pub loop-c-init : goal.loop-c-init
+unfolding taken_columns
+loop-c-init c = (omega arith, λ masked opened held next. refl, refl)
+
+pub loop-c-preserved : goal.loop-c-preserved
+unfolding taken_columns
+loop-c-preserved c =
+    let at = c.loop-c in
+    let p = c.requires in
+    let put-column = c.put_column in
+    let a = c.args in
+    let d = at.c in (
+      omega arith,
+      λ masked opened held next.
+          rw (add-one d)
+          (column-taken (public_by a.settings masked) a.round opened p.ready.shape.most a.weights.now a.work.now a.own.now a.next.now d (omega arith) held next
+          at.work _ (at.invariant.1 masked opened held next) put-column.ensures),
+      ap length put-column.ensures ∙ length-fill _ _ _ _ ∙ length-fill _ _ _ _ ∙ length-fill _ _ _ _ ∙ at.invariant.2,
+    )
+
+pub returns : goal.returns
+returns c =
+    let a = c.args in
+    λ masked opened held next. let e : c.loop-c.c ≡ length a.weights.now = omega arith in rw e at (c.loop-c.invariant.1 masked opened held next)
