@@ -1,7 +1,6 @@
 -- `text::add_digit` meets its contract.
 use mathlib.Core.Path.{sym, ◌∙◌}
 use Rattle.lists.proofs.Choices.{choices}
-use Rattle.lists.proofs.Questions.{answered_yes}
 use Rattle.text.specs.Decimal.{with_digit}
 use Rattle.text.proofs.Words.{digit-least}
 use Rattle.text.proofs.add_digit.Goals as goal

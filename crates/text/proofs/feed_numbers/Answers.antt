@@ -1,5 +1,4 @@
 -- `text::feed_numbers` meets its contract.
-use Prim.Native.Nat.{◌-◌}
 use native.Mathlib.Omega.{arith}
 use borrow.Author.Rules.{rules}
 use Rattle.text.proofs.Inputs.{bytes-more, bytes-done, kept_more, kept-done}
