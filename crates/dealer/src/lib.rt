@@ -67,7 +67,8 @@ fn deal_drawn(
 ) -> usize
     requires deal_slices { DealSlices o draw.now server.old phone.old }
     requires draws { Draws o k × (at ≡ cursor_for o k) }
-    ensures { Wrote o draw.now server.old phone.old k 1 server.new phone.new result }
+    ensures wrote { Wrote o draw.now server.old phone.old k 1 server.new phone.new result }
+    ensures in_draw { at < length draw.now }
 {
     let value = draw[at];
     deal_place(o, draw, server, phone, k, at + 1, value)

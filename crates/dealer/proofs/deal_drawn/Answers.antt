@@ -20,3 +20,8 @@ pub deal_place-requires : goal.deal_place-requires
 deal_place-requires c =
     let p = c.requires in
     record { deal_slices = p.deal_slices; next = next_drawn p.draws.0 p.draws.1 }
+
+pub returns-clause-in_draw : goal.returns-clause-in_draw
+returns-clause-in_draw c =
+    let p = c.requires in
+    omega (arith, drawn-room p.draws.0 p.draws.1 p.deal_slices)

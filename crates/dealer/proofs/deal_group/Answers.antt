@@ -35,16 +35,16 @@ deal_vector-requires c =
     let group_at = c.group_at-k in
     let deal-drawn = c.deal_drawn-next in
     let a = c.args in record {
-      deal_slices = still_lent p.deal_slices deal-drawn.ensures;
+      deal_slices = still_lent p.deal_slices deal-drawn.ensures.wrote;
       vector = (
         group_vector a.o a.draw.now a.g group_at.result a.at _ (c.group_k.result + 2) p.g_bound.0 group_at.ensures.0
             (cursor_as c.args.o p.g_bound.1
             (sym group_at.ensures.0)) (rw c.group_k.ensures.0) (rw c.group_gap.ensures.0),
-        deal-drawn.ensures.next,
+        deal-drawn.ensures.wrote.next,
       );
     }
 
 pub returns : goal.returns
-returns c = wrote_as (wrote_join c.deal_drawn-next.ensures
+returns c = wrote_as (wrote_join c.deal_drawn-next.ensures.wrote
     c.deal_vector.ensures refl)
     c.group_at-k.ensures.0 (omega arith)

@@ -39,10 +39,10 @@ deal_vectors-requires c =
     let p = c.requires in
     let deal-drawn = c.deal_drawn-next in
     let a = c.args in record {
-      deal_slices = still_lent p.deal_slices deal-drawn.ensures;
+      deal_slices = still_lent p.deal_slices deal-drawn.ensures.wrote;
       c_lt_n = (
         p.c_lt_n.0,
-        cursor_as a.o deal-drawn.ensures.next
+        cursor_as a.o deal-drawn.ensures.wrote.next
             (rw c.mask_at-k.ensures.0 (sym (vector_first a.o a.c))),
         rw (← p.c_lt_n.1) c.split_number-r.ensures,
       );
@@ -52,5 +52,5 @@ pub returns : goal.returns
 returns c =
     let mask_at = c.mask_at-k in
     let a = c.args in
-    wrote_as (wrote_join c.deal_drawn-next.ensures
+    wrote_as (wrote_join c.deal_drawn-next.ensures.wrote
     c.deal_vectors.ensures (rw mask_at.ensures.0 (vector_first a.o a.c))) mask_at.ensures.0 refl

@@ -1,8 +1,7 @@
 -- `dealer::deal_triple` meets its contract. Assumes nothing.
 use mathlib.Core.Path.{refl, sym}
-use native.Mathlib.Omega.{arith}
 use Rattle.dealer.proofs.Steps.{left-draws, right-draws, next-product}
-use Rattle.dealer.proofs.Work.{drawn-room, wrote_join, wrote_as, still_lent, cursor_as}
+use Rattle.dealer.proofs.Work.{wrote_join, wrote_as, still_lent, cursor_as}
 use Rattle.dealer.proofs.deal_triple.Goals as goal
 
 pub deal_drawn-at_b-requires : goal.deal_drawn-at_b-requires
@@ -18,43 +17,7 @@ deal_drawn-at_c-requires c =
     let a = c.args in
     let deal-drawn = c.deal_drawn-at_b in
     let triple-at = c.triple_at-k in
-    record { deal_slices = still_lent p.deal_slices deal-drawn.ensures; draws = (right-draws a.o a.c a.t triple-at.result p.c_lt_n.0 p.c_lt_n.1 triple-at.ensures.0, deal-drawn.ensures.next) }
-
-pub offset_bounds-draw-at : goal.offset_bounds-draw-at
-offset_bounds-draw-at c =
-    let a = c.args in
-    let p = c.requires in
-    let triple-at = c.triple_at-k in
-    omega (arith, drawn-room (left-draws a.o a.c a.t triple-at.result p.c_lt_n.0 p.c_lt_n.1 triple-at.ensures.0) (cursor_as a.o p.c_lt_n.2 (sym triple-at.ensures.0)) p.deal_slices)
-
-pub bounds-draw-at : goal.bounds-draw-at
-bounds-draw-at c =
-    let a = c.args in
-    let p = c.requires in
-    let triple-at = c.triple_at-k in
-    omega (arith, drawn-room (left-draws a.o a.c a.t triple-at.result p.c_lt_n.0 p.c_lt_n.1 triple-at.ensures.0) (cursor_as a.o p.c_lt_n.2 (sym triple-at.ensures.0)) p.deal_slices)
-
-pub offset_bounds-draw-at_b : goal.offset_bounds-draw-at_b
-offset_bounds-draw-at_b c =
-    let a = c.args in
-    let p = c.requires in
-    let triple-at = c.triple_at-k in
-    omega (
-      arith,
-      drawn-room (right-draws a.o a.c a.t triple-at.result p.c_lt_n.0 p.c_lt_n.1 triple-at.ensures.0)
-          c.deal_drawn-at_b.ensures.next p.deal_slices,
-    )
-
-pub bounds-draw-at_b : goal.bounds-draw-at_b
-bounds-draw-at_b c =
-    let a = c.args in
-    let p = c.requires in
-    let triple-at = c.triple_at-k in
-    omega (
-      arith,
-      drawn-room (right-draws a.o a.c a.t triple-at.result p.c_lt_n.0 p.c_lt_n.1 triple-at.ensures.0)
-          c.deal_drawn-at_b.ensures.next p.deal_slices,
-    )
+    record { deal_slices = still_lent p.deal_slices deal-drawn.ensures.wrote; draws = (right-draws a.o a.c a.t triple-at.result p.c_lt_n.0 p.c_lt_n.1 triple-at.ensures.0, deal-drawn.ensures.wrote.next) }
 
 pub deal_place-requires : goal.deal_place-requires
 deal_place-requires c =
@@ -63,15 +26,15 @@ deal_place-requires c =
     let deal-drawn = c.deal_drawn-at_b in
     let triple-at = c.triple_at-k in
     let deal-drawn2 = c.deal_drawn-at_c in
-    let two = wrote_join deal-drawn.ensures deal-drawn2.ensures refl in record {
+    let two = wrote_join deal-drawn.ensures.wrote deal-drawn2.ensures.wrote refl in record {
       deal_slices = still_lent p.deal_slices two;
       next = next-product a.o a.c a.t triple-at.result p.c_lt_n.0 p.c_lt_n.1 triple-at.ensures.0 a.draw.now a.at deal-drawn.result deal-drawn2.result
-          c.mul_mod-product.result (cursor_as a.o p.c_lt_n.2 (sym triple-at.ensures.0)) deal-drawn.ensures.next two.next c.mul_mod-product.ensures;
+          c.mul_mod-product.result (cursor_as a.o p.c_lt_n.2 (sym triple-at.ensures.0)) deal-drawn.ensures.wrote.next two.next c.mul_mod-product.ensures;
     }
 
 pub returns : goal.returns
 returns c =
     let two = wrote_join
-    c.deal_drawn-at_b.ensures c.deal_drawn-at_c.ensures refl in
+    c.deal_drawn-at_b.ensures.wrote c.deal_drawn-at_c.ensures.wrote refl in
     wrote_as (wrote_join two c.deal_place.ensures refl)
     c.triple_at-k.ensures.0 refl
