@@ -20,5 +20,5 @@ returns-else-side-eq0 c =
     let p = c.requires in
     let if1 = c.if-side-eq0 in
     let a = c.args in
-    phone_held a.side a.work.now a.sent-1.now kept-columns.new.0 openings-in.result p.whole.side2 if1.false p.whole.ready.shape.most openings-in.ensures.0
+    phone_held a.side a.work.now a.sent.now kept-columns.new.sent openings-in.result p.whole.side2 if1.false p.whole.ready.shape.most openings-in.ensures.0
     p.work_len.2 kept-columns.ensures

@@ -10,4 +10,4 @@ returns c =
     let p = c.requires in
     let a = c.args in
     put-in-turn.ensures
-    ∙ turns_are a.side a.work.now a.fields-1.now outgoing-columns.new.0 a.count p.count_value.0 outgoing-columns.ensures
+    ∙ turns_are a.side a.work.now a.fields.now outgoing-columns.new.sent a.count p.count_value.0 outgoing-columns.ensures

@@ -23,8 +23,8 @@ put_message-requires c =
     let work = a.work.now in
     let count = openings-in.result in
     let few = openings-in.ensures.1 in
-    let l = outgoing-fields.new-header.0 in
-    let long : length (take ((1 + key_count) * count) l) ≡ (1 + key_count) * count = length-take-le ((1 + key_count) * count) l (omega (arith, outgoing-fields.auto.0)) in
+    let l = outgoing-fields.new.fields in
+    let long : length (take ((1 + key_count) * count) l) ≡ (1 + key_count) * count = length-take-le ((1 + key_count) * count) l (omega (arith, outgoing-fields.auto.fields)) in
     let fs : take ((1 + key_count) * count) l ≡ list_to ((1 + key_count) * openings (params_in s.settings) s.round) (outgoing_field s work) =
     take_filled l _ ((1 + key_count) * count) (outgoing_field s work) outgoing-fields.ensures (omega arith)
     ∙ ap (λ (n : ℕ). list_to ((1 + key_count) * n) (outgoing_field s work)) openings-in.ensures.0 in
@@ -45,10 +45,10 @@ returns c =
     let work = a.work.now in
     let count = openings-in.result in
     let few = openings-in.ensures.1 in
-    let l = outgoing-fields.new-header.0 in
+    let l = outgoing-fields.new.fields in
     let fs : take ((1 + key_count) * count) l ≡ list_to ((1 + key_count) * openings (params_in s.settings) s.round) (outgoing_field s work) =
     take_filled l _ ((1 + key_count) * count) (outgoing_field s work) outgoing-fields.ensures (omega arith)
     ∙ ap (λ (n : ℕ). list_to ((1 + key_count) * n) (outgoing_field s work)) openings-in.ensures.0 in (
       put-message.ensures.0 ∙ bytes_are s (take ((1 + key_count) * count) l) (outgoing_field s work) fs,
-      put-message.ensures.1 ∙ ap (λ (m : List ℕ). in_front m a.out-1.now) (message-is s work new.result (take ((1 + key_count) * count) l) new.ensures fs),
+      put-message.ensures.1 ∙ ap (λ (m : List ℕ). in_front m a.out.now) (message-is s work new.result (take ((1 + key_count) * count) l) new.ensures fs),
     )
