@@ -2,7 +2,7 @@
 """compare_products.py [HOW MANY]: the library's products modulo q and X^256 + 1 against Python's integer multiplication, without any
 transform: the coefficients stand in one integer, 64 bits each, and so do those of the product, each a sum below 2^54. Random rows (5,000
 products where no count is given) and all pairs of edge rows, each by ring_product and by ring_transform with ring_product_transformed. The
-rows are the same in every run. Exit code 1 where anything differs. Needs the library: rt staticlib phone."""
+rows are the same in every run. Exit code 1 where anything differs. Needs the library: rt lib in crates/phone."""
 import random
 import struct
 import sys

@@ -5,7 +5,7 @@ FIPS 204 key generation and signing in plain Python; Decompose is `high_and_low`
 The verifier is OpenSSL, through the Python package `cryptography` (version 47 or newer), which nothing else here needs: other programs
 beside this one take the library and the signer from it.
 
-Usage: outside/mldsa_sign.py [HOW MANY]      (after `rt staticlib phone`)
+Usage: outside/mldsa_sign.py [HOW MANY]      (after `rt lib` in crates/phone)
 """
 import ctypes
 import hashlib
@@ -28,9 +28,9 @@ class PartsCode(ctypes.Structure):
 
 def load():
     """The static library as a shared one."""
-    archive = ROOT / "target/staticlib/libphone.a"
+    archive = ROOT / "crates/phone/out/libphone.a"
     if not archive.exists():
-        sys.exit("build the library first: rt staticlib phone")
+        sys.exit("build the library first: rt lib in crates/phone")
     with tempfile.TemporaryDirectory() as folder:
         shared = pathlib.Path(folder) / "libphone.so"
         subprocess.run(["cc", "-shared", "-o", shared, "-Wl,--whole-archive", archive, "-Wl,--no-whole-archive"], check=True)

@@ -8,7 +8,7 @@ with ring_product_transformed by the matrix as it is sampled, and add up. The sh
 of the program `transcript`, whose answers are w1. The signature's c~ must be the hash of mu and w1.
 
 Two signatures where no count is given. All but what OpenSSL draws is the same in every run. Exit code 1 where anything differs. Needs the
-library and the program: rt staticlib phone, rt check transcript.
+library and the program: rt lib in crates/phone, rt run in crates/transcript.
 """
 import random
 import subprocess
@@ -18,7 +18,7 @@ import transcript
 from mldsa_sign import KINDS, LIB, Q, ROOT, SIZE, h, inverse_ntt, ntt, pack, ring
 from transcript import KEYS
 
-PROGRAM = ROOT / 'target/bin/transcript'
+PROGRAM = ROOT / 'crates/transcript/out/transcript'
 ML_DSA = KINDS['ML-DSA-44']
 # The runs: set, kind HIGH, coefficients, bound.
 SETTINGS = (ML_DSA.set, 0, 8, 0)
@@ -169,7 +169,7 @@ def check(rng, sign):
 def main(args):
     count = int(args[0]) if args else 2
     if not PROGRAM.exists():
-        fail('build the program first: rt check transcript')
+        fail('build the program first: rt run in crates/transcript')
     rng = random.Random(44)
     name, sign = signer()
     runs = sum(check(rng, sign) for _ in range(count))

@@ -2,7 +2,7 @@
 """ring_counts.py [SETS]: does the work of a product depend on its numbers? Counts the instructions of ring_product, ring_transform and
 ring_product_transformed on SETS (default 5) random pairs of rows and on two extreme ones, with valgrind (Debian package valgrind). Prints the
 fewest and the most of each call; equal counts say that none took another way. Exit code 1 where counts differ, or where the calls' results do.
-Needs the library: rt staticlib phone."""
+Needs the library: rt lib in crates/phone."""
 import pathlib
 import random
 import re
@@ -12,7 +12,7 @@ import sys
 import tempfile
 
 HERE = pathlib.Path(__file__).resolve().parent
-ARCHIVE = HERE.parent / 'target/staticlib/libphone.a'
+ARCHIVE = HERE.parent / 'crates/phone/out/libphone.a'
 Q, SIZE = 8380417, 256
 CALLS = ('ring_product', 'ring_transform', 'ring_product_transformed')
 
@@ -37,7 +37,7 @@ def pairs(sets):
 
 def main(args):
     if not ARCHIVE.exists():
-        sys.exit('ring_counts.py: build the library first: rt staticlib phone')
+        sys.exit('ring_counts.py: build the library first: rt lib in crates/phone')
     inputs = [struct.pack('<%dI' % len(numbers), *numbers) for numbers in pairs(int(args[0]) if args else 5)]
     differ = False
     with tempfile.TemporaryDirectory() as name:

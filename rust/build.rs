@@ -1,4 +1,5 @@
 //! Names the proved archive to the linker, and has it built first where it is missing or old.
+//! Its code is for x86-64 processors that know SSE4.2 (x86-64-v2), as `rt` builds it.
 
 use std::env;
 use std::ffi::OsString;
@@ -8,7 +9,12 @@ use std::path::{Path, PathBuf};
 use std::process::{exit, Command};
 use std::time::SystemTime;
 
-const ARCHIVE: &str = "target/staticlib/libphone.a";
+/// The folder of the proved crate, where `rt lib` writes the archive.
+const CRATE: &str = "crates/phone";
+const ARCHIVE: &str = "crates/phone/out/libphone.a";
+
+/// What a crate is built from; beside these `rt` writes its own files.
+const SOURCES: [&str; 3] = ["src", "specs", "proofs"];
 
 fn main() {
     if let Err(why) = link() {
@@ -19,8 +25,6 @@ fn main() {
 
 fn link() -> Result<(), String> {
     println!("cargo:rerun-if-changed=build.rs");
-    println!("cargo:rerun-if-changed=../crates");
-    println!("cargo:rerun-if-changed=../crates.txt");
     println!("cargo:rerun-if-changed=../{ARCHIVE}");
 
     let arch = variable("CARGO_CFG_TARGET_ARCH")?;
@@ -35,13 +39,19 @@ fn link() -> Result<(), String> {
     let root = package
         .parent()
         .ok_or("the crate stands in no repository")?;
+    let sources =
+        sources(root).map_err(|error| format!("cannot look at {}: {error}", root.display()))?;
+    for path in &sources {
+        println!("cargo:rerun-if-changed={}", path.display());
+    }
+
     let archive = root.join(ARCHIVE);
-    if let Some(reason) = reason_to_build(root, &archive)? {
-        println!("cargo:warning={ARCHIVE} {reason}: running `rt staticlib phone`");
+    if let Some(reason) = reason_to_build(&sources, &archive)? {
+        println!("cargo:warning={ARCHIVE} {reason}: running `rt lib` in {CRATE}");
         build(root)?;
         if !archive.is_file() {
             return Err(format!(
-                "`rt staticlib phone` succeeded without writing {}",
+                "`rt lib` in {CRATE} succeeded without writing {}",
                 archive.display()
             ));
         }
@@ -57,17 +67,27 @@ fn variable(name: &str) -> Result<OsString, String> {
     env::var_os(name).ok_or_else(|| format!("cargo did not set {name}"))
 }
 
+/// The list of crates, and each crate's folders of sources.
+fn sources(root: &Path) -> io::Result<Vec<PathBuf>> {
+    let mut found = vec![root.join("crates.txt")];
+    for entry in fs::read_dir(root.join("crates"))? {
+        let folder = entry?.path();
+        let parts = SOURCES.iter().map(|name| folder.join(name));
+        found.extend(parts.filter(|path| path.is_dir()));
+    }
+    Ok(found)
+}
+
 /// Why the archive must be built, or nothing if it is newer than all its sources.
-fn reason_to_build(root: &Path, archive: &Path) -> Result<Option<&'static str>, String> {
+fn reason_to_build(sources: &[PathBuf], archive: &Path) -> Result<Option<&'static str>, String> {
     let built = match fs::metadata(archive).and_then(|data| data.modified()) {
         Ok(time) => time,
         Err(error) if error.kind() == ErrorKind::NotFound => return Ok(Some("is missing")),
         Err(error) => return Err(format!("cannot look at {}: {error}", archive.display())),
     };
-    for name in ["crates", "crates.txt"] {
-        let path = root.join(name);
+    for path in sources {
         let changed =
-            newest(&path).map_err(|error| format!("cannot look at {}: {error}", path.display()))?;
+            newest(path).map_err(|error| format!("cannot look at {}: {error}", path.display()))?;
         if built < changed {
             return Ok(Some("is older than its sources"));
         }
@@ -89,25 +109,22 @@ fn newest(path: &Path) -> io::Result<SystemTime> {
 
 /// Proves and builds the archive. What `rt` prints is shown only if it fails.
 fn build(root: &Path) -> Result<(), String> {
-    let output = match Command::new("rt")
-        .args(["staticlib", "phone"])
-        .current_dir(root)
-        .output()
-    {
+    let folder = root.join(CRATE);
+    let output = match Command::new("rt").arg("lib").current_dir(&folder).output() {
         Ok(output) => output,
         Err(error) if error.kind() == ErrorKind::NotFound => {
             return Err(format!(
                 "`rt` is not on the PATH, and {ARCHIVE} must be built: put `rt` on the PATH, \
-                 or run `rt staticlib phone` in {} and build this crate again",
-                root.display()
+                 or run `rt lib` in {} and build this crate again",
+                folder.display()
             ));
         }
-        Err(error) => return Err(format!("cannot run `rt staticlib phone`: {error}")),
+        Err(error) => return Err(format!("cannot run `rt lib`: {error}")),
     };
     if !output.status.success() {
         return Err(format!(
-            "`rt staticlib phone` in {} failed ({}):\n{}{}",
-            root.display(),
+            "`rt lib` in {} failed ({}):\n{}{}",
+            folder.display(),
             output.status,
             String::from_utf8_lossy(&output.stdout),
             String::from_utf8_lossy(&output.stderr)

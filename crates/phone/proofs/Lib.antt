@@ -1,3 +1,2 @@
 -- Laws for the exported functions.
 pub mod Refusals
-pub mod Widen

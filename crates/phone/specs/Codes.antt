@@ -1,7 +1,6 @@
 -- Answers as Rust takes them, one number for each part: the part, or the refusal number times 2³².
 use Rattle.std.specs.Prelude.{ℕ, ◌*◌, ℤ, pos}
 use Rattle.rounding.specs.declared.Decomposition.{Decomposition}
-use Rattle.rounding.specs.declared.Decomposition.TheVariants as Decomposition
 use Rattle.phone.specs.declared.PartsCode.{PartsCode}
 
 abbrev pub refusal_code : ℕ → ℤ

@@ -30,6 +30,7 @@ fn refusal(no: u32) -> i64
 }
 
 // The high part of a coefficient, or the number of the first no times 2^32.
+#[tactic(auto, using(crate::proofs::Refusals::refused_le))]
 #[unsafe(no_mangle)]
 pub extern "C" fn high_part(set: u32, w: u32) -> i64
     ensures { result ≡ high_code (parts_call set w) }
@@ -41,6 +42,7 @@ pub extern "C" fn high_part(set: u32, w: u32) -> i64
 }
 
 // The low part of a coefficient, signed, or the number of the first no times 2^32.
+#[tactic(auto, using(crate::proofs::Refusals::refused_le))]
 #[unsafe(no_mangle)]
 pub extern "C" fn low_part(set: u32, w: u32) -> i64
     ensures { result ≡ low_code (parts_call set w) }
@@ -52,6 +54,7 @@ pub extern "C" fn low_part(set: u32, w: u32) -> i64
 }
 
 // Both parts of a coefficient from one call, each as the call for it alone gives it.
+#[tactic(auto, using(crate::proofs::Refusals::refused_le))]
 #[unsafe(no_mangle)]
 pub extern "C" fn high_and_low(set: u32, w: u32) -> PartsCode
     ensures { result ≡ parts_code (parts_call set w) }
