@@ -10,7 +10,6 @@ use Rattle.lists.specs.Answers.{bit}
 use Rattle.lists.proofs.Indicators.{eq_swap}
 use Rattle.field.specs.Field.{sub}
 use Rattle.field.specs.Forms.{Registers, reg, ◌⊞◌, ◌⊟◌, value}
-use Rattle.field.proofs.Solve.{at}
 use Rattle.field.proofs.Forms.{unit-sum}
 use Rattle.field.proofs.Differences.{product_of_opened}
 use Rattle.settings.specs.Settings.{Params}

@@ -1,5 +1,5 @@
 -- Laws of a working slice in a round: columns that a round leaves as they were, and the numbers made elsewhere and copied in.
-use mathlib.Core.Path.{◌≡◌, refl, sym, ap, ◌∙◌, subst, fun_ext}
+use mathlib.Core.Path.{◌≡◌, refl, ap, ◌∙◌, fun_ext}
 use mathlib.Core.Logic.{◌≢◌}
 use mathlib.Core.Bool.{cond}
 use mathlib.Core.List.{List}
@@ -14,7 +14,7 @@ use Rattle.field.specs.Forms.{value}
 use Rattle.settings.specs.Settings.{Terms}
 use Rattle.settings.specs.Sizes.{openings, places}
 use Rattle.slice.specs.Layout.{running_at, own_at, column, masked_in}
-use Rattle.steps.specs.Steps.{Public, public_of, open_input, opening, vector_sum, running}
+use Rattle.steps.specs.Steps.{Public, public_of, open_input, opening}
 use Rattle.steps.specs.Work.{opening_on, running_on, taken_column, taken_columns, taken_work}
 use Rattle.column.specs.Held.{HeldAll, RegistersHeld}
 use Rattle.settings.proofs.Sizes.{openings-most}

@@ -7,7 +7,7 @@ use native.Mathlib.Nat.{one-mul}
 use lib.ListN.{get_or}
 use borrow.Author.Tests.{eq-eqb, eqb-true}
 use Rattle.lists.proofs.Every.{all_to_yes, all_to-at}
-use Rattle.field.specs.Field.{q, add, mul}
+use Rattle.field.specs.Field.{q}
 use Rattle.field.specs.Congruence.{◌⊩◌≈◌}
 use Rattle.field.specs.Forms.{Adds}
 use Rattle.field.proofs.Congruence.{≈_refl, ≈_eq, ≈_sym, ≈_trans, ≈_mul, ≈_mod}

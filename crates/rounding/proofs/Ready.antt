@@ -13,7 +13,6 @@ use Rattle.settings.specs.Questions.{is_bit}
 use Rattle.settings.proofs.Sets.{lawful}
 use Rattle.rounding.specs.declared.HighLow.{HighLow}
 use Rattle.rounding.specs.declared.Decomposition.{Decomposition}
-use Rattle.rounding.specs.declared.Decomposition.TheVariants as Decomposition
 use Rattle.rounding.specs.Plain.{high_low_of, joined}
 use Rattle.rounding.specs.Calls.{parts_no, parts_call, JoinTo}
 use Rattle.rounding.proofs.Decompose.{join_is}

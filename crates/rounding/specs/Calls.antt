@@ -5,9 +5,7 @@ use Rattle.lists.specs.Lists.{all_below}
 use Rattle.field.specs.Field.{q}
 use Rattle.rounding.specs.declared.HighLow.{HighLow}
 use Rattle.rounding.specs.declared.Decomposition.{Decomposition}
-use Rattle.rounding.specs.declared.Decomposition.TheVariants as Decomposition
 use Rattle.rounding.specs.declared.Verdict.{Verdict}
-use Rattle.rounding.specs.declared.Verdict.TheVariants as Verdict
 use Rattle.settings.specs.Sets.{scale_of}
 use Rattle.settings.specs.Questions.{is_bit, count_ok, bound_ok}
 use Rattle.rounding.specs.Plain.{high_low_of, joined, verdict}

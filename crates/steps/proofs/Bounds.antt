@@ -3,7 +3,7 @@ use mathlib.Core.Path.{◌≡◌, refl, sym, ap, ◌∙◌}
 use mathlib.Core.Logic.{◌≢◌}
 use mathlib.Core.Bool.{Bool, true, false, cond, ◌&&◌}
 use Prim.Native.Nat.{ℕ, zero, suc, ◌+◌, ◌-◌, ◌*◌, ◌/◌, ◌%◌, ◌≤◌, ◌<◌}
-use native.Mathlib.Nat.{mod-lt, mul-le-mul_left, mul-le-mul_right, le-div_iff_mul-le}
+use native.Mathlib.Nat.{mul-le-mul_left, mul-le-mul_right, le-div_iff_mul-le}
 use native.Mathlib.Decide.{dec_lt}
 use native.Mathlib.Omega.{arith}
 use lib.Dec.{eqb, leb, ltb}
@@ -17,13 +17,11 @@ use Rattle.field.proofs.Division.{Split, split}
 use Rattle.settings.specs.declared.Shape.{Shape}
 use Rattle.settings.specs.Settings.{Params, params_of}
 use Rattle.settings.specs.Sets.{scale_of, base}
-use Rattle.rounding.specs.Digits.{digit}
-use Rattle.rounding.specs.Rounds.{gap, threshold, unit}
-use Rattle.settings.proofs.Sets.{lawful, base-range}
-use Rattle.rounding.proofs.Radix.{low_digit, top_digit, unit-alpha, digit_below}
+use Rattle.rounding.specs.Rounds.{gap, threshold}
+use Rattle.settings.proofs.Sets.{base-range}
 use Rattle.settings.specs.Sizes.{openings, stride}
 use Rattle.book.specs.Book.{group_k, vector_at}
-use Rattle.steps.specs.Steps.{looked_at, limit_of, group_of}
+use Rattle.steps.specs.Steps.{limit_of, group_of}
 use Rattle.slice.specs.Weights.{rule_of}
 use Rattle.slice.specs.declared.Rule.{Rule}
 use Rattle.slice.specs.declared.Rule.TheVariants.{Carry, Zero, Top, Over, Below}

@@ -17,7 +17,6 @@ use Rattle.settings.specs.declared.Settings.{Settings}
 use Rattle.settings.specs.Sets.{scale_of}
 use Rattle.settings.proofs.Sets.{lawful}
 use Rattle.rounding.specs.declared.Split.{Split}
-use Rattle.rounding.specs.Digits.{split_of}
 use Rattle.rounding.specs.Rounds.{threshold}
 use Rattle.rounding.proofs.Radix.{digit_below}
 use Rattle.steps.specs.declared.Context.{Context}

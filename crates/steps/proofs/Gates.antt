@@ -1,5 +1,5 @@
 -- A gate as the code has it: it fits its column, its forms are those of the steps, and its result from the numbers that a side holds.
-use mathlib.Core.Path.{◌≡◌, refl, sym, ap, ◌∙◌}
+use mathlib.Core.Path.{◌≡◌}
 use mathlib.Core.List.{List}
 use Prim.Native.Nat.{ℕ, ◌+◌, ◌-◌, ◌*◌, ◌/◌, ◌%◌, ◌≤◌, ◌<◌}
 use native.Mathlib.Nat.{add-zero}
@@ -8,7 +8,6 @@ use lib.Dec.{lit<}
 use lib.ListN.{get_or}
 use borrow.Author.Tests.{lt-ltb, le-ltb}
 use Rattle.field.specs.Field.{q, add, sub, mul}
-use Rattle.field.specs.Forms.{Form}
 use Rattle.field.proofs.Solve.{at, ◌⊕◌, ◌⊖◌, ◌⊗◌, neg, red, solve}
 use Rattle.settings.specs.declared.Shape.{Shape}
 use Rattle.settings.specs.declared.Settings.{Settings}
@@ -21,8 +20,7 @@ use Rattle.rounding.specs.declared.Split.{Split}
 use Rattle.rounding.specs.Digits.{split_of}
 use Rattle.slice.specs.Weights.{rule_of, TopFits}
 use Rattle.slice.specs.declared.Weighted.{Weighted}
-use Rattle.slice.specs.declared.Rule.TheVariants.{Zero, Top}
-use Rattle.steps.specs.declared.Gate.{Gate}
+use Rattle.slice.specs.declared.Rule.TheVariants.{Top}
 use Rattle.steps.specs.Steps.{looked_at, limit_of, vector_sum, addend, factor_u, factor_v, open_factor, gate_result}
 use Rattle.steps.specs.Context.{public_by}
 use Rattle.steps.specs.Gates.{terms_at, gate_at, sum_form, addend_form, u_form, v_form, open_u, open_v, result_form, TermsFit, Listed}

@@ -13,7 +13,7 @@ use Rattle.lists.specs.Lists.{fill_by}
 use Rattle.steps.proofs.Contexts.{place_in, count_most}
 use Rattle.steps.proofs.Gates.{listed}
 use Rattle.settings.specs.Sets.{top_digits}
-use Prim.Native.Nat.{ℕ, ◌≤◌, ◌-◌, ◌%◌, ◌/◌}
+use Prim.Native.Nat.{ℕ, ◌≤◌, ◌%◌, ◌/◌}
 use mathlib.Core.Path.{ap, ◌∙◌}
 use native.Mathlib.Omega.{arith}
 use lib.ListN.{length, get_or}

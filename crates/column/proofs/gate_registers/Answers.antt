@@ -65,8 +65,8 @@ results_into-requires c =
       weights_in_bounds = omega (arith, p.le_round, at.invariant.2);
       which_in_bounds = (rw c.gate_of-gate.ensures.0 (omega (arith, p.weights_in_bounds)), p.weights_in_bounds.2);
       by_index = λ d h.
-              gate_held known g split-place.result split-place.ensures c.gate_of-gate.result c.gate_of-gate.ensures.0 _ _ a.own.now d
-              (p.gates_held d g h (omega arith));
+          gate_held known g split-place.result split-place.ensures c.gate_of-gate.result c.gate_of-gate.ensures.0 _ _ a.own.now d
+          (p.gates_held d g h (omega arith));
     }
 
 pub loop-g-preserved : goal.loop-g-preserved

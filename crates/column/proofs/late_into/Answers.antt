@@ -1,6 +1,6 @@
 -- `column::late_into` meets its contract. Assumes nothing.
 use Rattle.column.proofs.Registers.{late_more}
-use Prim.Native.Nat.{◌-◌, ◌*◌}
+use Prim.Native.Nat.{◌*◌}
 use mathlib.Core.Path.{◌≡◌}
 use native.Mathlib.Omega.{arith}
 use lib.ListN.{length-set}

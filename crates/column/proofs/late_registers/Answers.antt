@@ -1,7 +1,7 @@
 -- `column::late_registers` meets its contract. Assumes nothing.
 use Rattle.column.proofs.Registers.{late_columns}
 use Rattle.steps.specs.Context.{public_by}
-use Prim.Native.Nat.{ℕ, ◌-◌}
+use Prim.Native.Nat.{ℕ}
 use native.Mathlib.Omega.{arith}
 use lib.ListN.{get_or}
 use Rattle.column.proofs.late_registers.Goals as goal

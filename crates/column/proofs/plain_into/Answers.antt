@@ -2,7 +2,6 @@
 use Rattle.settings.specs.Sizes.{openings}
 use Rattle.settings.specs.Settings.{params_of}
 use Rattle.lists.proofs.Fill.{fill_none, stored}
-use Prim.Native.Nat.{◌-◌}
 use mathlib.Core.Path.{◌≡◌, refl, sym}
 use native.Mathlib.Omega.{arith}
 use lib.ListN.{length-set}

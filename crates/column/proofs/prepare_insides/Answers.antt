@@ -7,7 +7,7 @@ use Rattle.slice.specs.Layout.{column}
 use Rattle.field.specs.Forms.{value}
 use Rattle.field.specs.Field.{q}
 use Rattle.steps.specs.Context.{public_by}
-use Prim.Native.Nat.{ℕ, ◌-◌}
+use Prim.Native.Nat.{ℕ}
 use mathlib.Core.Path.{ap, ◌∙◌}
 use native.Mathlib.Omega.{arith}
 use lib.ListN.{get_or, length-set}

@@ -7,7 +7,7 @@ use Rattle.settings.specs.Sizes.{openings, most_openings}
 use Rattle.settings.specs.Settings.{params_of}
 use Rattle.lists.proofs.Fill.{length-fill}
 use Rattle.lists.specs.Lists.{fill}
-use Prim.Native.Nat.{ℕ, ◌-◌, ◌*◌}
+use Prim.Native.Nat.{ℕ, ◌*◌}
 use mathlib.Core.Path.{ap, ◌∙◌}
 use native.Mathlib.Omega.{arith}
 use lib.ListN.{length}

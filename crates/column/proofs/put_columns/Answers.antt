@@ -4,7 +4,6 @@ use Rattle.steps.specs.Work.{taken_columns}
 use Rattle.steps.specs.Context.{public_by}
 use Rattle.lists.proofs.Fill.{length-fill}
 use native.Mathlib.Numerals.{add-one}
-use Prim.Native.Nat.{◌-◌}
 use mathlib.Core.Path.{◌≡◌, refl, ap, ◌∙◌}
 use native.Mathlib.Omega.{arith}
 use lib.ListN.{length}

@@ -22,11 +22,14 @@ first_registers-requires c =
     let p = c.requires in
     let if1 = c.if-round-eq1 in
     let a = c.args in
-    let made = c.context_of.ensures in record { ready = (
+    let made = c.context_of.ensures in record {
+      ready = (
         rw made.settings_kept p.ready,
         splits_below a.known.settings (a.known.round + 1) (λ (j : ℕ). get_or a.opened.now j 0) c.context_of.result p.ready.shape.sets p.round_in_bounds.1
             (looks_middle a.known.settings.shape.kind (a.known.round + 1) (omega (arith, if1.true)) (omega (arith, if1.true))) made,
-      ); round_value = (omega (arith, made.round_kept, if1.true), omega (arith, p.weights_in_bounds), omega (arith, p.le_round)) }
+      );
+      round_value = (omega (arith, made.round_kept, if1.true), omega (arith, p.weights_in_bounds), omega (arith, p.le_round));
+    }
 
 pub returns-then-round-eq1 : goal.returns-then-round-eq1
 returns-then-round-eq1 c = let a = c.args in

@@ -1,6 +1,5 @@
 -- `column::results_into` meets its contract. Assumes nothing.
 use Rattle.lists.proofs.Strides.{stride-none, stride-more}
-use Prim.Native.Nat.{◌-◌}
 use mathlib.Core.Path.{refl, sym}
 use native.Mathlib.Omega.{arith}
 use lib.ListN.{length-set}

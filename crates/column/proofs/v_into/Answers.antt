@@ -1,12 +1,11 @@
 -- `column::v_into` meets its contract. Assumes nothing.
 use Rattle.steps.specs.Gates.{open_v}
-use Rattle.column.specs.Held.{column_at}
 use Rattle.slice.specs.Layout.{column}
 use Rattle.settings.specs.Sizes.{most_openings}
 use Rattle.field.specs.Forms.{value}
 use Rattle.field.specs.Field.{q}
 use Rattle.lists.proofs.Strides.{stride-none, stride-more}
-use Prim.Native.Nat.{ℕ, ◌-◌}
+use Prim.Native.Nat.{ℕ}
 use mathlib.Core.Path.{◌≡◌, refl, sym, ap, ◌∙◌}
 use native.Mathlib.Omega.{arith}
 use lib.ListN.{length-set}

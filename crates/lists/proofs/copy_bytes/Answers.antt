@@ -1,5 +1,4 @@
 -- `lists::copy_bytes` meets its contract.
-use Prim.Native.Nat.{◌-◌}
 use native.Mathlib.Omega.{arith}
 use borrow.Author.Rules.{rules}
 use Rattle.lists.proofs.Bytes.{copy_more}

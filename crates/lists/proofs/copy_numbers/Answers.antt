@@ -1,6 +1,5 @@
 -- `lists::copy_numbers` meets its contract.
 use Rattle.lists.proofs.Fill.{fill_none, fill_more}
-use Prim.Native.Nat.{◌-◌}
 use mathlib.Core.Path.{refl, sym}
 use native.Mathlib.Omega.{arith}
 use lib.ListN.{length-set}

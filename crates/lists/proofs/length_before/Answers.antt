@@ -1,6 +1,5 @@
 -- `lists::length_before` meets its contract.
 use Rattle.lists.proofs.Bytes.{length_more, length_found, length-end}
-use Prim.Native.Nat.{◌-◌}
 use native.Mathlib.Omega.{arith}
 use Rattle.lists.proofs.length_before.Goals as goal
 

@@ -1,6 +1,5 @@
 -- `opening::put_in_turn` meets its contract.
 use mathlib.Core.Path.{refl, sym}
-use Prim.Native.Nat.{◌-◌}
 use native.Mathlib.Omega.{arith}
 use lib.ListN.{length-set}
 use Rattle.lists.proofs.Fill.{fill_none, front-more}

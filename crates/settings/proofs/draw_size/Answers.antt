@@ -2,7 +2,6 @@
 use Rattle.settings.proofs.Ready.{ok_ready}
 use Rattle.settings.specs.Sizes.{draw_size}
 use mathlib.Core.Path.{sym, ◌∙◌}
-use borrow.Author.Tests.{not-false}
 use Rattle.lists.proofs.Choices.{choices}
 use Rattle.settings.proofs.draw_size.Goals as goal
 

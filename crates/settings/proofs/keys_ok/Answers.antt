@@ -1,5 +1,4 @@
 -- `settings::keys_ok` meets its contract: the rest of the keys passes just if all do.
-use Prim.Native.Nat.{◌-◌}
 use borrow.Author.Rules.{rules}
 use Rattle.lists.proofs.Every.{every_again, every_stop, every-end}
 use mathlib.Core.Path.{sym, ◌∙◌}

@@ -2,7 +2,6 @@
 use Rattle.settings.proofs.Ready.{ok_ready}
 use Rattle.settings.specs.Sizes.{message_size}
 use mathlib.Core.Path.{sym, ◌∙◌}
-use borrow.Author.Tests.{not-false}
 use Rattle.lists.proofs.Choices.{choices}
 use Rattle.lists.proofs.Questions.{walk}
 use Rattle.settings.proofs.message_size.Goals as goal

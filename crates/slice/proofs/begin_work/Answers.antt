@@ -1,6 +1,5 @@
 -- `slice::begin_work` meets its contract.
 use borrow.Author.Rules.{rules}
-use Prim.Native.Nat.{◌-◌}
 use native.Mathlib.Omega.{arith}
 use Rattle.settings.specs.Settings.{params_of}
 use Rattle.settings.specs.Sizes.{width}

@@ -1,7 +1,6 @@
 -- `slice::load_book` meets its contract.
 use borrow.Author.Rules.{rules}
 use mathlib.Core.Path.{refl}
-use Prim.Native.Nat.{◌-◌}
 use native.Mathlib.Omega.{arith}
 use Rattle.slice.proofs.Begun.{batch_none, batch_next}
 use Rattle.slice.proofs.load_book.Goals as goal

@@ -1,5 +1,5 @@
 -- `slice::part_sum` meets its contract.
-use Prim.Native.Nat.{ℕ, ◌-◌, ◌+◌}
+use Prim.Native.Nat.{ℕ, ◌+◌}
 use native.Mathlib.Omega.{arith}
 use Rattle.slice.specs.Layout.{column}
 use Rattle.slice.proofs.Ranges.{part_none, part-next}

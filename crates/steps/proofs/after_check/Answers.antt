@@ -7,7 +7,6 @@ pub returns-then-kind-eq0 : goal.returns-then-kind-eq0
 unfolding after_check
 returns-then-kind-eq0 c =
     let if1 = c.if-kind-eq0 in
-    
     let check_entry_lem = c.check_entry-wrap in
     λ masked κ. rw (eq-eqb _ _ if1.true, ← c.group_of.ensures, ← check_entry_lem.ensures masked κ, ← c.register.ensures) c.sub_mod.ensures
 

@@ -2,7 +2,6 @@
 use Rattle.steps.proofs.Contexts.{hi_is, lo_is}
 use native.Mathlib.Numerals.{add-one}
 use Rattle.steps.specs.Steps.{insides, inside_form}
-use Prim.Native.Nat.{◌-◌}
 use native.Mathlib.Omega.{arith}
 use Rattle.steps.proofs.insides_value.Goals as goal
 
