@@ -8,6 +8,6 @@ returns-then-x-ne0 c = server_not_sent c.args.x c.args.work.now c.args.messages.
 pub returns : goal.returns
 returns c =
     let a = c.args in
-    let IsSend-at = c.IsSend-at in
+    let IsSend-at = c.send_at-step in
     server_sends a.x a.work.now a.messages.now c.if-x-ne0.false
     c.requires IsSend-at.result _ c.refusal_of.result IsSend-at.ensures c.refusal_of.ensures
