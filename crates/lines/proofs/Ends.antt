@@ -143,15 +143,15 @@ module _ (state serial : ℕ) (o : Request) (ok : request_no serial o ≡ 0) (fi
       ap (drop (input_size s.shape)) behind ∙ ap (λ (n : ℕ). drop n (replicate each 0 ++ draw)) input_size_lem
       ∙ drop_at (replicate each 0) draw each (length-replicate {A = ℕ} each 0)
 
-  draw_size : length draw ≡ drawn
-  draw_size = outputs_length q state drawn
+  draw_size_lem : length draw ≡ drawn
+  draw_size_lem = outputs_length q state drawn
 
   draw_below : all_below q draw ≡ true
   draw_below = outputs_below state drawn
 
   draw_long : length (draw_in s.shape numbers) ≡ draw_size s.shape
   unfolding draw_size
-  draw_long = rw (draw_is, shape_yes) draw_size
+  draw_long = rw (draw_is, shape_yes) draw_size_lem
 
   book-size : book_size s.shape ≡ shared (params_in s) * width
   unfolding book_size
@@ -166,7 +166,7 @@ module _ (state serial : ℕ) (o : Request) (ok : request_no serial o ≡ 0) (fi
         y.0,
         y.1,
         ones_ok,
-        eq-eqb (length draw) drawn draw_size,
+        eq-eqb (length draw) drawn draw_size_lem,
         eq-eqb (length (replicate {A = ℕ} (book_size s.shape) 0)) (shared (params_in s) * width) (length-replicate {A = ℕ} (book_size s.shape) 0 ∙ book-size),
         draw_below,
       )
@@ -186,7 +186,7 @@ module _ (state serial : ℕ) (o : Request) (ok : request_no serial o ≡ 0) (fi
       honest_run_goes_through s serial ones ones fixed secret inputs draw
       (record { size_is = secret_long; below = six.0 })
       (record { size_is = inputs_long; below = columns_below secret six.0 })
-      (record { size_is = draw_size; below = draw_below })
+      (record { size_is = draw_size_lem; below = draw_below })
       start
       (record { observer = idle_is work0 long0; peer = idle_is work1 long1 })
 
