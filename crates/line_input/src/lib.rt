@@ -11,44 +11,38 @@
 
 mod answers;
 
-ghost use Rattle.std.specs.Prelude.{◌≡◌, true, [], ◌≤◌, length};
+ghost use Rattle.std.specs.Prelude.{◌≡◌, [], ◌≤◌, length, IfOk};
 ghost use Rattle.stream.specs.Waiting.{standing, flushed, all_calls};
 ghost use Rattle.lines.specs.Run.{LentToLine};
 ghost use Rattle.line_input.specs.Answers.{line_handler, kept_length};
 
 use answers::{answer_some, put_last};
 use execution::{BOOK_LENGTH, RUN_BYTES};
+use inputs::{Named, has_argument, open_argument};
 use lines::RUN_NUMBERS;
 use settings::WORK_LENGTH;
+use std::io;
+use std::io::{Read, Write};
+use std::rt::{Env, Files};
 use stream::{Stream, start_stream};
-
-const STDIN: i32 = 0;
-
-const STDOUT: i32 = 1;
 
 // One byte more than a line may have, so that one that is too long is seen to be.
 const KEPT: usize = 1025;
 
-// Where an input stands: whether to read on, whether every read and write so far has been done, and the generator's state.
-#[derive(Clone, Copy)]
+// The most bytes that are read at once, and that wait to be written.
+const PART: usize = 65536;
+
+// Where an input stands: whether to read on, and the generator's state.
+#[derive(Drop)]
 struct InputState {
     more: bool,
-    good: bool,
     stream: Stream,
     state: u32,
 }
 
-// Writes the bytes; where that fails, says so on standard error.
-fn write_out(bytes: &[u8]) -> bool {
-    if io::write_all(STDOUT, bytes) {
-        return true;
-    }
-    os::fail(b"write");
-    false
-}
-
 // Answers the lines that end in a part, and writes the answers, until a write fails.
-fn answer_part(
+fn answer_part<W: Write>(
+    output: &mut W,
     stream: Stream,
     state: u32,
     kept: &mut [u8],
@@ -60,18 +54,17 @@ fn answer_part(
     work0: &mut [u32],
     work1: &mut [u32],
     messages: &mut [u8],
-) -> InputState
+) -> io::Result<InputState>
     requires kept_len { length kept.old ≡ kept_length }
     requires in_bounds { 123 ≤ length out.old }
     requires lent_to_line { LentToLine numbers.old book0.old book1.old work0.old work1.old messages.old }
-    ensures state_after { result.good ≡ true → standing result.stream kept.new [] 0 result.state ≡ flushed (all_calls line_handler (standing stream kept.old [] 0 state) bytes.now) }
+    ensures state_after { IfOk result (λ here. standing here.stream kept.new [] 0 here.state ≡ flushed (all_calls line_handler (standing stream kept.old [] 0 state) bytes.now)) }
     ensures lent_to_line_2 { LentToLine numbers.new book0.new book1.new work0.new work1.new messages.new }
 {
     let mut here = stream;
-    let mut good = true;
     let mut at = 0;
     let mut after = state;
-    while at < bytes.len() && good {
+    while at < bytes.len() {
         let call = answer_some(
             here,
             after,
@@ -85,23 +78,22 @@ fn answer_part(
             work1,
             messages,
         );
-        let n = call.waiting;
-        good = write_out(&out[..n]);
+        output.write_all(&out[..call.waiting])?;
         here = call.stream;
         at += call.used;
         after = call.state;
     }
-    InputState {
-        more: good,
-        good,
+    Ok(InputState {
+        more: true,
         stream: here,
         state: after,
-    }
+    })
 }
 
-// Reads a part, and answers its lines. Where the read fails, says so on standard error.
-fn read_part(
-    fd: i32,
+// Reads a part, and answers its lines.
+fn read_part<R: Read, W: Write>(
+    input: &mut R,
+    output: &mut W,
     stream: Stream,
     state: u32,
     kept: &mut [u8],
@@ -113,32 +105,22 @@ fn read_part(
     work0: &mut [u32],
     work1: &mut [u32],
     messages: &mut [u8],
-) -> InputState
+) -> io::Result<InputState>
     requires kept_len { length kept.old ≡ kept_length }
     requires in_bounds { 123 ≤ length out.old }
     requires lent_to_line { LentToLine numbers.old book0.old book1.old work0.old work1.old messages.old }
     ensures { LentToLine numbers.new book0.new book1.new work0.new work1.new messages.new }
 {
-    let got = libc::read(fd, part);
-    if got < 0 {
-        os::fail(b"read");
-        return InputState {
+    let n = input.read(part)?;
+    if n == 0 {
+        return Ok(InputState {
             more: false,
-            good: false,
             stream,
             state,
-        };
+        });
     }
-    if got == 0 {
-        return InputState {
-            more: false,
-            good: true,
-            stream,
-            state,
-        };
-    }
-    let n = io::count(got, part);
     answer_part(
+        output,
         stream,
         state,
         kept,
@@ -153,9 +135,10 @@ fn read_part(
     )
 }
 
-// All parts. Nothing says that an input ends, so the loop counts down from a number that no run uses up.
-fn read_parts(
-    fd: i32,
+// All parts. Nothing says that an input ends, so the reads are counted, up to a number that no run uses up.
+fn read_parts<R: Read, W: Write>(
+    input: &mut R,
+    output: &mut W,
     state: u32,
     kept: &mut [u8],
     part: &mut [u8],
@@ -166,7 +149,7 @@ fn read_parts(
     work0: &mut [u32],
     work1: &mut [u32],
     messages: &mut [u8],
-) -> InputState
+) -> io::Result<InputState>
     requires kept_len { length kept.old ≡ kept_length }
     requires in_bounds { 123 ≤ length out.old }
     requires lent_to_line { LentToLine numbers.old book0.old book1.old work0.old work1.old messages.old }
@@ -174,14 +157,16 @@ fn read_parts(
 {
     let mut here = InputState {
         more: true,
-        good: true,
         stream: start_stream(),
         state,
     };
-    let mut left = u64::MAX;
-    while left > 0 && here.more {
+    for _ in 0..u64::MAX {
+        if !here.more {
+            break;
+        }
         here = read_part(
-            fd,
+            input,
+            output,
             here.stream,
             here.state,
             kept,
@@ -193,17 +178,16 @@ fn read_parts(
             work0,
             work1,
             messages,
-        );
-        left -= 1;
+        )?;
     }
-    here
+    Ok(here)
 }
 
-// Answers an input; whether every read and write has been done. What a line's run needs is made here once, and lent to one line after another.
-fn answer_input(fd: i32, state: u32) -> bool {
+// Answers an input, until a read or a write fails. What a line's run needs is made here once, and lent to one line after another.
+fn answer_input<R: Read, W: Write>(input: &mut R, output: &mut W, state: u32) -> io::Result<()> {
     let mut kept = [0u8; KEPT];
-    let mut part = io::large_buffer();
-    let mut out = io::large_buffer();
+    let mut part = [0u8; PART];
+    let mut out = [0u8; PART];
     let mut numbers = [0u32; RUN_NUMBERS];
     let mut book0 = [0u32; BOOK_LENGTH];
     let mut book1 = [0u32; BOOK_LENGTH];
@@ -211,7 +195,8 @@ fn answer_input(fd: i32, state: u32) -> bool {
     let mut work1 = [0u32; WORK_LENGTH];
     let mut messages = [0u8; RUN_BYTES];
     let end = read_parts(
-        fd,
+        input,
+        output,
         state,
         &mut kept,
         &mut part,
@@ -222,10 +207,7 @@ fn answer_input(fd: i32, state: u32) -> bool {
         &mut work0,
         &mut work1,
         &mut messages,
-    );
-    if !end.good {
-        return false;
-    }
+    )?;
     let n = put_last(
         end.stream,
         end.state,
@@ -238,39 +220,29 @@ fn answer_input(fd: i32, state: u32) -> bool {
         &mut work1,
         &mut messages,
     );
-    write_out(&out[..n])
+    output.write_all(&out[..n])
 }
 
-// The input in the file that argument i names. One that cannot be opened is passed over.
-fn answer_file(i: usize, state: u32) -> bool {
-    let mut path = io::buffer();
-    let length = os::arg(i, &mut path);
-    let fd = os::open_read(&path[..length]);
-    if fd < 0 {
-        os::fail(&path[..length]);
-        return true;
+// The inputs in the files that the arguments name, one after another, until a read or a write fails. One that cannot be opened is passed
+// over.
+fn answer_files<R: Env + Files + Print + Eprint>(rt: &R, state: u32) -> io::Result<()> {
+    for i in 1..usize::MAX {
+        match open_argument(rt, i) {
+            Named::Nothing => break,
+            Named::Refused => {}
+            Named::Open(mut file) => answer_input(&mut file, &mut io::writer(rt), state)?,
+        }
     }
-    let good = answer_input(fd, state);
-    libc::close(fd);
-    good
-}
-
-// The inputs in the files that the arguments name, one after another, until a read or a write fails.
-fn answer_files(count: usize, state: u32) {
-    let mut i = 1;
-    let mut good = true;
-    while i < count && good {
-        good = answer_file(i, state);
-        i += 1;
-    }
+    Ok(())
 }
 
 // Answers standard input, or, where there are arguments, the files that they name, each an input of its own from the same state.
-pub fn answer_inputs(state: u32) {
-    let count = os::arg_count();
-    if count < 2 {
-        answer_input(STDIN, state);
-        return;
+pub fn answer_inputs<R: Env + Files + Input + Print + Eprint>(
+    rt: &R,
+    state: u32,
+) -> io::Result<()> {
+    if has_argument(rt, 1) {
+        return answer_files(rt, state);
     }
-    answer_files(count, state);
+    answer_input(&mut rt.reader(), &mut io::writer(rt), state)
 }

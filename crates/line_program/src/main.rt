@@ -6,6 +6,7 @@ ghost use Rattle.std.specs.Prelude.{◌≡◌};
 ghost use Rattle.line_program.specs.Theorems.{no_generator};
 
 use line_input::answer_inputs;
+use std::io;
 
 // The state that stands for no generator.
 fn no_generator() -> u32
@@ -14,6 +15,6 @@ fn no_generator() -> u32
     0
 }
 
-fn main() {
-    answer_inputs(no_generator());
+fn main(rt: HostRuntime) -> io::Result<()> {
+    answer_inputs(&rt, no_generator())
 }

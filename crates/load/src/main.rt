@@ -7,6 +7,7 @@ ghost use Rattle.load.specs.Theorems.{load_seed};
 
 use generator::{Seeded, make_generator};
 use line_input::answer_inputs;
+use std::io;
 
 const SEED: u32 = 1;
 
@@ -20,6 +21,6 @@ fn first_state() -> u32
     generator.state
 }
 
-fn main() {
-    answer_inputs(first_state());
+fn main(rt: HostRuntime) -> io::Result<()> {
+    answer_inputs(&rt, first_state())
 }
