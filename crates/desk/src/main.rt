@@ -41,7 +41,7 @@ const PART: usize = 65536;
 const OUT: usize = 65536 + LONGEST_ANSWER;
 
 // Where an input stands, and whether to read on.
-#[derive(Drop)]
+#[derive(Clone, Copy)]
 struct InputState {
     more: bool,
     stream: Stream,
@@ -157,14 +157,21 @@ fn answer_input<R: Read, W: Write>(input: &mut R, output: &mut W) -> io::Result<
     output.write_all(&out[..n])
 }
 
-// The inputs in the files that the arguments name, one after another, until a read or a write fails. One that cannot be opened is passed
-// over.
+// The input in the file that argument i names; whether there is such an argument. A file that cannot be opened is passed over.
+fn answer_file<R: Env + Files + Print + Eprint>(rt: &R, i: usize) -> io::Result<bool> {
+    match open_argument(rt, i) {
+        Named::Nothing => return Ok(false),
+        Named::Refused => {}
+        Named::Open(mut file) => answer_input(&mut file, &mut io::writer(rt))?,
+    }
+    Ok(true)
+}
+
+// The inputs in the files that the arguments name, one after another, until a read or a write fails.
 fn answer_files<R: Env + Files + Print + Eprint>(rt: &R) -> io::Result<()> {
     for i in 1..usize::MAX {
-        match open_argument(rt, i) {
-            Named::Nothing => break,
-            Named::Refused => {}
-            Named::Open(mut file) => answer_input(&mut file, &mut io::writer(rt))?,
+        if !answer_file(rt, i)? {
+            break;
         }
     }
     Ok(())

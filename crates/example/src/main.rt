@@ -7,10 +7,9 @@ use lists::least;
 use settings::{KEYS, LENGTH, MOST_BYTES, ROUNDS, Settings, Shape, WIDTH, WORK_LENGTH};
 use side::{Run, begin, send, take};
 use state::{Side, answer, fresh};
+use std::io;
 use stock::{choose, choose_no};
 use text::{put_byte, put_bytes, put_numbers};
-
-const STDOUT: i32 = 1;
 
 // Set 0, HIGH, N = 8: what book_size, draw_size and input_size of crate settings give.
 const BOOK_LENGTH: usize = 1320 * WIDTH;
@@ -18,6 +17,9 @@ const BOOK_LENGTH: usize = 1320 * WIDTH;
 const DRAW_LENGTH: usize = BOOK_LENGTH + 144;
 
 const INPUT_LENGTH: usize = 8 * WIDTH;
+
+// Room for the line of an answer.
+const SHOWN: usize = 4096;
 
 // Both sides of a run.
 #[derive(Clone, Copy)]
@@ -77,16 +79,16 @@ fn run_rounds(sides: Sides, work0: &mut [u32], work1: &mut [u32]) -> Sides {
 }
 
 // The answer of a side after its run.
-fn show_answer(side: Side) {
+fn show_answer(rt: &impl Print, side: Side) -> io::Result<()> {
     let mut numbers = [0u32; 8];
     let result = answer(side, &mut numbers);
     let length = least(result.length, numbers.len());
-    let mut out = io::buffer();
+    let mut out = [0u8; SHOWN];
     let word = put_bytes(&mut out, 0, b"answer");
     let put = put_numbers(&mut out, word, &numbers[..length]);
     let end = put_byte(&mut out, put, b'\n');
     let shown = least(end, out.len());
-    io::write_all(STDOUT, &out[..shown]);
+    rt.write_all(&out[..shown])
 }
 
 // ---- Level Three
@@ -112,10 +114,16 @@ fn deal_books(shape: Shape, draw: &[u32], stock0: &mut [u32], stock1: &mut [u32]
 }
 
 // The book that a device uses next, out of its two stocks, and its serial.
-fn next_book<'a>(shape: Shape, first: &'a [u32], second: &'a [u32], last_serial: u32) -> &'a [u32] {
+fn next_book<'a>(
+    rt: &impl Eprint,
+    shape: Shape,
+    first: &'a [u32],
+    second: &'a [u32],
+    last_serial: u32,
+) -> &'a [u32] {
     let no = choose_no(shape, first, second, last_serial);
     if no != 0 {
-        os::fail(b"choose");
+        let _ = eprintln!(rt; "choose: {no}");
     }
     choose(shape, first, second, last_serial)
 }
@@ -158,12 +166,12 @@ fn begin_both(
 }
 
 // A whole run with a book for each side, in which the serial stands first.
-fn run(book0: &[u32], book1: &[u32]) {
+fn run(rt: &impl Print, book0: &[u32], book1: &[u32]) -> io::Result<()> {
     if book0.len() == 0 {
-        return;
+        return Ok(());
     }
     if book1.len() == 0 {
-        return;
+        return Ok(());
     }
     let serial = book0[0];
     let mut work0 = [0u32; WORK_LENGTH];
@@ -172,19 +180,24 @@ fn run(book0: &[u32], book1: &[u32]) {
     let done = run_rounds(begun, &mut work0, &mut work1);
     let server = done.server;
     let phone = done.phone;
-    show_answer(server);
-    show_answer(phone);
+    show_answer(rt, server)?;
+    show_answer(rt, phone)
 }
 
 // A run with the next book of each side. Its first stock is empty, and no serial has been used.
-fn run_next(shape: Shape, stock0: &[u32], stock1: &[u32]) {
-    let book0 = next_book(shape, &stock0[..0], stock0, 0);
-    let book1 = next_book(shape, &stock1[..0], stock1, 0);
-    run(book0, book1);
+fn run_next(
+    rt: &(impl Print + Eprint),
+    shape: Shape,
+    stock0: &[u32],
+    stock1: &[u32],
+) -> io::Result<()> {
+    let book0 = next_book(rt, shape, &stock0[..0], stock0, 0);
+    let book1 = next_book(rt, shape, &stock1[..0], stock1, 0);
+    run(rt, book0, book1)
 }
 
 // A stock of one book at each side, with serial 1.
-fn main() {
+fn main(rt: HostRuntime) -> io::Result<()> {
     let shape = Shape {
         set: 0,
         kind: 0,
@@ -195,7 +208,7 @@ fn main() {
     let mut stock1 = [1u32; 1 + BOOK_LENGTH];
     let refused = deal_books(shape, &draw, &mut stock0, &mut stock1);
     if refused != 0 {
-        os::fail(b"deal");
+        let _ = eprintln!(rt; "deal: {refused}");
     }
-    run_next(shape, &stock0, &stock1);
+    run_next(&rt, shape, &stock0, &stock1)
 }

@@ -21,7 +21,7 @@ pub enum Named<F> {
 }
 
 // Argument i, put in front of `word`: how many bytes it has. Nothing, if there is no such argument.
-pub fn argument<R: Env>(rt: &R, i: usize, word: &mut [u8]) -> Option<usize>
+pub fn argument(rt: &impl Env, i: usize, word: &mut [u8]) -> Option<usize>
     ensures { IfSome result (λ n. n ≤ length word.new) }
 {
     match rt.arg(i, word) {
@@ -32,7 +32,7 @@ pub fn argument<R: Env>(rt: &R, i: usize, word: &mut [u8]) -> Option<usize>
 }
 
 // Is there an argument i?
-pub fn has_argument<R: Env>(rt: &R, i: usize) -> bool {
+pub fn has_argument(rt: &impl Env, i: usize) -> bool {
     let mut word = [0u8; PATH_LENGTH];
     argument(rt, i, &mut word).is_some()
 }

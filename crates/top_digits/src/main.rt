@@ -7,40 +7,39 @@
 
 mod page;
 
+use inputs::{argument, has_argument};
 use page::{PAGE_LENGTH, page_for};
+use std::io;
+use std::rt::Env;
 
-const STDOUT: i32 = 1;
+// No word that names a set is longer.
+const WORD_LENGTH: usize = 4096;
 
-const STDERR: i32 = 2;
-
-// The page for argument i. Where it cannot be written, says so on standard error.
-fn print_page(i: usize) -> bool {
-    let mut word = io::buffer();
-    let length = os::arg(i, &mut word);
+// The page for argument i; whether there is such an argument.
+fn print_page(rt: &(impl Env + Print), i: usize) -> io::Result<bool> {
+    let mut word = [0u8; WORD_LENGTH];
+    let Some(length) = argument(rt, i, &mut word) else {
+        return Ok(false);
+    };
     let mut out = [0u8; PAGE_LENGTH];
     let n = page_for(&word[..length], &mut out);
-    if io::write_all(STDOUT, &out[..n]) {
-        return true;
-    }
-    os::fail(b"write");
-    false
+    rt.write_all(&out[..n])?;
+    Ok(true)
 }
 
 // The pages for the arguments, one after another, until a write fails.
-fn print_pages(count: usize) {
-    let mut i = 1;
-    let mut good = true;
-    while i < count && good {
-        good = print_page(i);
-        i += 1;
+fn print_pages(rt: &(impl Env + Print)) -> io::Result<()> {
+    for i in 1..usize::MAX {
+        if !print_page(rt, i)? {
+            break;
+        }
     }
+    Ok(())
 }
 
-fn main() {
-    let count = os::arg_count();
-    if count < 2 {
-        io::write_all(STDERR, b"usage: top_digits SET, with SET 0 or 1\n");
-        return;
+fn main(rt: HostRuntime) -> io::Result<()> {
+    if has_argument(&rt, 1) {
+        return print_pages(&rt);
     }
-    print_pages(count);
+    eprintln!(rt; "usage: top_digits SET, with SET 0 or 1")
 }

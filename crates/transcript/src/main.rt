@@ -10,12 +10,15 @@
 mod lines;
 mod whole;
 
+use inputs::{Named, has_argument, open_argument};
+use std::io;
+use std::io::{Read, Write};
+use std::rt::{Env, Files};
 use text::{NumbersRead, end_numbers, feed_numbers, start_numbers};
 use whole::{MOST_NUMBERS, OUT_LENGTH, text_for};
 
-const STDIN: i32 = 0;
-
-const STDOUT: i32 = 1;
+// The most bytes that are read at once.
+const PART: usize = 4096;
 
 // What one read left: go on, or the input has ended.
 #[derive(Clone, Copy)]
@@ -25,69 +28,67 @@ struct InputRead {
 }
 
 // Reads once, and takes in the bytes that came. A read that fails counts as the input's end.
-fn read_some(fd: i32, read: NumbersRead, numbers: &mut [u32]) -> InputRead {
-    let mut chunk = io::buffer();
-    let got = libc::read(fd, &mut chunk);
-    if got <= 0 {
+fn read_some<R: Read>(input: &mut R, read: NumbersRead, numbers: &mut [u32]) -> InputRead {
+    let mut chunk = [0u8; PART];
+    let Ok(n) = input.read(&mut chunk) else {
+        return InputRead { more: false, read };
+    };
+    if n == 0 {
         return InputRead { more: false, read };
     }
-    let n = io::count(got, &chunk);
     InputRead {
         more: true,
         read: feed_numbers(read, &chunk[..n], numbers),
     }
 }
 
-// Reads to the end of the input. Nothing says that an input ends, so the loop counts down from a number that no run uses up.
-fn read_all(fd: i32, numbers: &mut [u32]) -> NumbersRead {
-    let mut input = InputRead {
+// Reads to the end of the input. Nothing says that an input ends, so the reads are counted, up to a number that no run uses up.
+fn read_all<R: Read>(input: &mut R, numbers: &mut [u32]) -> NumbersRead {
+    let mut here = InputRead {
         more: true,
         read: start_numbers(),
     };
-    let mut reads = u64::MAX;
-    while reads > 0 && input.more {
-        input = read_some(fd, input.read, numbers);
-        reads -= 1;
+    for _ in 0..u64::MAX {
+        if !here.more {
+            break;
+        }
+        here = read_some(input, here.read, numbers);
     }
-    end_numbers(input.read, numbers.len())
+    end_numbers(here.read, numbers.len())
 }
 
 // Reads one input, and writes the text for it.
-fn transcribe(fd: i32) {
+fn transcribe<R: Read, W: Write>(input: &mut R, output: &mut W) -> io::Result<()> {
     let mut numbers = [0u32; MOST_NUMBERS];
-    let read = read_all(fd, &mut numbers);
+    let read = read_all(input, &mut numbers);
     let mut out = [0u8; OUT_LENGTH];
     let length = text_for(read, &numbers, &mut out);
-    io::write_all(STDOUT, &out[..length]);
+    output.write_all(&out[..length])
 }
 
-// The input in the file that argument i names.
-fn transcribe_file(i: usize) {
-    let mut path = io::buffer();
-    let length = os::arg(i, &mut path);
-    let fd = os::open_read(&path[..length]);
-    if fd < 0 {
-        os::fail(&path[..length]);
-        return;
+// The input in the file that argument i names; whether there is such an argument. A file that cannot be opened is passed over.
+fn transcribe_file<R: Env + Files + Print + Eprint>(rt: &R, i: usize) -> io::Result<bool> {
+    match open_argument(rt, i) {
+        Named::Nothing => return Ok(false),
+        Named::Refused => {}
+        Named::Open(mut file) => transcribe(&mut file, &mut io::writer(rt))?,
     }
-    transcribe(fd);
-    libc::close(fd);
+    Ok(true)
 }
 
-// The inputs in the files that the arguments name, one after another.
-fn transcribe_files(count: usize) {
-    let mut i = 1;
-    while i < count {
-        transcribe_file(i);
-        i += 1;
+// The inputs in the files that the arguments name, one after another, until a write fails.
+fn transcribe_files<R: Env + Files + Print + Eprint>(rt: &R) -> io::Result<()> {
+    for i in 1..usize::MAX {
+        if !transcribe_file(rt, i)? {
+            break;
+        }
     }
+    Ok(())
 }
 
-fn main() {
-    let count = os::arg_count();
-    if count < 2 {
-        transcribe(STDIN);
-        return;
+fn main(rt: HostRuntime) -> io::Result<()> {
+    if has_argument(&rt, 1) {
+        return transcribe_files(&rt);
     }
-    transcribe_files(count);
+    transcribe(&mut rt.reader(), &mut io::writer(&rt))
 }
