@@ -70,10 +70,8 @@ fn run_round(sides: Sides, work0: &mut [u32], work1: &mut [u32], bytes: &mut [u8
 fn run_rounds(sides: Sides, work0: &mut [u32], work1: &mut [u32]) -> Sides {
     let mut bytes = [0u8; MOST_BYTES];
     let mut here = sides;
-    let mut round = 0;
-    while round < ROUNDS {
+    for _ in 0..ROUNDS {
         here = run_round(here, work0, work1, &mut bytes);
-        round += 1;
     }
     here
 }
