@@ -12,7 +12,7 @@ use Rattle.settings.specs.declared.Shape.{Shape}
 use Rattle.settings.specs.Settings.{params_of}
 use Rattle.settings.specs.Questions.{ask_shape, shape_ok}
 use Rattle.settings.specs.Sizes.{key_count, width, draw_length}
-use Rattle.settings.proofs.Ready.{shape-pass, shape_ok_lem}
+use Rattle.settings.proofs.Ready.{shape_ok_lem}
 use Rattle.generator.specs.Step.{stepped, outputs}
 use Rattle.generator.specs.Calls.{Drew, draw_no, draw_call}
 use Rattle.generator.proofs.Steps.{stepped_zero, outputs_zero}

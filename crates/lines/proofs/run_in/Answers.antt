@@ -30,7 +30,12 @@ returns c =
     let eight : length a.request.numbers ≡ 8 = search (rules, c.well_formed) in
     let some : a.request.count ≤ length a.request.numbers = omega (arith, eight, (request_ready a.serial a.request p.request_value).shape.most) in
     let fits : a.serial < 4294967296 = omega (arith, c.ranges) in
-    let filled = c.fill_run-after.ensures in record { line_value = c.answered_by.ensures
+    let filled = c.fill_run-after.ensures in record {
+      line_value = c.answered_by.ensures
           ∙ run-gives a.state a.serial a.request p.request_value fits some a.work0.now a.work1.now p.room_for_run.server_work p.room_for_run.phone_work _
           (c.execute-end.ensures.server_is
-          ∙ ap₂ (λ (t : RunTerms) (n : List ℕ). (executed t n a.work0.now a.work1.now).parties.observer.side) c.terms_of-terms.ensures filled.numbers_after); state_value = filled.value; numbers_unchanged = cleared_again a.state a.request some _ filled.numbers_after a.numbers.now _ p.numbers_value c.clear_run.ensures; room_for_run_2 = same-room _ _ _ _ _ _ _ _ _ _ p.room_for_run (search rules) (search rules) (search rules) (search rules) (search rules) }
+          ∙ ap₂ (λ (t : RunTerms) (n : List ℕ). (executed t n a.work0.now a.work1.now).parties.observer.side) c.terms_of-terms.ensures filled.numbers_after);
+      state_value = filled.value;
+      numbers_unchanged = cleared_again a.state a.request some _ filled.numbers_after a.numbers.now _ p.numbers_value c.clear_run.ensures;
+      room_for_run_2 = same-room _ _ _ _ _ _ _ _ _ _ p.room_for_run (search rules) (search rules) (search rules) (search rules) (search rules);
+    }

@@ -44,7 +44,7 @@ run_in-requires c =
     record {
       request_value = p.request_value;
       numbers_value = ap (take (2 * (a.request.count * width) + draw-length.result)) p.lent_to_line.zeros
-            ∙ front-zeros (2 * (a.request.count * width) + draw-length.result) most_numbers (omega (arith, ready.shape.most, draw-length.ensures.1))
-            ∙ ap (λ (n : ℕ). replicate n 0) size;
+          ∙ front-zeros (2 * (a.request.count * width) + draw-length.result) most_numbers (omega (arith, ready.shape.most, draw-length.ensures.1))
+          ∙ ap (λ (n : ℕ). replicate n 0) size;
       room_for_run = p.lent_to_line.room;
     }

@@ -9,7 +9,6 @@ use Rattle.settings.specs.Settings.{params_in}
 use Rattle.settings.proofs.Sizes.{openings-most}
 use Rattle.settings.specs.Sizes.{key_count, most_openings}
 use Rattle.lists.proofs.Lists.{get_d_zeros}
-use borrow.Author.Tests.{not-false}
 use mathlib.Core.Path.{◌≡◌, refl, sym, ap, ap₂, ◌∙◌}
 use borrow.Author.Rules.{rules}
 use Rattle.side.proofs.take.Goals as goal
