@@ -4,15 +4,12 @@ use Rattle.std.specs.Prelude.{ℕ, ◌<◌, ◌≡◌, ◌≢◌, Bool, true, fa
 use Rattle.settings.specs.declared.Shape.{Shape}
 use Rattle.settings.specs.declared.Settings.{Settings}
 use Rattle.rounding.specs.declared.Decomposition.{Decomposition}
-use Rattle.rounding.specs.declared.Decomposition.TheVariants as Decomposition
 use Rattle.rounding.specs.declared.Verdict.{Verdict}
-use Rattle.rounding.specs.declared.Verdict.TheVariants as Verdict
 use Rattle.rounding.specs.Calls.{parts_call, verdict_call}
 use Rattle.message.specs.Message.{form_no}
 use Rattle.dealer.specs.Deal.{deal_call}
 use Rattle.stock.specs.Stock.{choose_no, chosen}
 use Rattle.generator.specs.declared.Seeded.{Seeded}
-use Rattle.generator.specs.declared.Seeded.TheVariants as Seeded
 use Rattle.generator.specs.Calls.{seed_call, draw_call}
 use Rattle.ring.specs.Calls.{ring_call, transform_call, transformed_call}
 use Rattle.state.specs.declared.Side.{Side}
