@@ -116,7 +116,7 @@ fn put_answer_line(
     res: AnswerResult,
     numbers: &[u32],
 ) -> usize
-    ensures* { λ r. ⌜ text_at out.new r ≡ puts (text_at out.old at) (answer_or_refusal party (record { result = res; out = numbers.now })) ⌝ }
+    ensures { text_at out.new result ≡ puts (text_at out.old at) (answer_or_refusal party (record { result = res; out = numbers.now })) }
 {
     if res.refused != 0 {
         let refusal = Refusal {

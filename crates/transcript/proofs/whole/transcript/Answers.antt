@@ -1,0 +1,23 @@
+-- `transcript::whole::transcript` meets its contract. Assumes nothing.
+use mathlib.Core.Path.{refl}
+use native.Mathlib.Omega.{arith}
+use Rattle.transcript.specs.Transcript.{malformed_line}
+use Rattle.transcript.proofs.Texts.{in-front, too_few, text_is, text_fits}
+use Rattle.transcript.proofs.whole.transcript.Goals as goal
+
+pub returns-then-numbers-lt-HEAD_LENGTH : goal.returns-then-numbers-lt-HEAD_LENGTH
+returns-then-numbers-lt-HEAD_LENGTH c =
+    let a = c.args in
+    let few = too_few a.numbers.now (omega arith) in
+    rw (← few) (in-front a.out.now malformed_line _ _ c.put_malformed.ensures (omega arith) c.requires)
+
+pub returns : goal.returns
+returns c =
+    let a = c.args in
+    let enough = c.if-numbers-lt-HEAD_LENGTH.false in
+    let room = c.requires in
+    let terms = c.run_terms_in-terms in
+    let x = c.execute-x in
+    let is = text_is a.numbers.now enough terms.result terms.ensures x.result _ _ x.ensures in
+    let fits = text_fits a.numbers.now enough terms.result terms.ensures x.result _ _ x.ensures refl in
+    rw (← is) (in-front a.out.now _ _ _ c.put_run.ensures fits room)
