@@ -1,6 +1,6 @@
 -- No output line is longer than one with the largest draw.
 use Prim.Native.Nat.{ℕ, zero, suc, ◌+◌, ◌*◌, ◌/◌, ◌≤◌, ◌<◌}
-use mathlib.Core.Path.{◌≡◌, refl, sym, ap, ◌∙◌}
+use mathlib.Core.Path.{◌≡◌, refl}
 use mathlib.Core.Bool.{Bool, true, false, cond}
 use mathlib.Core.List.{List, [], ◌∷◌, ◌++◌}
 use native.Mathlib.Omega.{arith}
@@ -8,7 +8,7 @@ use native.Mathlib.Decide.{dec_lt}
 use lib.Dec.{eqb, ltb, lit<}
 use lib.IntN.{ℤ, pos, negsuc}
 use lib.ListN.{length, get_or, take, drop, replicate, length-append, length-replicate, get_or-eq_default}
-use lib.Seq.{get_or-take, get_or-drop}
+use lib.Seq.{get_or-drop}
 use mir.Syntax.{w32}
 use mir.Val.{Fits}
 use borrow.Author.Tests.{eqb-true, eqb-false}
@@ -19,25 +19,20 @@ use Rattle.lists.proofs.Lists.{length-list_from, get_d_list_to, get_d_zeros}
 use Rattle.lists.proofs.Every.{below_at}
 use Rattle.field.specs.Field.{q}
 use Rattle.settings.specs.declared.Shape.{Shape}
-use Rattle.settings.specs.Settings.{params_of}
-use Rattle.settings.specs.Sizes.{key_count, width, shared, draw_size}
+use Rattle.settings.specs.Sizes.{key_count, width, draw_size}
 use Rattle.settings.proofs.Sizes.{shared-most}
 use Rattle.settings.proofs.Ready.{shape-ready}
 use Rattle.rounding.specs.declared.Decomposition.{Decomposition}
-use Rattle.rounding.specs.declared.Decomposition.TheVariants as Decomposition
 use Rattle.rounding.specs.declared.Verdict.{Verdict}
-use Rattle.rounding.specs.declared.Verdict.TheVariants as Verdict
 use Rattle.rounding.specs.Calls.{parts_call, verdict_call}
 use Rattle.stock.specs.Stock.{stocked_size, books_of, both_stocks, is_least, first_of, best_of, ask_stocks, choose_no, chosen}
 use Rattle.stock.proofs.Meaning.{choice}
 use Rattle.generator.specs.declared.Seeded.{Seeded}
-use Rattle.generator.specs.declared.Seeded.TheVariants as Seeded
 use Rattle.generator.specs.Step.{outputs}
 use Rattle.generator.specs.Calls.{seed_call, draw_no, Drew, draw_call}
 use Rattle.generator.proofs.Steps.{inside, outputs_length, outputs_below}
 use Rattle.generator.proofs.Door.{refusal, drawn-all}
 use Rattle.desk.specs.declared.words.CallName.{CallName}
-use Rattle.desk.specs.declared.words.CallName.TheVariants as CallName
 use Rattle.desk.specs.Desk.{refusal_text, malformed_text, signed_text, high_low_text, decomposed_text, verdict_text, part_text, choose_text, drawn_text, draw_text, parts_result, verdict_result, stocks_text, choose_result, draw_result, call_result, most_draw, longest_result}
 use Rattle.desk.proofs.Draws.{draw-most}
 

@@ -1,8 +1,8 @@
 -- A whole line: too long, without numbers, with a word that is none, or called.
 use Prim.Native.Nat.{ℕ, suc, ◌+◌, ◌-◌, ◌≤◌, ◌<◌}
-use mathlib.Core.Path.{◌≡◌, refl, sym, ap, ◌∙◌}
+use mathlib.Core.Path.{◌≡◌, refl, ap}
 use mathlib.Core.Bool.{true, false, not}
-use mathlib.Core.List.{List, [], ◌∷◌, ◌++◌}
+use mathlib.Core.List.{List, [], ◌∷◌}
 use native.Mathlib.Numerals.{add-one}
 use native.Mathlib.Omega.{arith}
 use borrow.Author.Tests.{lt-ltb, le-ltb, le-leb, not-true, not-false}
@@ -12,10 +12,9 @@ use Rattle.lists.specs.Lists.{every, length_before}
 use Rattle.syntax.specs.Line.{words, all_good, values_of}
 use Rattle.syntax.proofs.Words.{rest, rest_end, words_first}
 use Rattle.desk.specs.declared.words.CallName.{CallName}
-use Rattle.desk.specs.declared.words.CallName.TheVariants as CallName
 use Rattle.desk.specs.declared.words.WordsRead.{WordsRead}
 use Rattle.desk.specs.Numbers.{ReadsNumbers}
-use Rattle.desk.specs.Desk.{call_named, fields_of, malformed_text, parts_result, verdict_result, choose_result, draw_result, call_result, longest_line, words_result, line_result}
+use Rattle.desk.specs.Desk.{call_named, malformed_text, parts_result, verdict_result, choose_result, draw_result, call_result, longest_line, words_result, line_result}
 
 pub line_long : (line : List ℕ) → longest_line < length line → malformed_text ≡ line_result line
 unfolding line_result

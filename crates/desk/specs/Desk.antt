@@ -1,6 +1,6 @@
 -- "Lines on standard input, one call each, decimal words with one blank between, one output line for each": the output line for an
 -- input line, the call that its first word names, made with the numbers behind it.
-use Rattle.std.specs.Prelude.{ℕ, suc, ◌+◌, ◌*◌, Bool, true, false, cond, List, [], ◌∷◌, ◌++◌, map, eqb, leb, ltb, ℤ, pos, negsuc, length, get_or, take, drop, replicate}
+use Rattle.std.specs.Prelude.{ℕ, suc, ◌+◌, ◌*◌, Bool, true, false, cond, List, [], ◌∷◌, ◌++◌, map, eqb, ltb, ℤ, pos, negsuc, length, get_or, take, drop, replicate}
 use Rattle.text.specs.Decimal.{number_in}
 use Rattle.text.specs.Text.{decimal, numbers_text}
 use Rattle.text.specs.declared.ReadNumber.{ReadNumber}
@@ -8,17 +8,13 @@ use Rattle.settings.specs.declared.Shape.{Shape}
 use Rattle.settings.specs.Sizes.{key_count, width, draw_size}
 use Rattle.rounding.specs.declared.HighLow.{HighLow}
 use Rattle.rounding.specs.declared.Decomposition.{Decomposition}
-use Rattle.rounding.specs.declared.Decomposition.TheVariants as Decomposition
 use Rattle.rounding.specs.declared.Verdict.{Verdict}
-use Rattle.rounding.specs.declared.Verdict.TheVariants as Verdict
 use Rattle.rounding.specs.Calls.{parts_call, verdict_call}
 use Rattle.stock.specs.Stock.{choose_no, chosen}
 use Rattle.generator.specs.declared.Seeded.{Seeded}
-use Rattle.generator.specs.declared.Seeded.TheVariants as Seeded
 use Rattle.generator.specs.Calls.{seed_call, Drew, draw_call}
 use Rattle.syntax.specs.Line.{words, all_good, values_of}
 use Rattle.desk.specs.declared.words.CallName.{CallName}
-use Rattle.desk.specs.declared.words.CallName.TheVariants as CallName
 use Rattle.stream.specs.Theorems.{Handler, carries_nothing}
 
 -- ---- Words

@@ -9,7 +9,7 @@ invariant-loop-at g l =
     record {
       in_range : l.at ≤ length l.bytes;
       same : flushed (all_calls desk_handler (standing l.here l.kept [] 0 tt) (drop l.at l.bytes))
-          ≡ flushed (all_calls desk_handler (standing l.initial.here l.initial.kept [] 0 tt) l.bytes)
+          ≡ flushed (all_calls desk_handler (standing l.initial.here l.initial.kept [] 0 tt) l.bytes);
     }
 
 abbrev pub decreases-loop-at : goal.decreases-loop-at
