@@ -1,16 +1,16 @@
 -- The laws of whole inputs: every line is answered, and the generator's state is that which its draws leave.
-use Prim.Native.Nat.{ℕ, zero, suc, ◌+◌, ◌<◌, ◌^◌}
+use Prim.Native.Nat.{ℕ, suc, ◌<◌}
 use mathlib.Core.Path.{◌≡◌, refl, sym, ap, ◌∙◌}
-use mathlib.Core.List.{List, [], ◌∷◌, ◌++◌}
+use mathlib.Core.List.{List, [], ◌∷◌}
 use native.Mathlib.Omega.{arith}
-use lib.ListN.{length, take, replicate, length-replicate}
+use lib.ListN.{length, replicate, length-replicate}
 use borrow.Author.Tests.{ne_eqb}
 use Rattle.settings.specs.Sizes.{key_count, work_length}
 use Rattle.execution.specs.Held.{run_bytes, book_length}
 use Rattle.generator.specs.Step.{stepped}
 use Rattle.generator.proofs.Steps.{stepped-none, stepped_add, stepped_zero, never_zero}
 use Rattle.stream.specs.Input.{lines_of, carried_from, carried_over}
-use Rattle.stream.specs.Theorems.{Outcome, LooksAt}
+use Rattle.stream.specs.Theorems.{LooksAt}
 use Rattle.stream.proofs.Parts.{writes_the_output}
 use Rattle.lines.specs.Plain.{line_draws, line_state}
 use Rattle.lines.specs.Run.{most_numbers, LentToLine}

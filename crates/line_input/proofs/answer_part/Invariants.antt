@@ -11,7 +11,7 @@ invariant-loop-at g l =
       in_range : l.at ≤ length l.bytes;
       lent : LentToLine l.numbers l.book0 l.book1 l.work0 l.work1 l.messages;
       same : flushed (all_calls line_handler (standing l.here l.kept [] 0 l.after) (drop l.at l.bytes))
-          ≡ flushed (all_calls line_handler (standing l.initial.here l.initial.kept [] 0 l.initial.after) l.bytes)
+          ≡ flushed (all_calls line_handler (standing l.initial.here l.initial.kept [] 0 l.initial.after) l.bytes);
     }
 
 abbrev pub decreases-loop-at : goal.decreases-loop-at
