@@ -4,7 +4,6 @@ use mathlib.Core.List.{List, ◌++◌}
 use Prim.Native.Nat.{ℕ}
 use native.Mathlib.Omega.{arith}
 use Rattle.generator.specs.declared.Seeded.{Seeded}
-use Rattle.generator.specs.declared.Seeded.TheVariants as Seeded
 use Rattle.stream.specs.Input.{output_of}
 use Rattle.stream.specs.Theorems.{concatenated}
 use Rattle.lines.specs.Plain.{line_answer}
