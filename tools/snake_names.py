@@ -8,11 +8,13 @@ usage: tools/snake_names.py [--list]
 
 import os
 import re
+import subprocess
 import sys
 
 TOKEN = re.compile(r'[^\s(){}.;,@"«»:`]+')
 DECLARED = re.compile(r"^( *)(?:abbrev |unfoldable |pub |infix[lr]? \d+ )*([^\s(){}.;,@\"«»:]+) :(?= )")
-STD = "/opt/rattle/rattle"
+# The kit's library lies beside the page that `rt doc` names.
+STD = os.path.join(os.path.dirname(subprocess.run(["rt", "doc"], capture_output=True, text=True).stdout.strip()), "rattle")
 # Lemmas and local names that a definition's new name would meet.
 GIVEN_WAY = {name: name + "_lem" for name in ("in_order", "known_results", "step_counts", "take_step")} | {"known-results": "known_results_lem"}
 # Definitions that share their new name with a field alone: a projection and a record's text tell them apart.
