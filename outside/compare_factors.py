@@ -1,6 +1,6 @@
 #!/usr/bin/env python3
 """compare_factors.py PROGRAM: the list that the program `factors` writes is the list of FIPS 204's appendix B as another implementation
-has it (fips204_zetas.txt beside this file, entries 1 to 255; entry 0 is 1), and stands entry for entry in crate ring as its constant FACTORS.
+has it (fips204_zetas.txt beside this file, entries 1 to 255; entry 0 is 1), and stands line for line in crate ring as its constant FACTORS.
 Exit code 1 where anything differs."""
 import pathlib
 import re
@@ -42,11 +42,11 @@ def zetas():
 
 
 def in_source():
-    """The entries of the constant."""
+    """The lines of the constant."""
     found = re.findall(r'^const FACTORS: \[u32; 256\] = \[\n(.*?)^\];$', SOURCE.read_text(encoding='utf-8'), re.M | re.S)
     if len(found) != 1:
         fail('%s has the constant FACTORS %d times' % (SOURCE, len(found)))
-    return [int(number) for number in re.findall('[0-9]+', found[0])]
+    return found[0].splitlines()
 
 
 def compare(name, first, ours, theirs):
@@ -67,8 +67,8 @@ def main(args):
     if numbers[0] != 1:
         fail('entry 0 is %d, not 1' % numbers[0])
     compare(ZETAS.name, 1, numbers[1:], zetas())
-    compare('the constant FACTORS', 0, numbers, in_source())
-    print('%d factors as written by the program: entry 0 is 1, entries 1 to 255 equal those of %s, and all equal those of FACTORS in crate ring'
+    compare('the constant FACTORS', 0, lines, in_source())
+    print('%d factors as written by the program: entry 0 is 1, entries 1 to 255 equal those of %s, and all lines equal those of FACTORS in crate ring'
           % (SIZE, ZETAS.name))
 
 
