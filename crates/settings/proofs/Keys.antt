@@ -1,15 +1,29 @@
--- A number for each column of a shared number.
-use mathlib.Core.Path.{◌≡◌, ◌∙◌}
-use mathlib.Core.List.{List, ◌∷◌, ◌++◌}
-use Prim.Native.Nat.{ℕ, suc, ◌+◌, ◌*◌}
+-- The keys of a side: the test of all of them, and a number for each column.
+use mathlib.Core.Path.{◌≡◌, refl, sym, ◌∙◌}
+use mathlib.Core.Bool.{Bool, true, false}
+use mathlib.Core.List.{List, [], ◌∷◌, ◌++◌}
+use Prim.Native.Nat.{ℕ, suc, ◌+◌, ◌≤◌, ◌<◌}
 use native.Mathlib.Omega.{arith}
-use lib.ListN.{length, get_or, replicate, length-append, length-replicate}
-use Rattle.lists.specs.Lists.{fill}
-use Rattle.lists.proofs.Fill.{behind_first}
+use Rattle.std.proofs.lemmas.List.{append-nil}
+use borrow.Rule.Slice.PartMut.{post_of}
+use lib.ListN.{length, get_or, take, drop, length-append, length-drop, drop_of_length-le}
+use Rattle.std.proofs.Math.Seq.{take-append_seam, drop-append_seam}
+use Rattle.std.specs.Prelude.{IsTrue, EachIndex, ◌↔◌}
+use Rattle.lists.specs.Lists.{every}
+use Rattle.lists.proofs.Every.{every-all, every-at}
 
--- the columns of k keys a side
-pub columns_are : (k x : ℕ) (xs ys s : List ℕ) → length xs ≡ k → length ys ≡ k → s ≡ fill (replicate (1 + 2 * k) x) 1 (2 * k) (λ (i : ℕ). get_or (xs ++ ys) i 0) → s ≡ x ∷ xs ++ ys
-columns_are k x xs ys s h l e =
-    let m : length (xs ++ ys) ≡ 2 * k = simp length-append (omega arith) in
-    let n : 1 + 2 * k ≡ suc (2 * k) = omega arith in
-    rw (n, ← m) at e ∙ behind_first x _ (xs ++ ys) (length-replicate _ x)
+-- what an iterator's `all` finds of a list is the test of every member
+pub every-is : (f : ℕ → Bool) (xs : List ℕ) (b : Bool) → (IsTrue b ↔ EachIndex xs (λ k. f (get_or xs k 0) ≡ true)) → b ≡ every f xs
+every-is f xs true e = sym (every-all f xs 0 (λ j h. e.0 refl j h))
+every-is f xs false e = by (every f xs) refl
+  where
+    by : (v : Bool) → every f xs ≡ v → false ≡ v
+    by true h = e.1 (λ k l. every-at f xs k 0 h l)
+    by false h = refl
+
+-- a number in front, and two lists of k numbers copied behind it
+pub columns_are : (k x : ℕ) (xs ys us vs ws : List ℕ) → us ≡ xs → vs ≡ ys → length xs ≡ k → length ws ≡ k
+    → (x ∷ (take k (us ++ ws) ++ (vs ++ post_of (suc k) k (x ∷ (us ++ ws))))) ≡ x ∷ xs ++ ys
+columns_are k x xs ys us vs ws e f h l = 
+    let none : drop (length xs) ws ≡ [] = drop_of_length-le ws {i = length xs} (omega arith) in
+    rw (e, f) (rw (← h) (rw (take-append_seam xs ws, drop-append_seam xs ws, none, append-nil ys) refl))

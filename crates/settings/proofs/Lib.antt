@@ -1,4 +1,5 @@
 -- Laws of the constants, of the questions, of the order of a run and of the sizes.
+pub mod Refused
 pub mod Sets
 pub mod Ready
 pub mod Keys

@@ -10,6 +10,9 @@ use Rattle.lists.specs.Answers.{ask}
 use Rattle.lists.proofs.Questions.{passed, both_yes}
 use Rattle.settings.specs.declared.Shape.{Shape}
 use Rattle.settings.specs.declared.Settings.{Settings}
+use Rattle.settings.specs.declared.Refusal.{Refusal}
+use Rattle.settings.specs.Refusals.{number_of}
+use Rattle.settings.proofs.Refused.{number_nonzero}
 use Rattle.settings.specs.Questions.{is_bit, count_ok, bound_ok, shape_ok, settings_ok, ask_shape, ask_settings, ShapeReady, Ready}
 
 -- questions 2 and 3, answered yes
@@ -73,7 +76,14 @@ module _ (a : Shape) where
   unfolding ask_shape
   shape_refuse rest = two_refuse (is_bit a.set && is_bit a.kind) (count_ok a.n) rest
 
-  -- as a function that has asked them goes on
+  -- as a function that has asked them goes on, or hands on the refusal
+  pub shape_yes : (x rest : ℕ) → 0 ≡ ask_shape a 0 → x ≡ rest → x ≡ ask_shape a rest
+  shape_yes x rest e h = h ∙ sym (shape-pass rest (sym e))
+
+  pub shape_refused : (e : Refusal) (rest : ℕ) → number_of e ≡ ask_shape a 0 → number_of e ≡ ask_shape a rest
+  shape_refused e rest h = h ∙ sym (shape_refuse rest (λ z. number_nonzero e (h ∙ z)))
+
+  -- the same of any number
   pub shape_stop : (r rest : ℕ) → r ≡ ask_shape a 0 → r ≢ 0 → r ≡ ask_shape a rest
   shape_stop r rest e h = e ∙ sym (shape_refuse rest (λ z. h (e ∙ z)))
 
@@ -130,6 +140,12 @@ module _ (number : ℕ) (s : Settings) where
       by false e b f = refl
       by true e false f = refl
       by true e true f = shape_refuse s.shape rest (λ z. n (rw (e, f) z))
+
+  pub settings_yes : (x rest : ℕ) → 0 ≡ ask_settings number s 0 → x ≡ rest → x ≡ ask_settings number s rest
+  settings_yes x rest e h = h ∙ sym (settings-pass rest (sym e))
+
+  pub settings_refused : (e : Refusal) (rest : ℕ) → number_of e ≡ ask_settings number s 0 → number_of e ≡ ask_settings number s rest
+  settings_refused e rest h = h ∙ sym (settings_refuse rest (λ z. number_nonzero e (h ∙ z)))
 
   pub settings_stop : (r rest : ℕ) → r ≡ ask_settings number s 0 → r ≢ 0 → r ≡ ask_settings number s rest
   settings_stop r rest e h = e ∙ sym (settings_refuse rest (λ z. h (e ∙ z)))

@@ -7,7 +7,8 @@ ghost use Rattle.std.specs.Prelude.{◌≡◌, ◌∷◌, ◌++◌, ◌+◌, ◌
 ghost use Rattle.field.specs.Sums.{sum_to};
 ghost use Rattle.settings.specs.Sets.{scale_of, base, top_digits};
 ghost use Rattle.settings.specs.Settings.{params_of};
-ghost use Rattle.settings.specs.Questions.{bound_ok, key_ok, keys_ok, ask_shape, ask_settings, shape_ok, ShapeReady};
+ghost use Rattle.settings.specs.Questions.{bound_ok, key_ok, keys_ok, ask_shape, ask_settings, shape_ok};
+ghost use Rattle.settings.specs.Refusals.{number_of, refused};
 ghost use Rattle.settings.specs.Schedule.{rounds, steps, round_after, sends_after, taken_by, steps_in};
 ghost use Rattle.settings.specs.Sizes.{key_count, width, most_openings, most_fields, openings, field_count, message_bits, bytes_for, message_length, stride, shared};
 ghost use Rattle.settings.specs.Sizes.{draw_length, answer_places, message_size, book_size, draw_size, input_size, answer_size};
@@ -31,39 +32,54 @@ pub struct Settings {
     pub bound: u32,
 }
 
-// ---- Refusal numbers, by the questions
+// ---- Refusals
 
-pub const SIDE_SET_OR_KIND: u32 = 1;
+// What a call refuses by: the first question, in its order, whose answer is no.
+#[derive(Clone, Copy, Debug, PartialEq, Eq)]
+pub enum Refusal {
+    SideSetOrKind,
+    Count,
+    Bound,
+    Key,
+    Length,
+    NotBelowQ,
+    Serial,
+    NotDue,
+    NoRoom,
+    MessageLength,
+    Header,
+    Fields,
+    FailedCheck,
+    NoBook,
+    OutOfRange,
+    Seed,
+}
 
-pub const COUNT: u32 = 2;
-
-pub const BOUND: u32 = 3;
-
-pub const KEY: u32 = 4;
-
-pub const LENGTH: u32 = 5;
-
-pub const NOT_BELOW_Q: u32 = 6;
-
-pub const SERIAL: u32 = 7;
-
-pub const NOT_DUE: u32 = 8;
-
-pub const NO_ROOM: u32 = 9;
-
-pub const MESSAGE_LENGTH: u32 = 10;
-
-pub const HEADER: u32 = 11;
-
-pub const FIELDS: u32 = 12;
-
-pub const FAILED_CHECK: u32 = 13;
-
-pub const NO_BOOK: u32 = 14;
-
-pub const OUT_OF_RANGE: u32 = 15;
-
-pub const SEED: u32 = 16;
+impl Refusal {
+    // The number of the question.
+    pub fn number(self) -> u32
+        ensures { (result ≡ number_of self) × (1 ≤ result) × (result ≤ 16) }
+    {
+        match self {
+            Refusal::SideSetOrKind => 1,
+            Refusal::Count => 2,
+            Refusal::Bound => 3,
+            Refusal::Key => 4,
+            Refusal::Length => 5,
+            Refusal::NotBelowQ => 6,
+            Refusal::Serial => 7,
+            Refusal::NotDue => 8,
+            Refusal::NoRoom => 9,
+            Refusal::MessageLength => 10,
+            Refusal::Header => 11,
+            Refusal::Fields => 12,
+            Refusal::FailedCheck => 13,
+            Refusal::NoBook => 14,
+            Refusal::OutOfRange => 15,
+            Refusal::Seed => 16,
+        }
+    }
+}
 
 // ---- The number of keys a side, and what follows from it alone
 
@@ -281,96 +297,60 @@ pub fn bound_ok(kind: u32, bound: u32) -> bool
     if kind == 0 {
         return bound == 0;
     }
-    if bound < 1 {
-        return false;
-    }
-    bound <= 4190208
+    1 <= bound && bound <= 4190208
 }
 
 // Question 4, of one key.
 fn key_ok(key: u32) -> bool
     ensures { result ≡ key_ok key }
 {
-    if key < 1 {
-        return false;
-    }
-    key < Q
+    1 <= key && key < Q
 }
 
 // Question 4, of a side's keys.
 pub fn keys_ok(keys: [u32; KEYS]) -> bool
     ensures { result ≡ keys_ok keys }
 {
-    let mut i = 0;
-    while i < KEYS {
-        if !key_ok(keys[i]) {
-            return false;
-        }
-        i += 1;
-    }
-    true
+    keys.iter().all(|key| key_ok(*key))
 }
 
-// Questions 1 and 2: the first no, or 0.
-pub fn shape_no(shape: Shape) -> u32
-    ensures { result ≡ ask_shape shape 0 }
+// Questions 1 and 2.
+pub fn ask_shape(shape: Shape) -> Result<(), Refusal>
+    ensures { refused result ≡ ask_shape shape 0 }
 {
-    if shape.set >= 2 {
-        return SIDE_SET_OR_KIND;
+    if shape.set >= 2 || shape.kind >= 2 {
+        return Err(Refusal::SideSetOrKind);
     }
-    if shape.kind >= 2 {
-        return SIDE_SET_OR_KIND;
+    if shape.n < 1 || shape.n > 8 {
+        return Err(Refusal::Count);
     }
-    if shape.n < 1 {
-        return COUNT;
-    }
-    if shape.n > 8 {
-        return COUNT;
-    }
-    0
+    Ok(())
 }
 
-// Questions 1 to 3 of a side's number and its settings: the first no, or 0.
-pub fn settings_no(number: u32, settings: Settings) -> u32
-    ensures { result ≡ ask_settings number settings 0 }
+// Questions 1 to 3 of a side's number and its settings.
+pub fn ask_settings(number: u32, settings: Settings) -> Result<(), Refusal>
+    ensures { refused result ≡ ask_settings number settings 0 }
 {
     if number >= 2 {
-        return SIDE_SET_OR_KIND;
+        return Err(Refusal::SideSetOrKind);
     }
     let shape = settings.shape;
-    let no = shape_no(shape);
-    if no != 0 {
-        return no;
-    }
+    ask_shape(shape)?;
     if !bound_ok(shape.kind, settings.bound) {
-        return BOUND;
+        return Err(Refusal::Bound);
     }
-    0
+    Ok(())
 }
 
 // ---- A number for each column
-
-// Number i of the server's keys and the phone's, in this order.
-fn key_at(keys0: [u32; KEYS], keys1: [u32; KEYS], i: usize) -> u32
-    requires { i < 2 * key_count }
-    ensures { result ≡ get_or (keys0 ++ keys1) i 0 }
-{
-    if i < KEYS {
-        return keys0[i];
-    }
-    keys1[i - KEYS]
-}
 
 // One number for the share, and those for the parts under the server's keys and under the phone's.
 pub fn for_columns(share: u32, keys0: [u32; KEYS], keys1: [u32; KEYS]) -> [u32; WIDTH]
     ensures { result ≡ share ∷ keys0 ++ keys1 }
 {
     let mut columns = [share; WIDTH];
-    let mut i = 0;
-    while i < 2 * KEYS {
-        columns[1 + i] = key_at(keys0, keys1, i);
-        i += 1;
-    }
+    columns[1..1 + KEYS].copy_from_slice(&keys0);
+    columns[1 + KEYS..].copy_from_slice(&keys1);
     columns
 }
 
@@ -524,7 +504,7 @@ pub fn answer_places(shape: Shape) -> usize
 fn shape_ok(shape: Shape) -> bool
     ensures { result ≡ shape_ok shape }
 {
-    shape_no(shape) == 0
+    ask_shape(shape).is_ok()
 }
 
 // A message's bytes; 0 also where there is no such round.
@@ -534,10 +514,7 @@ pub fn message_size(shape: Shape, round: u32) -> usize
     if !shape_ok(shape) {
         return 0;
     }
-    if round < 1 {
-        return 0;
-    }
-    if round > ROUNDS {
+    if round < 1 || round > ROUNDS {
         return 0;
     }
     message_length(shape, round)
