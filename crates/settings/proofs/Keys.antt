@@ -1,12 +1,12 @@
 -- The keys of a side: the test of all of them, and a number for each column.
-use mathlib.Core.Path.{◌≡◌, refl, sym, ◌∙◌}
+use mathlib.Core.Path.{◌≡◌, refl, sym}
 use mathlib.Core.Bool.{Bool, true, false}
 use mathlib.Core.List.{List, [], ◌∷◌, ◌++◌}
-use Prim.Native.Nat.{ℕ, suc, ◌+◌, ◌≤◌, ◌<◌}
+use Prim.Native.Nat.{ℕ, suc}
 use native.Mathlib.Omega.{arith}
 use Rattle.std.proofs.lemmas.List.{append-nil}
 use borrow.Rule.Slice.PartMut.{post_of}
-use lib.ListN.{length, get_or, take, drop, length-append, length-drop, drop_of_length-le}
+use lib.ListN.{length, get_or, take, drop, drop_of_length-le}
 use Rattle.std.proofs.Math.Seq.{take-append_seam, drop-append_seam}
 use Rattle.std.specs.Prelude.{IsTrue, EachIndex, ◌↔◌}
 use Rattle.lists.specs.Lists.{every}
@@ -24,6 +24,6 @@ every-is f xs false e = by (every f xs) refl
 -- a number in front, and two lists of k numbers copied behind it
 pub columns_are : (k x : ℕ) (xs ys us vs ws : List ℕ) → us ≡ xs → vs ≡ ys → length xs ≡ k → length ws ≡ k
     → (x ∷ (take k (us ++ ws) ++ (vs ++ post_of (suc k) k (x ∷ (us ++ ws))))) ≡ x ∷ xs ++ ys
-columns_are k x xs ys us vs ws e f h l = 
+columns_are k x xs ys us vs ws e f h l =
     let none : drop (length xs) ws ≡ [] = drop_of_length-le ws {i = length xs} (omega arith) in
     rw (e, f) (rw (← h) (rw (take-append_seam xs ws, drop-append_seam xs ws, none, append-nil ys) refl))

@@ -275,17 +275,15 @@ pub fn parts_of(set: usize) -> u32
     PARTS[set]
 }
 
-// The lists of t(d). Round 5 takes its list once and lends it to every sum: naming a constant list writes it out anew.
-pub fn top_digits_0() -> [u32; 90]
-    ensures { result ≡ top_digits (scale_of 0).parts }
+// The list of t(d) of a set, which is not copied.
+pub fn top_digits(set: usize) -> &'static [u32]
+    requires { set < 2 }
+    ensures { result.now ≡ top_digits (scale_of set).parts }
 {
-    TOP_DIGITS_0
-}
-
-pub fn top_digits_1() -> [u32; 34]
-    ensures { result ≡ top_digits (scale_of 1).parts }
-{
-    TOP_DIGITS_1
+    if set == 0 {
+        return &TOP_DIGITS_0;
+    }
+    &TOP_DIGITS_1
 }
 
 // ---- Questions that several calls ask
