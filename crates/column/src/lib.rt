@@ -71,10 +71,8 @@ fn plain_into(out: &mut [u32], at: usize, work: &[u32], col: Column, settings: S
         (opening_on (public_by settings masked) round col.weight (column work.now col.index)) }
 {
     let count = openings_in(settings.shape, round) as usize;
-    let mut o = 0;
-    while o < count {
+    for o in 0..count {
         out[at + o] = plain_opening(work, col, settings, round, o);
-        o += 1;
     }
 }
 
@@ -92,15 +90,13 @@ fn prepare_plain(
     requires lt_round { (round ≢ 1 → 5 < round) × (round ≡ 6 → settings.shape.kind ≡ 0) }
     ensures { (masked : ℕ → ℕ) → Holds (public_by settings masked) round weights.now work.now columns (openings (params_of settings.shape) round) out.new }
 {
-    let mut f = 0;
-    while f < columns.count {
+    for f in 0..columns.count {
         let index = column_at(columns, f);
         let col = Column {
             index,
             weight: weights[index],
         };
         plain_into(out, MOST_OPENINGS * f, work, col, settings, round);
-        f += 1;
     }
 }
 
@@ -119,8 +115,7 @@ fn prepare_insides(
         → Holds (public_by known.settings masked) known.round weights.now work.now columns 1 out.new }
 {
     let settings = known.settings;
-    let mut f = 0;
-    while f < columns.count {
+    for f in 0..columns.count {
         let index = column_at(columns, f);
         let col = Column {
             index,
@@ -128,7 +123,6 @@ fn prepare_insides(
         };
         let insides = insides_value(work, col, known);
         out[MOST_OPENINGS * f] = open_check(work, col, settings.shape, 0, insides);
-        f += 1;
     }
 }
 
@@ -139,10 +133,8 @@ fn u_into(out: &mut [u32], at: usize, work: &[u32], columns: ColumnChoice, gate:
     ensures { (κ : ℕ → ℕ) → out.new ≡ fill_by most_openings out.old at columns.count
         (λ (f : ℕ). value q (κ f) (column work.now (column_at columns.skip f)) (open_u gate)) }
 {
-    let mut f = 0;
-    while f < columns.count {
+    for f in 0..columns.count {
         out[at + MOST_OPENINGS * f] = open_u(work, column_at(columns, f), gate);
-        f += 1;
     }
 }
 
@@ -160,10 +152,8 @@ fn v_into(
     ensures { (κ : ℕ → ℕ) → out.new ≡ fill_by most_openings out.old at columns.count
         (λ (f : ℕ). value q (κ f) (column work.now (column_at columns.skip f)) (open_v gate)) }
 {
-    let mut f = 0;
-    while f < columns.count {
+    for f in 0..columns.count {
         out[at + MOST_OPENINGS * f] = open_v(work, column_at(columns, f), gate, rises);
-        f += 1;
     }
 }
 
@@ -183,14 +173,12 @@ fn prepare_gates(
 {
     let shape = known.settings.shape;
     let i = (known.round - 1) as usize;
-    let mut g = 0;
-    while g < 2 * shape.n as usize {
+    for g in 0..2 * shape.n as usize {
         let x = split_place(shape.kind, g);
         let split = known.splits[x];
         let gate = gate_of(shape, split, g, i);
         u_into(out, 2 * g, work, columns, gate);
         v_into(out, 2 * g + 1, work, columns, gate, rises);
-        g += 1;
     }
 }
 
@@ -275,10 +263,8 @@ fn sums_into(next: &mut [u32], at: usize, work: &[u32], columns: usize, terms: W
     requires at_bound { (at < 16) × (16 * columns ≤ length next.old) × (columns * places ≤ length work.now) }
     ensures { (κ : ℕ → ℕ) → next.new ≡ fill_by 16 next.old at columns (λ (c : ℕ). value q (κ c) (column work.now c) (sum_form terms 0)) }
 {
-    let mut c = 0;
-    while c < columns {
+    for c in 0..columns {
         next[at + 16 * c] = sum_value(work, c, terms, &[]);
-        c += 1;
     }
 }
 
@@ -308,18 +294,16 @@ fn results_into(
         u: opened[o],
         v: opened[o + 1],
     };
-    let mut c = 0;
-    while c < weights.len() {
+    for (c, weight) in weights.iter().enumerate() {
         let col = Column {
             index: c,
-            weight: weights[c],
+            weight: *weight,
         };
         let mine = Factors {
             u: own[MOST_OPENINGS * c + o],
             v: own[MOST_OPENINGS * c + (o + 1)],
         };
         next[at + 16 * c] = gate_value(work, col, gate, mine, joined, tops);
-        c += 1;
     }
 }
 
@@ -331,13 +315,11 @@ fn first_registers(next: &mut [u32], work: &[u32], columns: usize, known: Contex
         → RegistersHeld (public_by known.settings masked) 1 opened κs work.now (2 * known.settings.shape.n) next.new }
 {
     let shape = known.settings.shape;
-    let mut g = 0;
-    while g < 2 * shape.n as usize {
+    for g in 0..2 * shape.n as usize {
         let x = split_place(shape.kind, g);
         let split = known.splits[x];
         let terms = terms_of(shape, split, g, 0);
         sums_into(next, 8 * (g % 2) + g / 2, work, columns, terms);
-        g += 1;
     }
 }
 
@@ -360,13 +342,11 @@ fn gate_registers(
 {
     let shape = known.settings.shape;
     let i = (known.round - 1) as usize;
-    let mut g = 0;
-    while g < 2 * shape.n as usize {
+    for g in 0..2 * shape.n as usize {
         let x = split_place(shape.kind, g);
         let split = known.splits[x];
         let gate = gate_of(shape, split, g, i);
         results_into(next, work, weights, gate, own, opened, tops);
-        g += 1;
     }
 }
 
@@ -436,12 +416,10 @@ fn late_into(
     requires round_in_bounds { (openings (params_of settings.shape) round ≤ length opened.now) × ((o : ℕ) → get_or opened.now o 0 < q) }
     ensures { (masked : ℕ → ℕ) (κ : ℕ) → LateHeld (public_by settings masked) round (λ (o : ℕ). get_or opened.now o 0) κ work.now col (2 * settings.shape.n) next.old next.new }
 {
-    let mut g = 0;
-    while g < 2 * settings.shape.n as usize {
+    for g in 0..2 * settings.shape.n as usize {
         next[16 * col + (8 * (g % 2) + g / 2)] = late_register(
             work, col, settings, round, opened, g,
         );
-        g += 1;
     }
 }
 
@@ -460,10 +438,8 @@ fn late_registers(
     ensures { (masked : ℕ → ℕ) (κs : List ℕ) → length κs ≡ columns
         → RegistersHeld (public_by settings masked) round (λ (o : ℕ). get_or opened.now o 0) κs work.now (2 * settings.shape.n) next.new }
 {
-    let mut c = 0;
-    while c < columns {
+    for c in 0..columns {
         late_into(next, work, c, settings, round, opened);
-        c += 1;
     }
 }
 
@@ -509,10 +485,8 @@ fn put_columns(
         → RegistersHeld (public_by settings masked) round opened weights.now work.old (2 * settings.shape.n) next.now
         → work.new ≡ taken_columns (public_by settings masked) round opened weights.now work.old (length weights.now) }
 {
-    let mut c = 0;
-    while c < weights.len() {
+    for c in 0..weights.len() {
         put_column(work, c, settings, round, own, next);
-        c += 1;
     }
 }
 

@@ -8,7 +8,6 @@ use mathlib.Core.List.{[]}
 use Rattle.slice.specs.Layout.{column}
 use Rattle.field.specs.Forms.{Form, value}
 use Rattle.field.specs.Field.{q}
-use Rattle.lists.proofs.Strides.{length-stride}
 use Rattle.lists.specs.Lists.{fill_by}
 use Rattle.steps.proofs.Contexts.{place_in, count_most}
 use Rattle.steps.proofs.Gates.{listed}
@@ -16,7 +15,7 @@ use Rattle.settings.specs.Sets.{top_digits}
 use Prim.Native.Nat.{ℕ, ◌≤◌, ◌%◌, ◌/◌}
 use mathlib.Core.Path.{ap, ◌∙◌}
 use native.Mathlib.Omega.{arith}
-use lib.ListN.{length, get_or}
+use lib.ListN.{get_or}
 use Rattle.column.proofs.first_registers.Goals as goal
 
 pub offset_bounds-known-x : goal.offset_bounds-known-x
@@ -51,7 +50,7 @@ sums_into-requires c =
     let never : 4 ≤ 0 → ⊥ = λ last. omega (arith, last) in
     record {
       terms_fit = (terms-of.ensures.1, rw terms-of.ensures.0 (listed top_digits known.settings.shape _ 0 [] (λ kind last. absurd (never last))));
-      at_bound = (omega (arith, p.ready.0.shape.most), omega (arith, p.round_value, at.invariant.2), omega (arith, p.round_value));
+      at_bound = (omega (arith, p.ready.0.shape.most), omega (arith, p.round_value, at.auto.next), omega (arith, p.round_value));
     }
 
 pub loop-g-preserved : goal.loop-g-preserved
@@ -63,19 +62,16 @@ loop-g-preserved c =
     let sums-into = c.sums_into in
     let a = c.args in
     let known = a.known in
-    let g = at.g in (
-      omega arith,
-      λ masked opened κs long made.
-          let κ : ℕ → ℕ = λ (d : ℕ). get_or κs d 0 in
-          let is = terms_register known masked made g split-place.result (omega arith) split-place.ensures (omega (arith, p.round_value.0)) (omega (arith, p.round_value.0))
-          terms-of.result opened terms-of.ensures.0 in
-          λ d k h l.
-          slots_more (λ (d k : ℕ). running_on (public_by known.settings masked) 1 opened (get_or κs d 0) (column a.work.now d) (k % 2) (k / 2)) at.next a.columns g _
-          (omega (arith, p.ready.0.shape.most)) (omega (arith, p.round_value, at.invariant.2))
-          (sums-into.ensures κ ∙ ap (λ (form : Form). fill_by 16 at.next (slot g) a.columns (λ (d : ℕ). value q (κ d) (column a.work.now d) form)) is)
-          (λ d k h l. at.invariant.1 masked opened κs long made d k (omega arith) l) d k (omega arith) l,
-      ap length (sums-into.ensures (λ (d : ℕ). 0)) ∙ length-stride 16 _ _ _ _ ∙ at.invariant.2,
-    )
+    let g = at.g in
+    λ masked opened κs long made.
+    let κ : ℕ → ℕ = λ (d : ℕ). get_or κs d 0 in
+    let is = terms_register known masked made g split-place.result (omega arith) split-place.ensures (omega (arith, p.round_value.0)) (omega (arith, p.round_value.0))
+    terms-of.result opened terms-of.ensures.0 in
+    λ d k h l.
+    slots_more (λ (d k : ℕ). running_on (public_by known.settings masked) 1 opened (get_or κs d 0) (column a.work.now d) (k % 2) (k / 2)) at.next a.columns g _
+    (omega (arith, p.ready.0.shape.most)) (omega (arith, p.round_value, at.auto.next))
+    (sums-into.ensures κ ∙ ap (λ (form : Form). fill_by 16 at.next (slot g) a.columns (λ (d : ℕ). value q (κ d) (column a.work.now d) form)) is)
+    (λ d k h l. at.invariant masked opened κs long made d k (omega arith) l) d k (omega arith) l
 
 pub returns : goal.returns
-returns c = λ masked opened κs long made d k h l. c.loop-g.invariant.1 masked opened κs long made d k h (omega arith)
+returns c = λ masked opened κs long made d k h l. c.loop-g.invariant masked opened κs long made d k h (omega arith)

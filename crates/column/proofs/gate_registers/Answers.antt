@@ -4,12 +4,11 @@ use Rattle.steps.specs.Work.{running_on}
 use Rattle.column.proofs.Tables.{slots_more}
 use Rattle.steps.specs.Context.{public_by}
 use Rattle.slice.specs.Layout.{column}
-use Rattle.lists.proofs.Strides.{length-stride}
 use Rattle.steps.proofs.Contexts.{place_in, count_most}
 use Rattle.steps.proofs.Gates.{listed}
 use Rattle.settings.specs.Sets.{top_digits}
 use Prim.Native.Nat.{ℕ, ◌≤◌, ◌-◌, ◌%◌, ◌/◌}
-use mathlib.Core.Path.{◌≡◌, refl, ap, ◌∙◌}
+use mathlib.Core.Path.{◌≡◌, refl}
 use native.Mathlib.Omega.{arith}
 use borrow.Author.Tests.{eq-eqb}
 use lib.ListN.{length, get_or}
@@ -62,7 +61,7 @@ results_into-requires c =
         rw c.gate_of-gate.ensures.0
             (listed top_digits known.settings.shape _ (known.round - 1) _ (λ kind last. p.ready.2 (rw (eq-eqb _ _ kind, eq-eqb _ _ (fifth last)) refl))),
       );
-      weights_in_bounds = omega (arith, p.le_round, at.invariant.2);
+      weights_in_bounds = omega (arith, p.le_round, at.auto.next);
       which_in_bounds = (rw c.gate_of-gate.ensures.0 (omega (arith, p.weights_in_bounds)), p.weights_in_bounds.2);
       by_index = λ d h.
           gate_held known g split-place.result split-place.ensures c.gate_of-gate.result c.gate_of-gate.ensures.0 _ _ a.own.now d
@@ -80,17 +79,14 @@ loop-g-preserved c =
     let known = a.known in
     let g = at.g in
     let opened : ℕ → ℕ = λ (o : ℕ). get_or a.opened.now o 0 in
-    let later : 2 ≤ known.round = p.le_round.0 in (
-      omega arith,
-      λ masked made.
-          slots_more (λ (d k : ℕ). running_on (public_by known.settings masked) known.round opened (get_or a.weights.now d 0) (column a.work.now d) (k % 2) (k / 2)) at.next
-          (length a.weights.now) g _
-          (omega (arith, p.ready.0.shape.most)) (omega (arith, p.le_round, at.invariant.2))
-          (gate_register known masked made g split-place.result (omega arith) split-place.ensures later p.le_round.1 gate-of.result gate-of.ensures.0
-          (length a.weights.now) (λ (d : ℕ). get_or a.weights.now d 0) (λ (d : ℕ). column a.work.now d) opened at.next _ results-into.ensures)
-          (at.invariant.1 masked made),
-      ap length results-into.ensures ∙ length-stride 16 _ _ _ _ ∙ at.invariant.2,
-    )
+    let later : 2 ≤ known.round = p.le_round.0 in
+    λ masked made.
+    slots_more (λ (d k : ℕ). running_on (public_by known.settings masked) known.round opened (get_or a.weights.now d 0) (column a.work.now d) (k % 2) (k / 2)) at.next
+    (length a.weights.now) g _
+    (omega (arith, p.ready.0.shape.most)) (omega (arith, p.le_round, at.auto.next))
+    (gate_register known masked made g split-place.result (omega arith) split-place.ensures later p.le_round.1 gate-of.result gate-of.ensures.0
+    (length a.weights.now) (λ (d : ℕ). get_or a.weights.now d 0) (λ (d : ℕ). column a.work.now d) opened at.next _ results-into.ensures)
+    (at.invariant masked made)
 
 pub returns : goal.returns
-returns c = λ masked made d k h l. c.loop-g.invariant.1 masked made d k h (omega arith)
+returns c = λ masked made d k h l. c.loop-g.invariant masked made d k h (omega arith)

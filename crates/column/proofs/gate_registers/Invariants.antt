@@ -1,15 +1,10 @@
 -- `column::gate_registers` meets its contract. Assumes nothing.
 use Rattle.column.specs.Held.{RegistersHeld}
 use Rattle.steps.specs.Context.{public_by, ContextOf}
-use Prim.Native.Nat.{ℕ, ◌≤◌, ◌-◌, ◌*◌}
-use mathlib.Core.Path.{◌≡◌}
-use lib.ListN.{length, get_or}
+use Prim.Native.Nat.{ℕ}
+use lib.ListN.{get_or}
 use Rattle.column.proofs.gate_registers.Given as goal
 
 abbrev pub invariant-loop-g : goal.invariant-loop-g
-invariant-loop-g l = (l.g ≤ 2 * l.known.settings.shape.n) ×
-    ((masked : ℕ → ℕ) → ContextOf l.known.settings l.known.round masked l.known → RegistersHeld (public_by l.known.settings masked) l.known.round
-    (λ (o : ℕ). get_or l.opened o 0) l.weights l.work l.g l.next) × (length l.next ≡ length l.initial.next)
-
-abbrev pub decreases-loop-g : goal.decreases-loop-g
-decreases-loop-g l = 2 * l.known.settings.shape.n - l.g
+invariant-loop-g l = (masked : ℕ → ℕ) → ContextOf l.known.settings l.known.round masked l.known → RegistersHeld (public_by l.known.settings masked) l.known.round
+    (λ (o : ℕ). get_or l.opened o 0) l.weights l.work l.g l.next

@@ -11,12 +11,9 @@ loop-c-preserved c =
     let a = c.args in
     let at = c.loop-c in
     let p = c.requires in
-    let late-into = c.late_into in (
-      omega arith,
-      λ masked κ d g h l. late_columns (public_by a.settings masked) a.round (λ (o : ℕ). get_or a.opened.now o 0) κ a.work.now at.c _ _ _ p.ready.shape.most
-          (late-into.ensures masked (κ at.c)) (at.invariant.1 masked κ) d g h l,
-      omega arith,
-    )
+    let late-into = c.late_into in
+    λ masked κ d g h l. late_columns (public_by a.settings masked) a.round (λ (o : ℕ). get_or a.opened.now o 0) κ a.work.now at.c _ _ _ p.ready.shape.most
+    (late-into.ensures masked (κ at.c)) (at.invariant masked κ) d g h l
 
 pub returns : goal.returns
-returns c = λ masked κs long d g h l. c.loop-c.invariant.1 masked (λ (d : ℕ). get_or κs d 0) d g (omega arith) l
+returns c = λ masked κs long d g h l. c.loop-c.invariant masked (λ (d : ℕ). get_or κs d 0) d g (omega arith) l

@@ -3,14 +3,10 @@ use Rattle.steps.specs.Work.{opening_on}
 use Rattle.steps.specs.Context.{public_by}
 use Rattle.slice.specs.Layout.{column}
 use Rattle.lists.specs.Lists.{fill}
-use Prim.Native.Nat.{ℕ, ◌≤◌, ◌-◌}
+use Prim.Native.Nat.{ℕ}
 use mathlib.Core.Path.{◌≡◌}
-use lib.ListN.{length}
 use Rattle.column.proofs.plain_into.Given as goal
 
 abbrev pub invariant-loop-o : goal.invariant-loop-o
-invariant-loop-o l = (l.o ≤ l.count) × ((masked : ℕ → ℕ) → l.out ≡ fill l.initial.out l.at l.o
-    (opening_on (public_by l.settings masked) l.round l.col.weight (column l.work l.col.index))) × (length l.out ≡ length l.initial.out)
-
-abbrev pub decreases-loop-o : goal.decreases-loop-o
-decreases-loop-o l = l.count - l.o
+invariant-loop-o l = (masked : ℕ → ℕ) → l.out ≡ fill l.initial.out l.at l.o
+    (opening_on (public_by l.settings masked) l.round l.col.weight (column l.work l.col.index))

@@ -5,7 +5,6 @@ use Rattle.slice.specs.Layout.{column}
 use Rattle.settings.specs.Sizes.{most_openings}
 use Rattle.field.specs.Forms.{Form, value}
 use Rattle.field.specs.Field.{q}
-use Rattle.lists.proofs.Strides.{length-stride}
 use Rattle.lists.specs.Lists.{fill_by}
 use Rattle.steps.proofs.Contexts.{place_in, count_most}
 use Rattle.steps.proofs.Gates.{listed}
@@ -16,7 +15,7 @@ use Prim.Native.Nat.{ℕ, ◌≤◌, ◌-◌, ◌+◌, ◌*◌}
 use mathlib.Core.Path.{◌≡◌, refl, ap, ◌∙◌}
 use native.Mathlib.Omega.{arith}
 use borrow.Author.Tests.{eq-eqb}
-use lib.ListN.{length, get_or}
+use lib.ListN.{get_or}
 use Rattle.column.proofs.prepare_gates.Goals as goal
 
 pub offset_bounds-known-x : goal.offset_bounds-known-x
@@ -71,23 +70,19 @@ loop-g-preserved c =
     let known = a.known in
     let g = at.g in
     let later : 2 ≤ known.round = p.le_round.0 in
-    let test = c.loop-g-test.true in
-    let skip = a.columns.skip in (
-      omega (arith, test),
-      λ masked κs made.
-          let w = public_by known.settings masked in
-          let κ : ℕ → ℕ = λ (d : ℕ). get_or κs (column_at skip d) 0 in
-          let u = gate_u known masked made g split-place.result (omega (arith, test)) split-place.ensures later p.le_round.1 gate-of.result gate-of.ensures.0 in
-          let v = gate_v known masked made g split-place.result (omega (arith, test)) split-place.ensures later p.le_round.1 gate-of.result gate-of.ensures.0 in
-          gates_more (λ (d o : ℕ). opening_in w known.round κs a.work.now (column_at skip d) o) at.out a.columns.count g _ _
-          (omega (arith, test, p.ready.0.shape.most)) (omega (arith, p.count_in_bounds, at.invariant.2))
-          (u-into.ensures κ
-          ∙ ap (λ (form : Form). fill_by most_openings at.out (2 * g) a.columns.count (λ (d : ℕ). value q (κ d) (column a.work.now (column_at skip d)) form)) u)
-          (v-into.ensures κ
-          ∙ ap (λ (form : Form). fill_by most_openings u-into.new.out (2 * g + 1) a.columns.count (λ (d : ℕ). value q (κ d) (column a.work.now (column_at skip d)) form)) v)
-          (at.invariant.1 masked κs made),
-      ap length (v-into.ensures (λ (d : ℕ). 0)) ∙ length-stride most_openings _ _ _ _ ∙ ap length (u-into.ensures (λ (d : ℕ). 0)) ∙ length-stride most_openings _ _ _ _ ∙ at.invariant.2,
-    )
+    let skip = a.columns.skip in
+    λ masked κs made.
+    let w = public_by known.settings masked in
+    let κ : ℕ → ℕ = λ (d : ℕ). get_or κs (column_at skip d) 0 in
+    let u = gate_u known masked made g split-place.result (omega arith) split-place.ensures later p.le_round.1 gate-of.result gate-of.ensures.0 in
+    let v = gate_v known masked made g split-place.result (omega arith) split-place.ensures later p.le_round.1 gate-of.result gate-of.ensures.0 in
+    gates_more (λ (d o : ℕ). opening_in w known.round κs a.work.now (column_at skip d) o) at.out a.columns.count g _ _
+    (omega (arith, p.ready.0.shape.most)) (omega (arith, p.count_in_bounds, at.auto.out))
+    (u-into.ensures κ
+    ∙ ap (λ (form : Form). fill_by most_openings at.out (2 * g) a.columns.count (λ (d : ℕ). value q (κ d) (column a.work.now (column_at skip d)) form)) u)
+    (v-into.ensures κ
+    ∙ ap (λ (form : Form). fill_by most_openings u-into.new.out (2 * g + 1) a.columns.count (λ (d : ℕ). value q (κ d) (column a.work.now (column_at skip d)) form)) v)
+    (at.invariant masked κs made)
 
 pub returns : goal.returns
-returns c = λ masked κs made d o h l. c.loop-g.invariant.1 masked κs made d o h (omega arith)
+returns c = λ masked κs made d o h l. c.loop-g.invariant masked κs made d o h (omega arith)

@@ -10,7 +10,7 @@ use Rattle.steps.specs.Context.{public_by}
 use Prim.Native.Nat.{ℕ}
 use mathlib.Core.Path.{ap, ◌∙◌}
 use native.Mathlib.Omega.{arith}
-use lib.ListN.{get_or, length-set}
+use lib.ListN.{get_or}
 use Rattle.column.proofs.prepare_insides.Goals as goal
 
 pub loop-f-preserved : goal.loop-f-preserved
@@ -22,15 +22,12 @@ loop-f-preserved c =
     let known = a.known in
     let f = at.f in
     let κ = get_or a.weights.now column-at.result 0 in
-    let col = column a.work.now column-at.result in (
-      omega arith,
-      λ masked made.
-          let w = public_by known.settings masked in
-          single_more (λ (d o : ℕ). opening_in w known.round a.weights.now a.work.now (column_at a.columns.skip d) o) at.out f c.open_check.result
-          (omega (arith, p.room.out_long))
-          (c.open_check.ensures (insides w known.settings.shape.n) (c.insides_value-insides.ensures masked made)
-          ∙ ap (value q κ col) (check-bound w known.round 0 p.kind_nonzero.1 p.kind_nonzero.0)
-          ∙ ap (λ (d : ℕ). opening_in w known.round a.weights.now a.work.now d 0) column-at.ensures.0)
-          (at.invariant.1 masked made),
-      simp length-set at.invariant.2,
-    )
+    let col = column a.work.now column-at.result in
+    λ masked made.
+    let w = public_by known.settings masked in
+    single_more (λ (d o : ℕ). opening_in w known.round a.weights.now a.work.now (column_at a.columns.skip d) o) at.out f c.open_check.result
+    (omega (arith, p.room.out_long))
+    (c.open_check.ensures (insides w known.settings.shape.n) (c.insides_value-insides.ensures masked made)
+    ∙ ap (value q κ col) (check-bound w known.round 0 p.kind_nonzero.1 p.kind_nonzero.0)
+    ∙ ap (λ (d : ℕ). opening_in w known.round a.weights.now a.work.now d 0) column-at.ensures.0)
+    (at.invariant masked made)

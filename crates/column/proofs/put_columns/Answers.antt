@@ -2,16 +2,15 @@
 use Rattle.column.proofs.Written.{column-taken}
 use Rattle.steps.specs.Work.{taken_columns}
 use Rattle.steps.specs.Context.{public_by}
-use Rattle.lists.proofs.Fill.{length-fill}
 use native.Mathlib.Numerals.{add-one}
-use mathlib.Core.Path.{◌≡◌, refl, ap, ◌∙◌}
+use mathlib.Core.Path.{◌≡◌, refl}
 use native.Mathlib.Omega.{arith}
 use lib.ListN.{length}
 use Rattle.column.proofs.put_columns.Goals as goal
 
 pub loop-c-init : goal.loop-c-init
 unfolding taken_columns
-loop-c-init c = (omega arith, λ masked opened held next. refl, refl)
+loop-c-init c = λ masked opened held next. refl
 
 pub loop-c-preserved : goal.loop-c-preserved
 unfolding taken_columns
@@ -20,16 +19,13 @@ loop-c-preserved c =
     let p = c.requires in
     let put-column = c.put_column in
     let a = c.args in
-    let d = at.c in (
-      omega arith,
-      λ masked opened held next.
-          rw (add-one d)
-          (column-taken (public_by a.settings masked) a.round opened p.ready.shape.most a.weights.now a.work.now a.own.now a.next.now d (omega arith) held next
-          at.work _ (at.invariant.1 masked opened held next) put-column.ensures),
-      ap length put-column.ensures ∙ length-fill _ _ _ _ ∙ length-fill _ _ _ _ ∙ length-fill _ _ _ _ ∙ at.invariant.2,
-    )
+    let d = at.c in
+    λ masked opened held next.
+    rw (add-one d)
+    (column-taken (public_by a.settings masked) a.round opened p.ready.shape.most a.weights.now a.work.now a.own.now a.next.now d (omega arith) held next
+    at.work _ (at.invariant masked opened held next) put-column.ensures)
 
 pub returns : goal.returns
 returns c =
     let a = c.args in
-    λ masked opened held next. let e : c.loop-c.c ≡ length a.weights.now = omega arith in rw e at (c.loop-c.invariant.1 masked opened held next)
+    λ masked opened held next. let e : c.loop-c.c ≡ length a.weights.now = omega arith in rw e at (c.loop-c.invariant masked opened held next)

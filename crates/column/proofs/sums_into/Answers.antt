@@ -1,20 +1,15 @@
 -- `column::sums_into` meets its contract. Assumes nothing.
 use Rattle.lists.proofs.Strides.{stride-none, stride-more}
-use mathlib.Core.Path.{◌≡◌, refl, sym}
+use mathlib.Core.Path.{◌≡◌, sym}
 use native.Mathlib.Omega.{arith}
-use lib.ListN.{length-set}
 use Rattle.column.proofs.sums_into.Goals as goal
 
 pub loop-c-init : goal.loop-c-init
-loop-c-init c = (omega arith, λ κ. sym (stride-none 16 _ _ _), refl)
+loop-c-init c = λ κ. sym (stride-none 16 _ _ _)
 
 pub loop-c-preserved : goal.loop-c-preserved
-loop-c-preserved c = (
-  omega arith,
-  λ κ. stride-more 16 _ _ _ _ _ _ (c.loop-c.invariant.1 κ) (c.sum_value.ensures (κ c.loop-c.c)),
-  simp length-set
-      c.loop-c.invariant.2,
-)
+loop-c-preserved c =
+    λ κ. stride-more 16 _ _ _ _ _ _ (c.loop-c.invariant κ) (c.sum_value.ensures (κ c.loop-c.c))
 
 pub returns : goal.returns
-returns c = λ κ. let e : c.loop-c.c ≡ c.args.columns = omega arith in rw e at (c.loop-c.invariant.1 κ)
+returns c = λ κ. let e : c.loop-c.c ≡ c.args.columns = omega arith in rw e at (c.loop-c.invariant κ)

@@ -4,14 +4,9 @@ use Rattle.slice.specs.Layout.{column}
 use Rattle.field.specs.Forms.{value}
 use Rattle.field.specs.Field.{q}
 use Rattle.lists.specs.Lists.{fill_by}
-use Prim.Native.Nat.{ℕ, ◌≤◌, ◌-◌}
+use Prim.Native.Nat.{ℕ}
 use mathlib.Core.Path.{◌≡◌}
-use lib.ListN.{length}
 use Rattle.column.proofs.sums_into.Given as goal
 
 abbrev pub invariant-loop-c : goal.invariant-loop-c
-invariant-loop-c l = (l.c ≤ l.columns) × ((κ : ℕ → ℕ) → l.next ≡ fill_by 16 l.initial.next l.at l.c (λ (d : ℕ). value q (κ d) (column l.work d) (sum_form l.terms 0))) ×
-    (length l.next ≡ length l.initial.next)
-
-abbrev pub decreases-loop-c : goal.decreases-loop-c
-decreases-loop-c l = l.columns - l.c
+invariant-loop-c l = (κ : ℕ → ℕ) → l.next ≡ fill_by 16 l.initial.next l.at l.c (λ (d : ℕ). value q (κ d) (column l.work d) (sum_form l.terms 0))

@@ -6,24 +6,20 @@ use Rattle.field.specs.Forms.{value}
 use Rattle.field.specs.Field.{q}
 use Rattle.lists.proofs.Strides.{stride-none, stride-more}
 use Prim.Native.Nat.{ℕ}
-use mathlib.Core.Path.{◌≡◌, refl, sym, ap, ◌∙◌}
+use mathlib.Core.Path.{◌≡◌, sym, ap, ◌∙◌}
 use native.Mathlib.Omega.{arith}
-use lib.ListN.{length-set}
 use Rattle.column.proofs.v_into.Goals as goal
 
 pub loop-f-init : goal.loop-f-init
-loop-f-init c = (omega arith, λ κ. sym (stride-none most_openings _ _ _), refl)
+loop-f-init c = λ κ. sym (stride-none most_openings _ _ _)
 
 pub loop-f-preserved : goal.loop-f-preserved
 loop-f-preserved c =
     let at = c.loop-f in
     let a = c.args in
-    let column-at = c.column_at in (
-      omega arith,
-      λ κ. stride-more most_openings _ _ _ _ _ _ (at.invariant.1 κ)
-          (c.open_v.ensures (κ at.f) ∙ ap (λ (d : ℕ). value q (κ at.f) (column a.work.now d) (open_v a.gate)) column-at.ensures.0),
-      simp length-set at.invariant.2,
-    )
+    let column-at = c.column_at in
+    λ κ. stride-more most_openings _ _ _ _ _ _ (at.invariant κ)
+    (c.open_v.ensures (κ at.f) ∙ ap (λ (d : ℕ). value q (κ at.f) (column a.work.now d) (open_v a.gate)) column-at.ensures.0)
 
 pub returns : goal.returns
-returns c = λ κ. let e : c.loop-f.f ≡ c.args.columns.count = omega arith in rw e at (c.loop-f.invariant.1 κ)
+returns c = λ κ. let e : c.loop-f.f ≡ c.args.columns.count = omega arith in rw e at (c.loop-f.invariant κ)

@@ -6,14 +6,10 @@ use Rattle.settings.specs.Sizes.{most_openings}
 use Rattle.field.specs.Forms.{value}
 use Rattle.field.specs.Field.{q}
 use Rattle.lists.specs.Lists.{fill_by}
-use Prim.Native.Nat.{ℕ, ◌≤◌, ◌-◌}
+use Prim.Native.Nat.{ℕ}
 use mathlib.Core.Path.{◌≡◌}
-use lib.ListN.{length}
 use Rattle.column.proofs.v_into.Given as goal
 
 abbrev pub invariant-loop-f : goal.invariant-loop-f
-invariant-loop-f l = (l.f ≤ l.columns.count) × ((κ : ℕ → ℕ) → l.out ≡ fill_by most_openings l.initial.out l.at l.f
-    (λ (d : ℕ). value q (κ d) (column l.work (column_at l.columns.skip d)) (open_v l.gate))) × (length l.out ≡ length l.initial.out)
-
-abbrev pub decreases-loop-f : goal.decreases-loop-f
-decreases-loop-f l = l.columns.count - l.f
+invariant-loop-f l = (κ : ℕ → ℕ) → l.out ≡ fill_by most_openings l.initial.out l.at l.f
+    (λ (d : ℕ). value q (κ d) (column l.work (column_at l.columns.skip d)) (open_v l.gate))
