@@ -110,12 +110,12 @@ unfolding with_batch
 batch_none book s long = columns_all width (batch_place book 0 0 s) s long (λ c i h l. sym (beyond book 0 0 s c i (omega arith)))
 
 -- a batch behind those before it
-pub batch_next : (book s s₁ s₂ : List ℕ) (a m : ℕ) → length s₂ ≡ width * places → s₁ ≡ with_batch book 0 a s → s₂ ≡ with_batch book a m s₁
-    → s₂ ≡ with_batch book 0 (a + m) s
+pub batch_next : (book s s₁ s₂ : List ℕ) (a m l : ℕ) → length s₂ ≡ width * places → a + m ≡ l → s₁ ≡ with_batch book 0 a s → s₂ ≡ with_batch book a m s₁
+    → s₂ ≡ with_batch book 0 l s
 unfolding with_batch
-batch_next book s s₁ s₂ a m long e₁ e₂ =
-    columns_all width (batch_place book 0 (a + m) s) s₂ long (λ c i h l.
-    rw e₂ (batch_at book a m s₁ c i h l) ∙ by c i h l (dec_lt i a) (dec_lt i (a + m)))
+batch_next book s s₁ s₂ a m l long sum e₁ e₂ =
+    rw (← sum) (columns_all width (batch_place book 0 (a + m) s) s₂ long (λ c i h l.
+    rw e₂ (batch_at book a m s₁ c i h l) ∙ by c i h l (dec_lt i a) (dec_lt i (a + m))))
   where
     stood : (c i : ℕ) → c < width → i < places → get_or s₁ (c * places + i) 0 ≡ batch_place book 0 a s c i
     stood c i h l = rw e₁ (batch_at book 0 a s c i h l)
@@ -156,17 +156,17 @@ module _ (count n width : ℕ) (inputs book : List ℕ) (c : ℕ) (room : count 
   abbrev behind : ℕ → ℕ
   behind k = place (count + k)
 
-  pub rest_is : (s s₁ s₂ s₃ : List ℕ) (at : ℕ) → n ≤ 8
-      → s₁ ≡ fill s (at + count) (input_at 0 - count) (λ (i : ℕ). 0)
+  pub rest_is : (s s₁ s₂ s₃ : List ℕ) (at m₁ m₃ : ℕ) → n ≤ 8 → count + m₁ ≡ input_at 0 → input_at n + m₃ ≡ places
+      → s₁ ≡ fill s (at + count) m₁ (λ (i : ℕ). 0)
       → s₂ ≡ fill s₁ (at + input_at 0) n (λ (i : ℕ). get_or inputs (i * width + c) 0)
-      → s₃ ≡ fill s₂ (at + input_at 0 + n) (places - input_at 0 - n) (λ (i : ℕ). 0)
+      → s₃ ≡ fill s₂ (at + input_at 0 + n) m₃ (λ (i : ℕ). 0)
       → s₃ ≡ fill s (at + count) (places - count) behind
-  rest_is s s₁ s₂ s₃ at most e₁ e₂ e₃ =
-      let t₁ : s₁ ≡ fill s (at + count) (input_at 0 - count) behind =
-      e₁ ∙ fill-same s (at + count) (input_at 0 - count) _ behind (λ k h. before-inputs (count + k) (omega arith) (omega arith)) in
+  rest_is s s₁ s₂ s₃ at m₁ m₃ most u₁ u₃ e₁ e₂ e₃ =
+      let t₁ : s₁ ≡ fill s (at + count) m₁ behind =
+      e₁ ∙ fill-same s (at + count) m₁ _ behind (λ k h. before-inputs (count + k) (omega arith) (omega arith)) in
       let t₂ : s₂ ≡ fill s (at + count) (input_at n - count) behind =
-      fill-next s s₁ s₂ (at + count) _ (input_at 0 - count) n (input_at n - count) behind _ t₁ e₂ (omega arith) (omega arith)
-      (λ k h. let e : count + (input_at 0 - count + k) ≡ input_at 0 + k = omega arith in rw e (from_inputs k h)) in
+      fill-next s s₁ s₂ (at + count) _ m₁ n (input_at n - count) behind _ t₁ e₂ (omega arith) (omega arith)
+      (λ k h. let e : count + (m₁ + k) ≡ input_at 0 + k = omega arith in rw e (from_inputs k h)) in
       fill-next s s₂ s₃ (at + count) _ (input_at n - count) _ (places - count) behind _ t₂ e₃ (omega arith) (omega arith)
       (λ k h. behind-inputs (count + (input_at n - count + k)) (omega arith))
 

@@ -2,14 +2,13 @@
 use mathlib.Core.Path.{◌≡◌}
 use mathlib.Core.Bool.{Bool, true, false, cond}
 use mathlib.Core.List.{List, ◌∷◌, ◌++◌}
-use Prim.Native.Nat.{ℕ, ◌+◌, ◌*◌, ◌<◌}
+use Prim.Native.Nat.{ℕ, ◌+◌, ◌*◌, ◌≤◌, ◌<◌}
 use native.Mathlib.Decide.{dec_lt}
 use native.Mathlib.Omega.{arith}
 use lib.Dec.{ltb}
-use lib.ListN.{length, get_or, replicate, get_or-eq_default}
+use lib.ListN.{length, get_or, replicate, take, drop}
+use Rattle.std.proofs.lemmas.List.{get_or-take, get_or-drop, length-take, get_or_past}
 use borrow.Author.Tests.{lt-ltb, le-ltb, eq-eqb, ne_eqb}
-use Rattle.lists.specs.Lists.{fill}
-use Rattle.lists.proofs.Fill.{length-fill, front_at, fill-same}
 use Rattle.slice.specs.Layout.{column, own_in, masked_in, weights}
 
 -- the weights of the server and of the phone
@@ -22,22 +21,18 @@ unfolding weights
 phone-weights k number keys e = rw (ne_eqb number 0 e)
 
 -- eight numbers copied from the slice
-pub masked-is : (work z ys : List ℕ) → length z ≡ 8 → ys ≡ fill z 0 8 (λ (j : ℕ). get_or work (1376 + j) 0) → (c : ℕ) → get_or ys c 0 ≡ masked_in work c
+pub masked-is : (work ys : List ℕ) → 1384 ≤ length work → ys ≡ take 8 (drop 1376 work) → (j : ℕ) → get_or ys j 0 ≡ masked_in work j
 unfolding masked_in
-masked-is work z ys h e c = go (dec_lt c 8)
+masked-is work ys room e j = go (dec_lt j 8)
   where
-    go : Dec (c < 8) → get_or ys c 0 ≡ cond (ltb c 8) (get_or work (1376 + c) 0) 0
-    go (yes p) = rw (lt-ltb c 8 p, e) (front_at z 8 (λ (j : ℕ). get_or work (1376 + j) 0) c (omega arith) p)
-    go (no p) =
-        rw (le-ltb c 8 (omega arith), e)
-        (get_or-eq_default (fill z 0 8 (λ (j : ℕ). get_or work (1376 + j) 0)) 0 {n = c}
-        (omega (arith, length-fill z 0 8 (λ (j : ℕ). get_or work (1376 + j) 0))))
+    go : Dec (j < 8) → get_or ys j 0 ≡ cond (ltb j 8) (get_or work (1376 + j) 0) 0
+    go (yes p) = rw (lt-ltb j 8 p, e, get_or-take 8 (drop 1376 work) j 0 p) (get_or-drop 1376 work j 0)
+    go (no p) = rw (le-ltb j 8 (omega arith), e) (get_or_past (take 8 (drop 1376 work)) j 0 (omega (arith, length-take 8 (drop 1376 work))))
 
--- own numbers copied from the slice
-pub own_is : (work out : List ℕ) (c n : ℕ) → fill out 0 n (λ (j : ℕ). get_or work (c * 1536 + 1344 + j) 0) ≡ fill out 0 n (own_in work c)
+-- an own number of a column
+pub own_is : (work : List ℕ) (c j : ℕ) → get_or work (c * 1536 + 1344 + j) 0 ≡ own_in work c j
 unfolding own_in
-own_is work out c n =
-    fill-same out 0 n _ _ (λ o h. let e : c * 1536 + 1344 + o ≡ c * 1536 + (1344 + o) = omega arith in rw e)
+own_is work c j = let e : c * 1536 + 1344 + j ≡ c * 1536 + (1344 + j) = omega arith in rw e
 
 -- the registers of a slice of small numbers are small
 pub column-below : (s : List ℕ) (c m : ℕ) → 0 < m → ((j : ℕ) → get_or s j 0 < m) → (i : ℕ) → column s c i < m

@@ -8,6 +8,7 @@ use native.Mathlib.Omega.{arith}
 use native.Mathlib.Decide.{dec_lt, dec_le}
 use lib.Dec.{leb, ltb}
 use lib.ListN.{length, get_or}
+use Rattle.std.specs.Prelude.{Option, None, Some, MatchOption, SomeIff}
 use borrow.Author.Tests.{lt-ltb, le-ltb, le-leb, lt-leb, ne_eqb}
 use Rattle.lists.specs.Answers.{bit}
 use Rattle.lists.specs.Lists.{list_to}
@@ -74,6 +75,17 @@ module _ (b d z : ℕ) (small : d ≤ b) (inside : z < b) where
       ∙ rw (hit e) (omega arith)
 
 -- ---- a digit one higher
+
+-- the entry x with x + d = b, if there is one
+pub entry_back : (b d n x : ℕ) (r : ℕ → ℕ) (o : Option ℕ) → SomeIff o (d ≤ b) (b - d) → MatchOption o (x ≡ 0) (λ at. x ≡ cond (ltb at n) (r at) 0 % q)
+    → (at : ℕ) → at ≡ cond (leb d b) (b - d) n → x ≡ cond (ltb at n) (r at) 0 % q
+entry_back b d n x r o back is at e = go o (dec_le d b) back is
+  where
+    go : (o : Option ℕ) → Dec (d ≤ b) → SomeIff o (d ≤ b) (b - d) → MatchOption o (x ≡ 0) (λ y. x ≡ cond (ltb y n) (r y) 0 % q) → x ≡ cond (ltb at n) (r at) 0 % q
+    go None (yes h) back is = absurd (back h)
+    go None (no h) back is = rw (e, lt-leb d b (omega arith), le-ltb n n (omega arith)) is
+    go (Some y) (yes h) back is = rw (e, le-leb d b h) (rw back.1 at is)
+    go (Some y) (no h) back is = absurd (h back.0)
 
 module _ (n b d : ℕ) (r : ℕ → ℕ) where
   abbrev total : Rule → ℕ → ℕ

@@ -3,7 +3,7 @@
 // knows each place and digit to be in its range.
 #![tactic(auto)]
 
-ghost use Rattle.std.specs.Prelude.{◌≡◌, cond, List, ◌⊎◌, ℕ, ◌+◌, ◌*◌, ◌-◌, ◌%◌, ◌≤◌, ◌<◌, leb, ltb, length, get_or};
+ghost use Rattle.std.specs.Prelude.{◌≡◌, cond, List, MatchOption, ◌⊎◌, ℕ, ◌+◌, ◌*◌, ◌-◌, ◌%◌, ◌≤◌, ◌<◌, leb, ltb, length, get_or};
 ghost use Rattle.lists.specs.Lists.{fill, list_to};
 ghost use Rattle.field.specs.Field.{q};
 ghost use Rattle.field.specs.Forms.{value, sum, ◌⊟◌};
@@ -17,7 +17,6 @@ ghost use Rattle.slice.specs.Weights.{weigh, top_rises, TopFits};
 ghost use Rattle.slice.specs.declared.Rule.TheVariants.{Zero, Top};
 
 use field::{Q, Q64, sub_mod};
-use lists::{copy_numbers, least};
 use settings::{KEYS, PLACES, Shape, WIDTH, for_columns, shared_of};
 
 // Where in a column stand the inputs, the two running registers of each coefficient, this side's
@@ -54,35 +53,20 @@ pub struct Weighted {
 
 // ---- Begin
 
-// How many numbers one block of zeros has. The compiler makes the loop over a block a call of memset. Up to these 2,048 bytes memset
+// How many numbers one block of zeros has: `fill` is compiled to a call of memset. Up to these 2,048 bytes memset
 // stores many bytes at a time; for more it uses one instruction that is counted once for each byte, and takes as long.
 const BLOCK: usize = 512;
 
 // How many shared numbers of a book are put into the columns at a time.
 const BATCH: usize = 64;
 
-// Sets a run of places to 0.
-fn clear_block(work: &mut [u32], at: usize, count: usize)
-    requires { at + count ≤ length work.old }
-    ensures { work.new ≡ fill work.old at count (λ (i : ℕ). 0) }
+// Sets numbers to 0, in blocks.
+fn clear(numbers: &mut [u32])
+    ensures { (k : ℕ) → get_or numbers.new k 0 ≡ 0 }
 {
-    let mut i = 0;
-    while i < count {
-        work[at + i] = 0;
-        i += 1;
-    }
-}
-
-// The same in blocks.
-fn clear(work: &mut [u32], at: usize, count: usize)
-    requires { at + count ≤ length work.old }
-    ensures { work.new ≡ fill work.old at count (λ (i : ℕ). 0) }
-{
-    let mut done = 0;
-    while done < count {
-        let more = least(BLOCK, count - done);
-        clear_block(work, at + done, more);
-        done += more;
+    let n = numbers.len();
+    for at in (0..n).step_by(BLOCK) {
+        numbers[at..at + BLOCK.min(n - at)].fill(0);
     }
 }
 
@@ -91,10 +75,8 @@ fn load(work: &mut [u32], at: usize, from: &[u32], column: usize, count: usize)
     requires { (at + count ≤ length work.old) × (column < width) × (count * width ≤ length from.now) }
     ensures { work.new ≡ fill work.old at count (λ (i : ℕ). get_or from.now (i * width + column) 0) }
 {
-    let mut i = 0;
-    while i < count {
+    for i in 0..count {
         work[at + i] = from[i * WIDTH + column];
-        i += 1;
     }
 }
 
@@ -104,10 +86,8 @@ fn load_batch(work: &mut [u32], book: &[u32], first: usize, n: usize)
     ensures { work.new ≡ with_batch book.now first n work.old }
 {
     let from = first * WIDTH;
-    let mut c = 0;
-    while c < WIDTH {
+    for c in 0..WIDTH {
         load(work, c * PLACES + first, &book[from..], c, n);
-        c += 1;
     }
 }
 
@@ -116,11 +96,8 @@ fn load_book(work: &mut [u32], book: &[u32], count: usize)
     requires { (length work.old ≡ work_length key_count) × (count ≤ 1320) × (count * width ≤ length book.now) }
     ensures { work.new ≡ with_batch book.now 0 count work.old }
 {
-    let mut done = 0;
-    while done < count {
-        let more = least(BATCH, count - done);
-        load_batch(work, book, done, more);
-        done += more;
+    for first in (0..count).step_by(BATCH) {
+        load_batch(work, book, first, BATCH.min(count - first));
     }
 }
 
@@ -131,9 +108,9 @@ fn finish_column(work: &mut [u32], column: usize, count: usize, inputs: &[u32], 
         (λ (k : ℕ). begun_place count n width inputs.now book column (count + k)) }
 {
     let at = column * PLACES;
-    clear(work, at + count, INPUT - count);
+    clear(&mut work[at + count..at + INPUT]);
     load(work, at + INPUT, inputs, column, n);
-    clear(work, at + INPUT + n, PLACES - INPUT - n);
+    clear(&mut work[at + INPUT + n..at + PLACES]);
 }
 
 // Sets the whole slice for a run: book and inputs column by column, 0 elsewhere.
@@ -145,10 +122,8 @@ pub fn begin_work(work: &mut [u32], shape: Shape, inputs: &[u32], book: &[u32])
     let count = shared_of(shape);
     let n = shape.n as usize;
     load_book(work, book, count);
-    let mut c = 0;
-    while c < WIDTH {
+    for c in 0..WIDTH {
         finish_column(work, c, count, inputs, n);
-        c += 1;
     }
 }
 
@@ -171,7 +146,7 @@ pub fn masked_in(work: &[u32]) -> [u32; 8]
     ensures { (j : ℕ) → get_or result j 0 ≡ masked_in work.now j }
 {
     let mut ys = [0u32; 8];
-    copy_numbers(&mut ys, 0, work, MASKED, 8);
+    ys.copy_from_slice(&work[MASKED..MASKED + 8]);
     ys
 }
 
@@ -180,27 +155,18 @@ pub fn own_column(out: &mut [u32], work: &[u32], column: usize, count: usize)
     requires { (length work.now ≡ work_length key_count) × (column < width) × (count ≤ most_openings) × (count ≤ length out.old) }
     ensures { out.new ≡ fill out.old 0 count (own_in work.now column) }
 {
-    copy_numbers(out, 0, work, column * PLACES + OWN, count);
+    let at = column * PLACES + OWN;
+    out[..count].copy_from_slice(&work[at..at + count]);
 }
 
 // ---- Sums over a digit's vector
-
-// a - b, or 0 if b is larger.
-fn less_by(a: u32, b: u32) -> u32
-    ensures { result ≡ a - b }
-{
-    if a < b {
-        return 0;
-    }
-    a - b
-}
 
 // A weight times an entry.
 fn times(a: u32, b: u32) -> u64
     requires { a < 16777216 }
     ensures { (result ≡ a * b) × (result < 72057594037927936) }
 {
-    a as u64 * b as u64
+    u64::from(a) * u64::from(b)
 }
 
 // Register i of column `col`.
@@ -217,10 +183,8 @@ fn part_sum(work: &[u32], col: usize, place: usize, from: usize, to: usize) -> u
     ensures { result ≡ sum_to (to - from) (λ (x : ℕ). column work.now col (place + (from + x))) % q }
 {
     let mut total: u64 = 0;
-    let mut j = from;
-    while j < to {
-        total = total + register(work, col, place + j) as u64;
-        j += 1;
+    for j in from..to {
+        total += u64::from(register(work, col, place + j));
     }
     (total % Q64) as u32
 }
@@ -233,10 +197,8 @@ fn listed_sum(work: &[u32], col: usize, terms: Weighted, list: &[u32]) -> u32
 {
     let d = terms.digit as usize;
     let mut total: u64 = 0;
-    let mut j = 0;
-    while j < terms.n {
-        total = total + times(list[j + d], register(work, col, terms.place + j));
-        j += 1;
+    for j in 0..terms.n {
+        total += times(list[j + d], register(work, col, terms.place + j));
     }
     (total % Q64) as u32
 }
@@ -247,10 +209,8 @@ pub fn rises_into(rises: &mut [u32], list: &[u32])
     requires by_index { (i : ℕ) → i < length list.now → get_or list.now i 0 ≤ q }
     ensures { rises.new ≡ list_to (length rises.old) (λ (d : ℕ). get_or list.now (d + 1) 0 + q - get_or list.now d 0) }
 {
-    let mut d = 0;
-    while d < rises.len() {
-        rises[d] = list[d + 1] + Q - list[d];
-        d += 1;
+    for (d, rise) in rises.iter_mut().enumerate() {
+        *rise = list[d + 1] + Q - list[d];
     }
 }
 
@@ -272,39 +232,28 @@ pub fn weighted_sum(work: &[u32], col: usize, terms: Weighted, tops: &[u32]) -> 
     requires n_value { (terms.rule ≡ Zero → (terms.n ≡ terms.limit) × (terms.digit ≤ terms.limit)) × (terms.rule ≡ Top → TopFits top_digits terms tops.now) }
     ensures { (κ : ℕ) → result ≡ value q κ (column work.now col) (sum terms.n terms.place (weigh terms.rule terms.limit terms.digit)) }
 {
-    let rule = terms.rule;
     let place = terms.place;
     let n = terms.n;
     let b = terms.limit;
     let d = terms.digit;
-    match rule {
-        Rule::Carry => part_sum(work, col, place, less_by(b, d) as usize, n),
+    match terms.rule {
+        Rule::Carry => part_sum(work, col, place, b.saturating_sub(d) as usize, n),
         Rule::Zero => register(work, col, place + zero_entry(b, d)) % Q,
         Rule::Top => listed_sum(work, col, terms, tops),
-        Rule::Over => part_sum(work, col, place, less_by(b + 1, d) as usize, n),
-        Rule::Below => part_sum(work, col, place, 0, least(d as usize, n)),
+        Rule::Over => part_sum(work, col, place, (b + 1).saturating_sub(d) as usize, n),
+        Rule::Below => part_sum(work, col, place, 0, (d as usize).min(n)),
     }
 }
 
-// An entry of the vector of n at a place, or 0 behind its end.
-fn entry_at(work: &[u32], col: usize, place: usize, n: usize, x: usize) -> u32
-    requires { ((col + 1) * places ≤ length work.now) × (place + n ≤ own_at 0) }
-    ensures { result ≡ cond (ltb x n) (column work.now col (place + x)) 0 % q }
+// Entry x of the vector, or 0 where there is none.
+fn entry_at(work: &[u32], col: usize, terms: Weighted, x: Option<u32>) -> u32
+    requires { ((col + 1) * places ≤ length work.now) × (terms.place + terms.n ≤ own_at 0) }
+    ensures { MatchOption x (result ≡ 0) (λ x. result ≡ cond (ltb x terms.n) (column work.now col (terms.place + x)) 0 % q) }
 {
-    if x < n {
-        return register(work, col, place + x) % Q;
+    match x {
+        Some(x) if (x as usize) < terms.n => register(work, col, terms.place + x as usize) % Q,
+        _ => 0,
     }
-    0
-}
-
-// The entry x with x + d = b, or n if there is none.
-fn back_from(b: u32, d: u32, n: usize) -> usize
-    ensures { result ≡ cond (leb d b) (b - d) n }
-{
-    if d <= b {
-        return (b - d) as usize;
-    }
-    n
 }
 
 // What the weighted sum grows by where the digit is one higher: one weight becomes 1, for Zero one becomes 0 too. For Top any may change:
@@ -315,19 +264,17 @@ pub fn raised_by(work: &[u32], col: usize, terms: Weighted, rises: &[u32]) -> u3
     ensures { (κ : ℕ) → result
         ≡ value q κ (column work.now col) (sum terms.n terms.place (weigh terms.rule terms.limit (terms.digit + 1)) ⊟ sum terms.n terms.place (weigh terms.rule terms.limit terms.digit)) }
 {
-    let rule = terms.rule;
     let place = terms.place;
-    let n = terms.n;
     let b = terms.limit;
     let d = terms.digit;
-    match rule {
-        Rule::Carry => entry_at(work, col, place, n, back_from(b, d + 1, n)),
+    match terms.rule {
+        Rule::Carry => entry_at(work, col, terms, b.checked_sub(d + 1)),
         Rule::Zero => sub_mod(
             register(work, col, place + zero_entry(b, d + 1)),
             register(work, col, place + zero_entry(b, d)),
         ),
         Rule::Top => listed_sum(work, col, terms, rises),
-        Rule::Over => entry_at(work, col, place, n, back_from(b, d, n)),
-        Rule::Below => entry_at(work, col, place, n, d as usize),
+        Rule::Over => entry_at(work, col, terms, b.checked_sub(d)),
+        Rule::Below => entry_at(work, col, terms, Some(d)),
     }
 }

@@ -1,19 +1,13 @@
 -- `slice::clear` meets its contract.
-use mathlib.Core.Path.{refl, sym, ap, ◌∙◌}
-use Prim.Native.Nat.{ℕ}
-use native.Mathlib.Omega.{arith}
-use lib.ListN.{length}
-use Rattle.lists.proofs.Fill.{fill_none, fill-next, length-fill}
+use Rattle.std.proofs.Common.{arith}
+use Rattle.slice.proofs.Parts.{cleared, cleared_last, all_cleared}
 use Rattle.slice.proofs.clear.Goals as goal
 
-pub loop-done-init : goal.loop-done-init
-loop-done-init c = (omega arith, sym (fill_none _ _ _), refl)
+pub loop-at-preserved : goal.loop-at-preserved
+loop-at-preserved c = λ k h. cleared _ _ _ _ (omega arith) (omega arith) (c.fill.ensures.after (λ y e. e)) c.loop-at.invariant k (omega arith)
 
-pub loop-done-preserved : goal.loop-done-preserved
-loop-done-preserved c =
-    let loop = c.loop-done in
-    let block = c.clear_block.ensures in (
-      omega arith,
-      fill-next _ _ _ _ _ _ _ _ (λ (j : ℕ). 0) _ loop.invariant.1 block refl refl (λ k h. refl),
-      ap length block ∙ length-fill _ _ _ _ ∙ loop.invariant.2,
-    )
+pub returns : goal.returns
+returns c = all_cleared _ _ (omega arith) c.loop-at.invariant
+
+pub returns-2 : goal.returns-2
+returns-2 c = cleared_last _ _ _ _ (omega arith) (omega arith) (c.fill.ensures.after (λ y e. e)) (omega arith) c.loop-at.invariant

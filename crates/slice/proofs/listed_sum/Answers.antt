@@ -7,9 +7,8 @@ use Rattle.slice.proofs.listed_sum.Goals as goal
 
 pub loop-j-init : goal.loop-j-init
 unfolding sum_to
-loop-j-init c = (omega arith, refl, omega arith)
+loop-j-init c = (refl, omega arith)
 
 pub loop-j-preserved : goal.loop-j-preserved
 unfolding sum_to
-loop-j-preserved c =
-    (omega arith, rw (add-one, ← c.register.ensures, ← c.times-total.ensures.0, ← c.loop-j.invariant.1), omega arith)
+loop-j-preserved c = (rw (add-one, ← c.register.ensures, ← c.times-total.ensures.0, ← c.loop-j.invariant.0), omega arith)

@@ -1,5 +1,5 @@
 -- `slice::listed_sum` meets its contract.
-use Prim.Native.Nat.{ℕ, ◌≤◌, ◌-◌, ◌+◌, ◌*◌}
+use Prim.Native.Nat.{ℕ, ◌≤◌, ◌+◌, ◌*◌}
 use mathlib.Core.Path.{◌≡◌}
 use Rattle.field.specs.Sums.{sum_to}
 use lib.ListN.{get_or}
@@ -8,7 +8,4 @@ use Rattle.slice.proofs.listed_sum.Given as goal
 
 abbrev pub invariant-loop-j : goal.invariant-loop-j
 invariant-loop-j l =
-    (l.j ≤ l.terms.n) × (l.total ≡ sum_to l.j (λ (i : ℕ). get_or l.list (i + l.d) 0 * column l.work l.col (l.terms.place + i))) × (l.total ≤ l.j * 72057594037927936)
-
-abbrev pub decreases-loop-j : goal.decreases-loop-j
-decreases-loop-j l = l.terms.n - l.j
+    (l.total ≡ sum_to l.j (λ (i : ℕ). get_or l.list (i + l.d) 0 * column l.work l.col (l.terms.place + i))) × (l.total ≤ l.j * 72057594037927936)

@@ -7,7 +7,4 @@ use Rattle.slice.proofs.part_sum.Given as goal
 
 abbrev pub invariant-loop-j : goal.invariant-loop-j
 invariant-loop-j l =
-    (l.from ≤ l.j) × (l.j - l.from ≤ l.to - l.from) × (l.total ≡ sum_to (l.j - l.from) (λ (i : ℕ). column l.work l.col (l.place + (l.from + i)))) × (l.total ≤ (l.j - l.from) * 4294967296)
-
-abbrev pub decreases-loop-j : goal.decreases-loop-j
-decreases-loop-j l = l.to - l.j
+    (l.j - l.from ≤ l.to - l.from) × (l.total ≡ sum_to (l.j - l.from) (λ (i : ℕ). column l.work l.col (l.place + (l.from + i)))) × (l.total ≤ (l.j - l.from) * 4294967296)

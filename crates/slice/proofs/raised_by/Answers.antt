@@ -1,12 +1,12 @@
 -- `slice::raised_by` meets its contract: each rule's law.
 use Prim.Native.Nat.{ℕ, ◌+◌, ◌%◌}
-use mathlib.Core.Path.{sym, ap, ap₂, ◌∙◌}
+use mathlib.Core.Path.{refl, sym, ap, ap₂, ◌∙◌}
 use native.Mathlib.Omega.{arith}
 use Rattle.field.specs.Field.{q, sub}
 use Rattle.field.proofs.Differences.{reduced_difference}
 use Rattle.slice.specs.Layout.{column}
 use Rattle.slice.specs.Weights.{weigh}
-use Rattle.slice.proofs.Ranges.{carry_raised, zero-sum, top_raised, rises_length, rises_small, over_raised, below_raised}
+use Rattle.slice.proofs.Ranges.{entry_back, carry_raised, zero-sum, top_raised, rises_length, rises_small, over_raised, below_raised}
 use lib.ListN.{length}
 use Rattle.slice.proofs.raised_by.Goals as goal
 
@@ -20,8 +20,9 @@ listed_sum-requires c =
 pub returns-in-Carry : goal.returns-in-Carry
 returns-in-Carry c κ =
     let a = c.args in
+    let r : ℕ → ℕ = λ j. column a.work.now a.col (a.terms.place + j) in
     rw c.in-Carry.is
-    (c.entry_at.ensures ∙ carry_raised a.terms.n a.terms.limit a.terms.digit (λ (j : ℕ). column a.work.now a.col (a.terms.place + j)) _ c.back_from.ensures)
+    (entry_back a.terms.limit (a.terms.digit + 1) a.terms.n _ r _ c.checked_sub.ensures c.entry_at.ensures _ refl ∙ carry_raised a.terms.n a.terms.limit a.terms.digit r _ refl)
 
 pub returns-in-Zero : goal.returns-in-Zero
 returns-in-Zero c κ =
@@ -52,8 +53,9 @@ returns-in-Top c κ =
 pub returns-in-Over : goal.returns-in-Over
 returns-in-Over c κ =
     let a = c.args in
+    let r : ℕ → ℕ = λ j. column a.work.now a.col (a.terms.place + j) in
     rw c.in-Over.is
-    (c.entry_at-in-Over.ensures ∙ over_raised a.terms.n a.terms.limit a.terms.digit (λ (j : ℕ). column a.work.now a.col (a.terms.place + j)) _ c.back_from-in-Over.ensures)
+    (entry_back a.terms.limit a.terms.digit a.terms.n _ r _ c.checked_sub-in-Over.ensures c.entry_at-in-Over.ensures _ refl ∙ over_raised a.terms.n a.terms.limit a.terms.digit r _ refl)
 
 pub returns-in-Below : goal.returns-in-Below
 returns-in-Below c κ =

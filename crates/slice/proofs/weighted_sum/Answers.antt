@@ -21,7 +21,7 @@ pub returns-in-Carry : goal.returns-in-Carry
 returns-in-Carry c κ =
     let a = c.args in
     rw c.in-Carry.is
-    (c.part_sum.ensures ∙ rw c.less_by.ensures (ap (λ (x : ℕ). x % q)
+    (c.part_sum.ensures ∙ rw c.saturating_sub.ensures (ap (λ (x : ℕ). x % q)
     (sym (carry-sum a.terms.n a.terms.limit a.terms.digit (λ (j : ℕ). column a.work.now a.col (a.terms.place + j))))))
 
 pub returns-in-Zero : goal.returns-in-Zero
@@ -48,12 +48,12 @@ pub returns-in-Over : goal.returns-in-Over
 returns-in-Over c κ =
     let a = c.args in
     rw c.in-Over.is
-    (c.part_sum-in-Over.ensures ∙ rw c.less_by-in-Over.ensures (ap (λ (x : ℕ). x % q)
+    (c.part_sum-in-Over.ensures ∙ rw c.saturating_sub-in-Over.ensures (ap (λ (x : ℕ). x % q)
     (sym (over-sum a.terms.n a.terms.limit a.terms.digit (λ (j : ℕ). column a.work.now a.col (a.terms.place + j))))))
 
 pub returns-in-Below : goal.returns-in-Below
 returns-in-Below c κ =
     let a = c.args in
     rw c.in-Below.is
-    (c.part_sum-in-Below.ensures ∙ rw c.least.ensures.0 (ap (λ (x : ℕ). x % q)
+    (c.part_sum-in-Below.ensures ∙ rw c.min.ensures (ap (λ (x : ℕ). x % q)
     (sym (below-sum a.terms.n a.terms.limit a.terms.digit (λ (j : ℕ). column a.work.now a.col (a.terms.place + j))))))
