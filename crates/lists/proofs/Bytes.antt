@@ -1,45 +1,50 @@
--- The loops that copy bytes and that look for one.
+-- The length before a byte.
 use Prim.Native.Nat.{ℕ, suc, ◌+◌, ◌-◌, ◌≤◌, ◌<◌}
 use mathlib.Core.Path.{◌≡◌, refl, sym, ap, ◌∙◌}
 use mathlib.Core.Bool.{Bool, true, false, cond, not, true≢false}
+use Rattle.std.specs.List.{position, position_or_len}
+use Rattle.std.specs.Option.{unwrap_or}
+use native.Mathlib.Decide.{dec_lt}
 use mathlib.Core.List.{List, [], ◌∷◌, ◌++◌}
-use native.Mathlib.Numerals.{add-one}
 use native.Mathlib.Nat.{zero-add}
 use native.Mathlib.Omega.{arith}
-use borrow.Author.Tests.{eq-eqb, ne_eqb}
+use borrow.Author.Tests.{lt-ltb, le-ltb}
 use lib.Dec.{eqb}
-use lib.ListN.{length, get_or, set, take, drop, drop_of_length-le, length-drop, take-append-drop}
-use lib.Seq.{paste, paste-suc, drop-cons, drop-drop, length-take-le, take_all}
+use lib.ListN.{length, take, drop, length-drop, take-append-drop}
+use lib.Seq.{drop-drop, length-take-le, take_all}
 use Rattle.lists.specs.Lists.{every, length_before}
-
--- ---- copying
-
-pub copy_more : (d k s : List ℕ) (at i : ℕ) → at + i < length d → i < length s → k ≡ paste d at s i → set k (at + i) (get_or s i 0) ≡ paste d at s (i + 1)
-copy_more d k s at i h l e = rw (e, add-one i) (paste-suc d at s i 0 h l)
-
-pub copy_done : (d k s : List ℕ) (at i n : ℕ) → i ≤ n → n ≤ i → k ≡ paste d at s i → k ≡ paste d at s n
-copy_done d k s at i n h l e = let f : i ≡ n = omega arith in rw f at e
 
 -- ---- the length before a byte
 
-pub length_more : (b : ℕ) (s : List ℕ) (i t : ℕ) → i < length s → (get_or s i 0 ≡ b → ⊥)
-    → i + length_before b (drop i s) ≡ t → (i + 1) + length_before b (drop (i + 1) s) ≡ t
+pub length_before_most : (b : ℕ) (bs : List ℕ) → length_before b bs ≤ length bs
 unfolding length_before
-length_more b s i t h n e =
-    let f : i + suc (length_before b (drop (suc i) s)) ≡ t = rw (drop-cons s i 0 h, ne_eqb (get_or s i 0) b n) at e in
-    rw add-one (omega (arith, f))
+length_before_most b [] = omega arith
+length_before_most b (x ∷ bs) = go (eqb x b) (length_before_most b bs)
+  where
+    go : (t : Bool) → length_before b bs ≤ length bs → cond t 0 (suc (length_before b bs)) ≤ suc (length bs)
+    go true ih = omega arith
+    go false ih = omega arith
 
-pub length_found : (b : ℕ) (s : List ℕ) (i t : ℕ) → i < length s → get_or s i 0 ≡ b → i + length_before b (drop i s) ≡ t → i ≡ t
+-- the place of the first, or the length
+pub length-position : (b : ℕ) (s : List ℕ) → length_before b s ≡ position_or_len (λ (x : ℕ). eqb x b) s
 unfolding length_before
-length_found b s i t h n e =
-    let f : i + 0 ≡ t = rw (drop-cons s i 0 h, eq-eqb (get_or s i 0) b n) at e in
-    omega (arith, f)
+length-position b [] = refl
+length-position b (x ∷ s) = go (eqb x b) (length-position b s)
+  where
+    go : (t : Bool) → length_before b s ≡ position_or_len (λ (y : ℕ). eqb y b) s
+        → cond t 0 (suc (length_before b s)) ≡ cond (not t) (1 + position_or_len (λ (y : ℕ). eqb y b) s) 0
+    go true ih = refl
+    go false ih = omega (arith, ih)
 
-pub length-end : (b : ℕ) (s : List ℕ) (i t : ℕ) → length s ≤ i → i + length_before b (drop i s) ≡ t → i ≡ t
-unfolding length_before
-length-end b s i t h e =
-    let f : i + 0 ≡ t = rw (drop_of_length-le s h) at e in
-    omega (arith, f)
+pub length_found : (b : ℕ) (s : List ℕ) → unwrap_or (position (λ (x : ℕ). eqb x b) s) (length s) ≡ length_before b s
+length_found b s = go (dec_lt (length_before b s) (length s))
+  where
+    most : length_before b s ≤ length s
+    most = length_before_most b s
+
+    go : Dec (length_before b s < length s) → unwrap_or (position (λ (x : ℕ). eqb x b) s) (length s) ≡ length_before b s
+    go (yes l) = rw (← length-position b s, lt-ltb (length_before b s) (length s) l)
+    go (no l) = rw (← length-position b s, le-ltb (length_before b s) (length s) (omega (arith, l))) (omega (arith, l, most))
 
 -- bytes that are all others are passed at once
 length-behind : (b : ℕ) (xs ys : List ℕ) → every (λ (x : ℕ). not (eqb x b)) xs ≡ true → length_before b (xs ++ ys) ≡ length xs + length_before b ys
@@ -63,12 +68,3 @@ length_skip b s i n t h e inv =
 pub length_rest : (b : ℕ) (s : List ℕ) (i n : ℕ) → i + length_before b (drop i s) ≡ length_before b s → n ≡ length_before b (take (length s - i) (drop i s))
     → i + n ≡ length_before b s
 length_rest b s i n e l = rw (l, take_all (length s - i) (drop i s) (omega (arith, length-drop i s))) e
-
-pub length_before_most : (b : ℕ) (bs : List ℕ) → length_before b bs ≤ length bs
-unfolding length_before
-length_before_most b [] = omega arith
-length_before_most b (x ∷ bs) = go (eqb x b) (length_before_most b bs)
-  where
-    go : (t : Bool) → length_before b bs ≤ length bs → cond t 0 (suc (length_before b bs)) ≤ suc (length bs)
-    go true ih = omega arith
-    go false ih = omega arith

@@ -1,14 +1,15 @@
 -- Tests of every member of a list: one member, and a loop that stops at the first that fails.
-use mathlib.Core.Path.{◌≡◌, refl, sym, ◌∙◌, ap₂}
-use mathlib.Core.Bool.{Bool, true, false, ◌&&◌, and-false, and-true}
+use mathlib.Core.Path.{◌≡◌, refl, sym, ◌∙◌, ap, ap₂}
+use mathlib.Core.Bool.{Bool, true, false, not, ◌&&◌, ◌||◌, and-false, and-true}
 use mathlib.Core.List.{List, [], ◌∷◌, ◌++◌}
 use Prim.Native.Nat.{ℕ, zero, suc, ◌+◌, ◌≤◌, ◌<◌}
 use native.Mathlib.Numerals.{add-one}
 use native.Mathlib.Nat.{zero-add, add-zero}
 use native.Mathlib.Omega.{arith}
 use native.Mathlib.Decide.{dec_lt}
-use lib.Dec.{ltb}
-use borrow.Author.Tests.{ltb-true, lt-ltb, le-ltb}
+use lib.Dec.{ltb, leb}
+use borrow.Author.Tests.{ltb-true, lt-ltb, le-ltb, le-leb, lt-leb}
+use Rattle.std.specs.List.{fold}
 use lib.ListN.{length, get_or, drop, drop_of_length-le}
 use lib.Seq.{drop-cons}
 use Rattle.lists.specs.Lists.{every, all_below, all_to, list_from, join_from}
@@ -29,37 +30,20 @@ module _ (f : ℕ → Bool) (xs : List ℕ) (i : ℕ) where
   unfolding every
   every-end h inv = rw (drop_of_length-le xs h) at inv
 
-  -- a loop that looks at every number, `good` being whether all passed so far
-  step : i < length xs → every f (drop i xs) ≡ (f (get_or xs i 0) && every f (drop (i + 1) xs))
-  unfolding every
-  step h = rw (drop-cons xs i 0 h, add-one) refl
+-- whether none of the numbers that are all looked at fails
+pub none_found : {A : Type 0} (f g : A → Bool) → ((x : A) → not (g x) ≡ f x) → (found : Bool) (xs : List A)
+    → not (fold (λ (b : Bool) (x : A). b || g x) found xs) ≡ (not found && every f xs)
+unfolding every
+none_found f g same found [] = sym (and-true (not found))
+none_found f g same true (x ∷ xs) = none_found f g same true xs
+none_found f g same false (x ∷ xs) = none_found f g same (g x) xs ∙ ap (λ (b : Bool). b && every f xs) (same x)
 
-  pub every-passed : (good : Bool) → i < length xs → f (get_or xs i 0) ≡ true → (good && every f (drop i xs)) ≡ every f xs → (good && every f (drop (i + 1) xs)) ≡ every f xs
-  every-passed good h e inv = rw (step h, e) at inv
-
-  pub every_failed : (good : Bool) → i < length xs → f (get_or xs i 0) ≡ false → (good && every f (drop i xs)) ≡ every f xs → false ≡ every f xs
-  every_failed good h e inv = sym (and-false good) ∙ rw (step h, e) at inv
-
-  pub every_ended : (good : Bool) → length xs ≤ i → (good && every f (drop i xs)) ≡ every f xs → good ≡ every f xs
-  unfolding every
-  every_ended good h inv = sym (and-true good) ∙ rw (drop_of_length-le xs h) at inv
-
--- the same for numbers below m
-module _ (m : ℕ) (xs : List ℕ) (i : ℕ) where
-  abbrev less : ℕ → Bool
-  less x = ltb x m
-
-  pub below-passed : (good : Bool) → i < length xs → get_or xs i 0 < m → (good && all_below m (drop i xs)) ≡ all_below m xs → (good && all_below m (drop (i + 1) xs)) ≡ all_below m xs
-  unfolding all_below
-  below-passed good h e inv = every-passed less xs i good h (lt-ltb (get_or xs i 0) m e) inv
-
-  pub below_failed : (good : Bool) → i < length xs → m ≤ get_or xs i 0 → (good && all_below m (drop i xs)) ≡ all_below m xs → false ≡ all_below m xs
-  unfolding all_below
-  below_failed good h e inv = every_failed less xs i good h (le-ltb (get_or xs i 0) m e) inv
-
-  pub below_ended : (good : Bool) → length xs ≤ i → (good && all_below m (drop i xs)) ≡ all_below m xs → good ≡ all_below m xs
-  unfolding all_below
-  below_ended good h inv = every_ended less xs i good h inv
+pub not_leb : (m x : ℕ) → not (leb m x) ≡ ltb x m
+not_leb m x = go (dec_lt x m)
+  where
+    go : Dec (x < m) → not (leb m x) ≡ ltb x m
+    go (yes l) = rw (lt-ltb x m l, lt-leb m x l)
+    go (no l) = rw (le-ltb x m (omega (arith, l)), le-leb m x (omega (arith, l)))
 
 -- ---- one member
 

@@ -4,9 +4,10 @@ use mathlib.Core.List.{List, ◌∷◌, ◌++◌, []}
 use Prim.Native.Nat.{ℕ, zero, suc, ◌+◌, ◌-◌, ◌≤◌, ◌<◌}
 use native.Mathlib.Omega.{arith}
 use native.Mathlib.Numerals.{add-one}
-use lib.ListN.{length, get_or, set, drop, length-set, take}
+use lib.ListN.{length, get_or, set, drop, length-set, length-drop, take}
+use Rattle.std.proofs.lemmas.List.{get_or-take, get_or-drop}
 use native.Mathlib.Nat.{zero-add, add-zero, add-suc, add_assoc, suc-add}
-use lib.Seq.{get_or-set_same, get_or-set_other, ext_get_or, drop-set-lt, set_comm, take_at}
+use lib.Seq.{get_or-set_same, get_or-set_other, ext_get_or, drop-set-lt, set_comm, take_at, paste, paste-zero, paste-suc, length-take-le}
 use native.Mathlib.Decide.{dec_lt}
 use Rattle.lists.specs.Lists.{fill, list_to, in_front}
 use Rattle.lists.proofs.Lists.{length-list_from, get_d_list_to, prefix_is, list_to_get_d}
@@ -171,3 +172,21 @@ fill-below s i (suc n) f m h k = set_below (fill s i n f) (i + n) (f n) m (k n) 
 -- a turn of the loop over the columns
 pub stored : (s₀ s : List ℕ) (i n x : ℕ) (f : ℕ → ℕ) → s ≡ fill s₀ i n f → x ≡ f n → set s (i + n) x ≡ fill s₀ i (n + 1) f
 stored s₀ s i n x f e h = rw (fill_more, e, h)
+
+-- a list that is copied, by its index function
+pub paste_fill : (to s : List ℕ) (at n : ℕ) → at + n ≤ length to → n ≤ length s → paste to at s n ≡ fill to at n (λ (j : ℕ). get_or s j 0)
+unfolding fill
+paste_fill to s at zero h l = sym (paste-zero to at s)
+paste_fill to s at (suc n) h l =
+    sym (paste-suc to at s n 0 (omega arith) (omega arith)) ∙ ap (λ (r : List ℕ). set r (at + n) (get_or s n 0)) (paste_fill to s at n (omega arith) (omega arith))
+
+-- the same of n numbers of a list from place `first` on
+pub paste_part : (to from : List ℕ) (at first n : ℕ) → at + n ≤ length to → first + n ≤ length from
+    → paste to at (take n (drop first from)) (length (take n (drop first from))) ≡ fill to at n (λ (j : ℕ). get_or from (first + j) 0)
+paste_part to from at first n h l =
+    let part : List ℕ = take n (drop first from) in
+    let m : length part ≡ n = length-take-le n (drop first from) (omega (arith, length-drop first from)) in
+    ap (paste to at part) m
+    ∙ paste_fill to part at n h (omega (arith, m))
+    ∙ fill-same to at n (λ (j : ℕ). get_or part j 0) (λ (j : ℕ). get_or from (first + j) 0)
+    (λ j k. get_or-take n (drop first from) j 0 k ∙ get_or-drop first from j 0)

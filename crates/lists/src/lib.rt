@@ -13,37 +13,31 @@ const BLOCK: usize = 32;
 pub fn least(a: usize, b: usize) -> usize
     ensures { (result ≡ min a b) × (result ≤ a) × (result ≤ b) }
 {
-    if a < b {
-        return a;
-    }
-    b
+    a.min(b)
 }
 
 // Is every number below the limit? None is passed over after a first no, so that several are compared at a time.
 pub fn all_below(numbers: &[u32], limit: u32) -> bool
     ensures { result ≡ all_below limit numbers.now }
 {
-    let mut good = true;
-    let mut i = 0;
-    while i < numbers.len() {
-        if numbers[i] >= limit {
-            good = false;
-        }
-        i += 1;
-    }
-    good
+    !numbers.iter().fold(false, |found, x| found | (*x >= limit))
+}
+
+// `from`, to the places of `to` from `at` on. The caller knows that there are so many.
+pub fn copy_part<T: Copy>(to: &mut [T], at: usize, from: &[T])
+    requires { at + length from.now ≤ length to.old }
+    ensures { to.new ≡ paste to.old at from.now (length from.now) }
+{
+    to[at..at + from.len()].copy_from_slice(from);
 }
 
 // n numbers of `from` from place `first` on, to the places of `to` from `at` on. The caller knows that there are so many in both.
+#[tactic(auto, using(crate::proofs::Fill::paste_part))]
 pub fn copy_numbers(to: &mut [u32], at: usize, from: &[u32], first: usize, n: usize)
     requires { (at + n ≤ length to.old) × (first + n ≤ length from.now) }
     ensures { to.new ≡ fill to.old at n (λ (j : ℕ). get_or from.now (first + j) 0) }
 {
-    let mut j = 0;
-    while j < n {
-        to[at + j] = from[first + j];
-        j += 1;
-    }
+    copy_part(to, at, &from[first..first + n]);
 }
 
 // The first n bytes of `from`, to the places of `to` from `at` on. The caller knows that there are so many in both.
@@ -51,40 +45,21 @@ pub fn copy_bytes(to: &mut [u8], at: usize, from: &[u8], n: usize)
     requires { (at + n ≤ length to.old) × (n ≤ length from.now) }
     ensures { to.new ≡ paste to.old at from.now n }
 {
-    let mut i = 0;
-    while i < n {
-        to[at + i] = from[i];
-        i += 1;
-    }
+    copy_part(to, at, &from[..n]);
 }
 
 // How many bytes stand before the first that equals `byte`; all, where there is none.
 pub fn length_before(bytes: &[u8], byte: u8) -> usize
     ensures { (result ≡ length_before byte bytes.now) × (result ≤ length bytes.now) }
 {
-    let mut i = 0;
-    while i < bytes.len() {
-        if bytes[i] == byte {
-            return i;
-        }
-        i += 1;
-    }
-    i
+    bytes.iter().position(|x| *x == byte).unwrap_or(bytes.len())
 }
 
 // Is `byte` nowhere in the block? None of its bytes is passed over after a first match, so that several are compared at a time.
 fn lacks(block: &[u8], byte: u8) -> bool
     ensures { result ≡ every (λ (x : ℕ). not (eqb x byte)) block.now }
 {
-    let mut good = true;
-    let mut i = 0;
-    while i < block.len() {
-        if block[i] == byte {
-            good = false;
-        }
-        i += 1;
-    }
-    good
+    !block.iter().fold(false, |found, x| found | (*x == byte))
 }
 
 // How many bytes stand in whole blocks before the first block with `byte` in it.

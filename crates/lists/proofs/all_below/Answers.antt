@@ -1,23 +1,14 @@
--- `lists::all_below` meets its contract: what was seen and the rest pass just if all do.
-use mathlib.Core.Path.{ap, ◌∙◌}
-use mathlib.Core.Bool.{Bool, ◌&&◌}
-use Prim.Native.Nat.{◌+◌}
-use borrow.Author.Rules.{rules}
-use lib.ListN.{drop}
+-- `lists::all_below` meets its contract.
+use Rattle.std.proofs.Common.{arith, ◌≡◌, ◌∙◌, ap, Bool, false, not, ◌||◌, ℕ, leb, ltb}
+use Rattle.std.specs.List.{fold}
+use Rattle.std.proofs.lemmas.Grind.{common_steps}
 use Rattle.lists.specs.Lists.{all_below}
-use Rattle.lists.proofs.Every.{below-passed, below_failed, below_ended}
+use Rattle.lists.proofs.Every.{none_found, not_leb}
 use Rattle.lists.proofs.all_below.Goals as goal
-use Rattle.lists.proofs.all_below.Goals.{then-numbers-i, else-numbers-i}
-
-pub loop-i-preserved : goal.loop-i-preserved
-loop-i-preserved c =
-    let turn = c in
-    let seen = turn.loop-i in
-    let a = turn.args in
-    let rest : Bool → Bool = λ good. good && all_below a.limit (drop (seen.i + 1) a.numbers.now) in (
-      search rules,
-      elim c.if-numbers-i.branch [ then-numbers-i w ↦ ap rest w.good-is ∙ below_failed a.limit _ _ seen.good turn.loop-i-test.true w.if-numbers-i.true seen.invariant.1 | else-numbers-i w ↦ ap rest w.good-is ∙ below-passed a.limit _ _ seen.good turn.loop-i-test.true w.if-numbers-i.false seen.invariant.1 ],
-    )
 
 pub returns : goal.returns
-returns c = below_ended _ _ _ c.loop-i.good c.loop-i-test.false c.loop-i.invariant.1
+unfolding all_below
+returns c =
+    let m : ℕ = c.args.limit in
+    let e : c.fold.result ≡ fold (λ (found : Bool) (x : ℕ). found || leb m x) false c.args.numbers.now = grind (arith, common_steps) in
+    ap not e ∙ none_found (λ (x : ℕ). ltb x m) (leb m) (not_leb m) false c.args.numbers.now
