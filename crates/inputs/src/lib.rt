@@ -12,14 +12,6 @@ use std::rt::{Env, Files};
 // No path is longer.
 const PATH_LENGTH: usize = 4096;
 
-// What an argument names: nothing, if there is no such argument; a file that cannot be opened; or a file that is open now.
-#[derive(Drop)]
-pub enum Named<F> {
-    Nothing,
-    Refused,
-    Open(F),
-}
-
 // Argument i, put in front of `word`: how many bytes it has. Nothing, if there is no such argument.
 pub fn argument(rt: &impl Env, i: usize, word: &mut [u8]) -> Option<usize>
     ensures { IfSome result (λ n. n ≤ length word.new) }
@@ -38,27 +30,24 @@ pub fn has_argument(rt: &impl Env, i: usize) -> bool {
 }
 
 // Opens a file to read it. Where that fails, says so on standard error.
-fn open_path<R: Files + Eprint>(rt: &R, path: &str) -> Named<R::File> {
+fn open_path<R: Files + Eprint>(rt: &R, path: &str) -> Option<R::File> {
     match File::open(rt, path) {
-        Ok(file) => Named::Open(file),
+        Ok(file) => Some(file),
         Err(error) => {
             let _ = eprintln!(rt; "{path}: {error}");
-            Named::Refused
+            None
         }
     }
 }
 
-// What argument i names, opened to read it. Where that fails, says so on standard error.
-pub fn open_argument<R: Env + Files + Eprint>(rt: &R, i: usize) -> Named<R::File> {
+// The file that argument i names, opened to read it. Nothing, if there is no such argument; `Some(None)`, if the file cannot be opened,
+// which is said on standard error.
+pub fn open_argument<R: Env + Files + Eprint>(rt: &R, i: usize) -> Option<Option<R::File>> {
     let mut word = [0u8; PATH_LENGTH];
-    let Some(n) = argument(rt, i, &mut word) else {
-        return Named::Nothing;
+    let n = argument(rt, i, &mut word)?;
+    let Ok(path) = std::str::from_utf8(&word[..n]) else {
+        let _ = eprintln!(rt; "argument {i}: no UTF-8 text");
+        return Some(None);
     };
-    match std::str::from_utf8(&word[..n]) {
-        Ok(path) => open_path(rt, path),
-        Err(_) => {
-            let _ = eprintln!(rt; "argument {i}: no UTF-8 text");
-            Named::Refused
-        }
-    }
+    Some(open_path(rt, path))
 }

@@ -1,17 +1,16 @@
 -- The last line: the generator's state.
-use Prim.Native.Nat.{ℕ, ◌+◌, ◌≤◌, ◌<◌}
-use mathlib.Core.Path.{◌≡◌, refl, ap, ◌∙◌}
+use Prim.Native.Nat.{ℕ, ◌≤◌, ◌<◌}
+use mathlib.Core.Path.{◌≡◌, refl}
 use mathlib.Core.Logic.{◌≢◌}
 use mathlib.Core.List.{List, [], ◌∷◌, ◌++◌}
 use native.Mathlib.Omega.{arith}
 use borrow.Author.Tests.{ne_eqb}
-use lib.ListN.{length, take, length-append}
+use lib.ListN.{length, length-append}
 use Rattle.text.specs.Decimal.{too_large}
 use Rattle.text.specs.Text.{Text, text_at, puts, decimal}
 use Rattle.text.proofs.Decimals.{length_decimal_32}
-use Rattle.text.proofs.Puts.{put_then, front-put, within-put, length-put}
-use Rattle.stream.specs.Theorems.{Outcome}
-use Rattle.line_input.specs.Answers.{state_line, closed}
+use Rattle.text.proofs.Puts.{put_then}
+use Rattle.line_input.specs.Answers.{state_line}
 
 -- without a generator nothing is put
 pub no_state : (t : Text) (state : ℕ) → state ≡ 0 → (t ≡ puts t (state_line state)) × (length (state_line state) ≤ 11)
@@ -27,12 +26,3 @@ pub some-state : (t digits end : Text) (state : ℕ) → state ≢ 0 → state <
 some-state t digits end state h l e f =
     rw (state-is state h)
     (put_then t (decimal state) (10 ∷ []) e f, omega (arith, length-append (decimal state) (10 ∷ []), length_decimal_32 state l))
-
--- behind the answer to a last line
-module _ (outcome : Outcome ℕ) (out out' : List ℕ) (at state r : ℕ) (e : ◌≡◌ {A = Outcome ℕ} (record { written = take at out; carried = state }) outcome)
-    (f : text_at out' r ≡ puts (text_at out at) (state_line state)) (room : at + length (state_line state) ≤ length out) where
-  pub closed_by : take r out' ≡ closed outcome
-  closed_by = front-put out at (state_line state) out' r f room ∙ ap closed e
-
-  pub closed-within : r ≤ length out
-  closed-within = omega (arith, within-put out at (state_line state) out' r f (omega (arith, room)), length-put out at (state_line state) out' r f)

@@ -5,6 +5,7 @@ pub mod Splitting
 pub mod Onto
 pub mod Parts
 pub mod Calls
+pub mod Closing
 pub mod Waiting
 pub mod Flushing
 pub mod Samples

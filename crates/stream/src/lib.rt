@@ -1,9 +1,15 @@
 // Lines of an input that is read one part after another: a part may end anywhere in a line.
 #![tactic(auto)]
 
+mod answers;
+mod reading;
+
 ghost use Rattle.std.specs.Prelude.{◌≡◌, length};
 ghost use Rattle.lists.specs.Lists.{in_front};
 ghost use Rattle.stream.specs.Stream.{at_start, number_after, at_line, with_bytes, kept_after, next_line, is_left};
+
+pub use answers::LineAnswerer;
+pub use reading::answer_inputs;
 
 use lists::{copy_bytes, least, length_before_by_blocks};
 

@@ -10,7 +10,7 @@
 mod lines;
 mod whole;
 
-use inputs::{Named, has_argument, open_argument};
+use inputs::{has_argument, open_argument};
 use std::io;
 use std::io::{Read, Write};
 use std::rt::{Env, Files};
@@ -69,9 +69,9 @@ fn transcribe<R: Read, W: Write>(input: &mut R, output: &mut W) -> io::Result<()
 // The input in the file that argument i names; whether there is such an argument. A file that cannot be opened is passed over.
 fn transcribe_file<R: Env + Files + Print + Eprint>(rt: &R, i: usize) -> io::Result<bool> {
     match open_argument(rt, i) {
-        Named::Nothing => return Ok(false),
-        Named::Refused => {}
-        Named::Open(mut file) => transcribe(&mut file, &mut io::writer(rt))?,
+        None => return Ok(false),
+        Some(None) => {}
+        Some(Some(mut file)) => transcribe(&mut file, &mut io::writer(rt))?,
     }
     Ok(true)
 }

@@ -1,0 +1,158 @@
+// Answers to the lines of a part, put one behind another into a slice that waits to be written.
+ghost use Rattle.std.specs.Prelude.{◌≡◌, ℕ, List, [], ◌+◌, ◌≤◌, ◌<◌, length, take, drop};
+ghost use Rattle.stream.specs.Stream.{next_line};
+ghost use Rattle.stream.specs.Theorems.{Handler, after_call, after_end};
+ghost use Rattle.stream.specs.Waiting.{standing, all_calls, closed_by};
+ghost use Rattle.text.specs.Text.{text_at, puts};
+
+use crate::{Stream, is_left, next_line};
+
+// What a program does with the lines of an input.
+pub trait LineAnswerer {
+    // What it carries from each line to the next.
+    type Carried: Copy;
+
+    ghost handler: { Handler Self.Carried };
+
+    ghost carried: { Self → Self.Carried };
+
+    ghost last_line: { Self.Carried → List ℕ };
+
+    ghost KEPT: { ℕ };
+
+    ghost LONGEST_ANSWER: { ℕ };
+
+    ghost LONGEST_LAST: { ℕ };
+
+    // How many bytes of a line are kept.
+    const KEPT: usize;
+
+    // No output line is longer.
+    const LONGEST_ANSWER: usize;
+
+    // Nor is what stands behind the output lines.
+    const LONGEST_LAST: usize;
+
+    // Before an input: what is carried to its first line.
+    fn start(&mut self, from: Self::Carried)
+        ensures { carried self.new ≡ from };
+
+    // Puts the output line for a line without its line end at a place of `out`: the place behind it.
+    fn answer_line(&mut self, out: &mut [u8], at: usize, number: u64, line: &[u8]) -> usize
+        ensures result_after { text_at out.new result ≡ puts (text_at out.old at) (handler.answer number line.now) }
+        ensures answer_len_bound { length (handler.answer number line.now) ≤ LONGEST_ANSWER }
+        ensures carried_after { carried self.new ≡ handler.carry number line.now (carried self.old) };
+
+    // Behind the last output line: what tells that which is carried at the end of an input.
+    fn put_last_line(&self, out: &mut [u8], at: usize) -> usize
+        ensures result_after { text_at out.new result ≡ puts (text_at out.old at) (last_line (carried self.now)) }
+        ensures last_len_bound { length (last_line (carried self.now)) ≤ LONGEST_LAST };
+}
+
+// How many bytes of a part have been used, where the input stands after them, and how many bytes wait to be written.
+#[derive(Clone, Copy)]
+pub struct Answered {
+    pub used: usize,
+    pub stream: Stream,
+    pub waiting: usize,
+}
+
+// One call of next_line. A line that has ended is answered behind the bytes that wait.
+fn answer_call<A: LineAnswerer>(
+    answerer: &mut A,
+    stream: Stream,
+    kept: &mut [u8],
+    bytes: &[u8],
+    out: &mut [u8],
+    waiting: usize,
+) -> Answered
+    requires waiting_in_bounds { waiting + A.LONGEST_ANSWER ≤ length out.old }
+    ensures state_after { standing result.stream kept.new out.new result.waiting (A.carried answerer.new)
+        ≡ after_call A.handler (standing stream kept.old out.old waiting (A.carried answerer.old)) bytes.now }
+    ensures used_value { result.used ≡ (next_line stream kept.old bytes.now).used }
+    ensures waiting_in_bounds_2 { result.waiting ≤ length out.old }
+{
+    let step = next_line(stream, kept, bytes);
+    let here = step.stream;
+    if !here.ended {
+        return Answered {
+            used: step.used,
+            stream: here,
+            waiting,
+        };
+    }
+    let end = answerer.answer_line(out, waiting, here.number, &kept[..here.held]);
+    Answered {
+        used: step.used,
+        stream: here,
+        waiting: end,
+    }
+}
+
+// Answers the lines that end in a part until it is used up or the slice may lack room for one more.
+pub fn answer_some<A: LineAnswerer>(
+    answerer: &mut A,
+    stream: Stream,
+    kept: &mut [u8],
+    bytes: &[u8],
+    out: &mut [u8],
+) -> Answered
+    requires in_bounds { A.LONGEST_ANSWER ≤ length out.old }
+    ensures bytes_after { all_calls A.handler (standing result.stream kept.new out.new result.waiting (A.carried answerer.new)) (drop result.used bytes.now)
+        ≡ all_calls A.handler (standing stream kept.old out.old 0 (A.carried answerer.old)) bytes.now }
+    ensures used_in_bounds { result.used ≤ length bytes.now }
+    ensures used_nonzero { 0 < length bytes.now → 0 < result.used }
+    ensures waiting_in_bounds { result.waiting ≤ length out.old }
+{
+    let most = out.len() - A::LONGEST_ANSWER;
+    let mut used = 0;
+    let mut here = stream;
+    let mut waiting = 0;
+    while used < bytes.len() && waiting <= most {
+        let call = answer_call(answerer, here, kept, &bytes[used..], out, waiting);
+        used += call.used;
+        here = call.stream;
+        waiting = call.waiting;
+    }
+    Answered {
+        used,
+        stream: here,
+        waiting,
+    }
+}
+
+// ---- The end of an input
+
+// The answer to the last line, if that lacks its line end. How many bytes wait to be written.
+fn answer_left<A: LineAnswerer>(
+    answerer: &mut A,
+    stream: Stream,
+    kept: &[u8],
+    out: &mut [u8],
+) -> usize
+    requires in_bounds { A.LONGEST_ANSWER ≤ length out.old }
+    ensures state_after { record { written = take result out.new; carried = A.carried answerer.new } ≡ after_end A.handler (standing stream kept.now [] 0 (A.carried answerer.old)) }
+    ensures at_bound { result ≤ A.LONGEST_ANSWER }
+{
+    if !is_left(stream) {
+        return 0;
+    }
+    let n = stream.held.min(kept.len());
+    answerer.answer_line(out, 0, stream.number, &kept[..n])
+}
+
+// When the input has ended: the answer to its last line, if that lacks its line end; and what stands behind the answers. How many bytes
+// wait to be written.
+pub fn put_last<A: LineAnswerer>(
+    answerer: &mut A,
+    stream: Stream,
+    kept: &[u8],
+    out: &mut [u8],
+) -> usize
+    requires in_bounds { A.LONGEST_ANSWER + A.LONGEST_LAST ≤ length out.old }
+    ensures out_after { take result out.new ≡ closed_by A.last_line (after_end A.handler (standing stream kept.now [] 0 (A.carried answerer.old))) }
+    ensures upper_bound { result ≤ length out.old }
+{
+    let end = answer_left(answerer, stream, kept, out);
+    answerer.put_last_line(out, end)
+}
