@@ -2,7 +2,6 @@
 pub mod Written
 pub mod Tables
 pub mod Contexts
-pub mod Registers
 pub mod Columns
 pub mod Slices
 pub mod Joins

@@ -38,55 +38,17 @@ column-all f = go (dec_lt 0 f)
 -- ---- Openings: number F f o at place 32 × f + o
 
 module _ (F : ℕ → ℕ → ℕ) (out : List ℕ) where
-  -- one column more
-  pub columns_more : (f count : ℕ) (after : List ℕ) → count ≤ 32 → 32 * f + 32 ≤ length out → after ≡ fill out (32 * f) count (F f)
-      → ((d o : ℕ) → d < f → o < count → get_or out (32 * d + o) 0 ≡ F d o)
-      → (d o : ℕ) → d < f + 1 → o < count → get_or after (32 * d + o) 0 ≡ F d o
-  columns_more f count after few room e h d o l k = rw e (go (dec_lt d f))
+  -- one opening more, in n columns
+  pub openings_more : (n o : ℕ) (after : List ℕ) → o < 32 → 32 * n ≤ length out → after ≡ fill_by 32 out o n (λ (f : ℕ). F f o)
+      → ((d k : ℕ) → d < n → k < o → get_or out (32 * d + k) 0 ≡ F d k)
+      → (d k : ℕ) → d < n → k < o + 1 → get_or after (32 * d + k) 0 ≡ F d k
+  openings_more n o after few room e h d k l m = rw e (go (dec_lt k o))
     where
-      go : Dec (d < f) → get_or (fill out (32 * f) count (F f)) (32 * d + o) 0 ≡ F d o
-      go (yes p) = fill-before out (32 * f) count (F f) (32 * d + o) (omega arith) ∙ h d o p k
+      go : Dec (k < o) → get_or (fill_by 32 out o n (λ (f : ℕ). F f o)) (32 * d + k) 0 ≡ F d k
+      go (yes p) = stride-other 32 out o n (λ (f : ℕ). F f o) (32 * d + k) (λ j b. omega arith) ∙ h d k l p
       go (no p) =
-          let at : d ≡ f = omega arith in
-          rw at (fill-at out (32 * f) count (F f) o (omega arith) k)
-
-  -- one column more that has one opening
-  pub single_more : (f x : ℕ) → 32 * f < length out → x ≡ F f 0
-      → ((d o : ℕ) → d < f → o < 1 → get_or out (32 * d + o) 0 ≡ F d o)
-      → (d o : ℕ) → d < f + 1 → o < 1 → get_or (set out (32 * f) x) (32 * d + o) 0 ≡ F d o
-  single_more f x room e h d o l k = go (dec_lt d f)
-    where
-      zero_th : o ≡ 0
-      zero_th = omega arith
-
-      go : Dec (d < f) → get_or (set out (32 * f) x) (32 * d + o) 0 ≡ F d o
-      go (yes p) = get_or-set_other out (32 * f) (32 * d + o) x 0 (omega arith) ∙ h d o p k
-      go (no p) =
-          let at : 32 * d + o ≡ 32 * f = omega arith in
-          let same : d ≡ f = omega arith in
-          ap (λ (p : ℕ). get_or (set out (32 * f) x) p 0) at ∙ get_or-set_same out (32 * f) x 0 room ∙ e ∙ rw (same, zero_th)
-
-  -- both openings of one gate more, in n columns
-  pub gates_more : (n g : ℕ) (one two : List ℕ) → 2 * g + 2 ≤ 32 → 32 * n ≤ length out
-      → one ≡ fill_by 32 out (2 * g) n (λ (f : ℕ). F f (2 * g)) → two ≡ fill_by 32 one (2 * g + 1) n (λ (f : ℕ). F f (2 * g + 1))
-      → ((d o : ℕ) → d < n → o < 2 * g → get_or out (32 * d + o) 0 ≡ F d o)
-      → (d o : ℕ) → d < n → o < 2 * (g + 1) → get_or two (32 * d + o) 0 ≡ F d o
-  gates_more n g one two few room e₁ e₂ h d o l k = rw e₂ (go (dec_lt o (2 * g + 1)))
-    where
-      first : o < 2 * g + 1 → Dec (o < 2 * g) → get_or one (32 * d + o) 0 ≡ F d o
-      first b (yes p) = rw e₁ (stride-other 32 out (2 * g) n (λ (f : ℕ). F f (2 * g)) (32 * d + o) (λ j m. omega arith) ∙ h d o l p)
-      first b (no p) =
-          let at : o ≡ 2 * g = omega arith in
-          let turned : 32 * d + 2 * g ≡ 2 * g + 32 * d = omega arith in
-          rw (e₁, at, turned) (stride-at 32 out (2 * g) n (λ (f : ℕ). F f (2 * g)) d (omega arith) (omega arith) l)
-
-      go : Dec (o < 2 * g + 1) → get_or (fill_by 32 one (2 * g + 1) n (λ (f : ℕ). F f (2 * g + 1))) (32 * d + o) 0 ≡ F d o
-      go (yes p) = stride-other 32 one (2 * g + 1) n (λ (f : ℕ). F f (2 * g + 1)) (32 * d + o) (λ j m. omega arith) ∙ first p (dec_lt o (2 * g))
-      go (no p) =
-          let at : o ≡ 2 * g + 1 = omega arith in
-          let turned : 32 * d + (2 * g + 1) ≡ 2 * g + 1 + 32 * d = omega arith in
-          let long : length one ≡ length out = rw e₁ (length-stride 32 out (2 * g) n (λ (f : ℕ). F f (2 * g))) in
-          rw (at, turned) (stride-at 32 one (2 * g + 1) n (λ (f : ℕ). F f (2 * g + 1)) d (omega arith) (omega arith) l)
+          let at : k ≡ o = omega arith in
+          rw (at, add_comm (32 * d) o) (stride-at 32 out o n (λ (f : ℕ). F f o) d (omega arith) (omega arith) l)
 
 -- ---- Registers: number F c g at place 16 × c + slot g, for at most 16 gates
 

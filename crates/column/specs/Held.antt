@@ -12,6 +12,12 @@ use Rattle.steps.specs.Context.{split_place, split_in}
 use Rattle.steps.specs.Gates.{gate_at, open_u, open_v}
 use Rattle.column.specs.declared.ColumnChoice.{ColumnChoice}
 
+-- ---- One number in each column
+
+-- `numbers` are what a step gives for each of the first columns
+abbrev pub Gives : (ℕ → ℕ → Type 0) → ℕ → (ℕ → ℕ) → Type 0
+Gives post count numbers = (f x : ℕ) → f < count → post f x → x ≡ numbers f
+
 -- ---- Openings
 
 -- the column at place f of a choice of columns: the share's first, then those of parts from column 1 + skip on
@@ -49,11 +55,6 @@ slot g = 8 * (g % 2) + g / 2
 abbrev pub RegistersHeld : Public → ℕ → (ℕ → ℕ) → List ℕ → List ℕ → ℕ → List ℕ → Type 0
 RegistersHeld w round opened κs work gates next =
     (c g : ℕ) → c < length κs → g < gates → get_or next (16 * c + slot g) 0 ≡ running_on w round opened (get_or κs c 0) (column work c) (g % 2) (g / 2)
-
--- the registers of one column; the places of other columns are as they were
-pub record LateHeld (w : Public) (round : ℕ) (opened : ℕ → ℕ) (κ : ℕ) (work : List ℕ) (c gates : ℕ) (before next : List ℕ) : Type 0 where
-  pub here : (g : ℕ) → g < gates → get_or next (16 * c + slot g) 0 ≡ running_on w round opened κ (column work c) (g % 2) (g / 2)
-  pub elsewhere : (d x : ℕ) → d ≢ c → x < 16 → get_or next (16 * d + x) 0 ≡ get_or before (16 * d + x) 0
 
 -- a side's own numbers for the two openings of each gate of a round, as the gates themselves have them
 abbrev pub GatesHeld : Context → List ℕ → List ℕ → List ℕ → Type 0

@@ -15,7 +15,7 @@ ghost use Rattle.slice.specs.Layout.{own_at, running_at, column, masked_in};
 ghost use Rattle.steps.specs.Work.{opening_on, running_on, taken_columns, taken_work};
 ghost use Rattle.steps.specs.Context.{public_by, ContextOf, SplitsBelow};
 ghost use Rattle.steps.specs.Gates.{GateFits, TermsFit, Listed, sum_form, open_u, open_v, result_form};
-ghost use Rattle.column.specs.Held.{column_at, Holds, HeldAll, Room, RegistersHeld, LateHeld, GatesHeld, sums_top, RoundList, masked_after};
+ghost use Rattle.column.specs.Held.{column_at, Holds, HeldAll, Room, RegistersHeld, GatesHeld, sums_top, RoundList, masked_after, Gives};
 
 use lists::copy_numbers;
 use settings::{MOST_OPENINGS, PLACES, Settings, WIDTH, openings_in, top_digits_0, top_digits_1};
@@ -32,6 +32,25 @@ pub struct ColumnChoice {
     pub skip: usize,
 }
 
+// ---- One number in each column
+
+// The number that `value` has for each of the first columns, in order, at the same place of each: `stride` places of `out` for a column.
+fn into_columns<F: Fn(usize) -> u32>(
+    out: &mut [u32],
+    at: usize,
+    stride: usize,
+    count: usize,
+    value: F,
+)
+    requires room { (at < stride) × (stride * count ≤ length out.old) }
+    requires takes { (f : ℕ) → f < count → F.pre value f }
+    ensures { (numbers : ℕ → ℕ) → Gives (F.post value) count numbers → out.new ≡ fill_by stride out.old at count numbers }
+{
+    for f in 0..count {
+        out[at + stride * f] = value(f);
+    }
+}
+
 // ---- A side's numbers for the openings of a round
 
 // The column at place f.
@@ -43,6 +62,18 @@ fn column_at(columns: ColumnChoice, f: usize) -> usize
         return 0;
     }
     f + columns.skip
+}
+
+// The same with its weight.
+fn column_in(weights: &[u32], columns: ColumnChoice, f: usize) -> Column
+    requires { (f < columns.count) × (columns.count + columns.skip ≤ length weights.now) × (length weights.now ≤ 4294967296) }
+    ensures { (result.index ≡ column_at columns.skip f) × (result.weight ≡ get_or weights.now result.index 0) × (result.index < columns.count + columns.skip) }
+{
+    let index = column_at(columns, f);
+    Column {
+        index,
+        weight: weights[index],
+    }
 }
 
 // Opening o of round 1, of round 6 of HIGH, or of round 7: no digit is looked at.
@@ -62,21 +93,7 @@ fn plain_opening(work: &[u32], col: Column, settings: Settings, round: u32, o: u
     register(work, col.index, FIRST + o)
 }
 
-// All of them in one column, from a place of `out` on.
-fn plain_into(out: &mut [u32], at: usize, work: &[u32], col: Column, settings: Settings, round: u32)
-    requires ready { Ready settings }
-    requires places_in_bounds { ((col.index + 1) * places ≤ length work.now) × (at + most_openings ≤ length out.old) }
-    requires lt_round { (round ≢ 1 → 5 < round) × (round ≡ 6 → settings.shape.kind ≡ 0) }
-    ensures { (masked : ℕ → ℕ) → out.new ≡ fill out.old at (openings (params_of settings.shape) round)
-        (opening_on (public_by settings masked) round col.weight (column work.now col.index)) }
-{
-    let count = openings_in(settings.shape, round) as usize;
-    for o in 0..count {
-        out[at + o] = plain_opening(work, col, settings, round, o);
-    }
-}
-
-// Column by column.
+// Opening by opening, each in all columns.
 fn prepare_plain(
     out: &mut [u32],
     work: &[u32],
@@ -90,13 +107,11 @@ fn prepare_plain(
     requires lt_round { (round ≢ 1 → 5 < round) × (round ≡ 6 → settings.shape.kind ≡ 0) }
     ensures { (masked : ℕ → ℕ) → Holds (public_by settings masked) round weights.now work.now columns (openings (params_of settings.shape) round) out.new }
 {
-    for f in 0..columns.count {
-        let index = column_at(columns, f);
-        let col = Column {
-            index,
-            weight: weights[index],
-        };
-        plain_into(out, MOST_OPENINGS * f, work, col, settings, round);
+    let count = openings_in(settings.shape, round) as usize;
+    for o in 0..count {
+        into_columns(out, o, MOST_OPENINGS, columns.count, |f| {
+            plain_opening(work, column_in(weights, columns, f), settings, round, o)
+        });
     }
 }
 
@@ -114,47 +129,11 @@ fn prepare_insides(
     ensures { (masked : ℕ → ℕ) → ContextOf known.settings known.round masked known
         → Holds (public_by known.settings masked) known.round weights.now work.now columns 1 out.new }
 {
-    let settings = known.settings;
-    for f in 0..columns.count {
-        let index = column_at(columns, f);
-        let col = Column {
-            index,
-            weight: weights[index],
-        };
-        let insides = insides_value(work, col, known);
-        out[MOST_OPENINGS * f] = open_check(work, col, settings.shape, 0, insides);
-    }
-}
-
-// u − a of a gate in all columns, at a place of each.
-fn u_into(out: &mut [u32], at: usize, work: &[u32], columns: ColumnChoice, gate: Gate)
-    requires gate_fits { GateFits gate }
-    requires at_lt_most_openings { (at < most_openings) × (most_openings * columns.count ≤ length out.old) × ((columns.count + columns.skip) * places ≤ length work.now) × (columns.count + columns.skip ≤ 4294967296) }
-    ensures { (κ : ℕ → ℕ) → out.new ≡ fill_by most_openings out.old at columns.count
-        (λ (f : ℕ). value q (κ f) (column work.now (column_at columns.skip f)) (open_u gate)) }
-{
-    for f in 0..columns.count {
-        out[at + MOST_OPENINGS * f] = open_u(work, column_at(columns, f), gate);
-    }
-}
-
-// v − b.
-fn v_into(
-    out: &mut [u32],
-    at: usize,
-    work: &[u32],
-    columns: ColumnChoice,
-    gate: Gate,
-    rises: &[u32],
-)
-    requires gate_fits { GateFits gate × Listed top_rises gate.terms rises.now }
-    requires at_lt_most_openings { (at < most_openings) × (most_openings * columns.count ≤ length out.old) × ((columns.count + columns.skip) * places ≤ length work.now) × (columns.count + columns.skip ≤ 4294967296) }
-    ensures { (κ : ℕ → ℕ) → out.new ≡ fill_by most_openings out.old at columns.count
-        (λ (f : ℕ). value q (κ f) (column work.now (column_at columns.skip f)) (open_v gate)) }
-{
-    for f in 0..columns.count {
-        out[at + MOST_OPENINGS * f] = open_v(work, column_at(columns, f), gate, rises);
-    }
+    let shape = known.settings.shape;
+    into_columns(out, 0, MOST_OPENINGS, columns.count, |f| {
+        let col = column_in(weights, columns, f);
+        open_check(work, col, shape, 0, insides_value(work, col, known))
+    });
 }
 
 // Rounds 2 to 5: gate by gate, each made once for all columns, with the round's list for F' − F.
@@ -177,8 +156,12 @@ fn prepare_gates(
         let x = split_place(shape.kind, g);
         let split = known.splits[x];
         let gate = gate_of(shape, split, g, i);
-        u_into(out, 2 * g, work, columns, gate);
-        v_into(out, 2 * g + 1, work, columns, gate, rises);
+        into_columns(out, 2 * g, MOST_OPENINGS, columns.count, |f| {
+            open_u(work, column_at(columns, f), gate)
+        });
+        into_columns(out, 2 * g + 1, MOST_OPENINGS, columns.count, |f| {
+            open_v(work, column_at(columns, f), gate, rises)
+        });
     }
 }
 
@@ -257,17 +240,6 @@ pub fn prepare(
 
 // ---- The running registers after a round: 16 places of `next` for each column
 
-// The sum of a gate in all columns, at a place of each: what round 1 makes of digit 0.
-fn sums_into(next: &mut [u32], at: usize, work: &[u32], columns: usize, terms: Weighted)
-    requires terms_fit { TermsFit terms × Listed top_digits terms [] }
-    requires at_bound { (at < 16) × (16 * columns ≤ length next.old) × (columns * places ≤ length work.now) }
-    ensures { (κ : ℕ → ℕ) → next.new ≡ fill_by 16 next.old at columns (λ (c : ℕ). value q (κ c) (column work.now c) (sum_form terms 0)) }
-{
-    for c in 0..columns {
-        next[at + 16 * c] = sum_value(work, c, terms, &[]);
-    }
-}
-
 // The result of a gate in all columns, from this side's own numbers for its two openings and the opened ones: openings o and o + 1.
 fn results_into(
     next: &mut [u32],
@@ -294,17 +266,26 @@ fn results_into(
         u: opened[o],
         v: opened[o + 1],
     };
-    for (c, weight) in weights.iter().enumerate() {
+    into_columns(next, at, 16, weights.len(), |c| {
         let col = Column {
             index: c,
-            weight: *weight,
+            weight: weights[c],
         };
         let mine = Factors {
             u: own[MOST_OPENINGS * c + o],
             v: own[MOST_OPENINGS * c + (o + 1)],
         };
-        next[at + 16 * c] = gate_value(work, col, gate, mine, joined, tops);
-    }
+        gate_value(work, col, gate, mine, joined, tops)
+    });
+}
+
+// The sum of a gate in one column: what round 1 makes of digit 0. It names no public number, so the weight does not matter.
+fn first_sum(work: &[u32], col: usize, terms: Weighted) -> u32
+    requires terms_fit { TermsFit terms × Listed top_digits terms [] }
+    requires places_in_bounds { (col + 1) * places ≤ length work.now }
+    ensures { result ≡ value q 0 (column work.now col) (sum_form terms 0) }
+{
+    sum_value(work, col, terms, &[])
 }
 
 // Round 1: it makes what round 2 finds, with the context of round 2.
@@ -319,7 +300,9 @@ fn first_registers(next: &mut [u32], work: &[u32], columns: usize, known: Contex
         let x = split_place(shape.kind, g);
         let split = known.splits[x];
         let terms = terms_of(shape, split, g, 0);
-        sums_into(next, 8 * (g % 2) + g / 2, work, columns, terms);
+        into_columns(next, 8 * (g % 2) + g / 2, 16, columns, |c| {
+            first_sum(work, c, terms)
+        });
     }
 }
 
@@ -402,27 +385,6 @@ fn late_register(
     after_check(work, col, settings, g / 2, opened)
 }
 
-// All of them in one column.
-fn late_into(
-    next: &mut [u32],
-    work: &[u32],
-    col: usize,
-    settings: Settings,
-    round: u32,
-    opened: &[u32],
-)
-    requires ready { Ready settings }
-    requires places_in_bounds { ((col + 1) * places ≤ length work.now) × (16 * (col + 1) ≤ length next.old) × (5 < round) }
-    requires round_in_bounds { (openings (params_of settings.shape) round ≤ length opened.now) × ((o : ℕ) → get_or opened.now o 0 < q) }
-    ensures { (masked : ℕ → ℕ) (κ : ℕ) → LateHeld (public_by settings masked) round (λ (o : ℕ). get_or opened.now o 0) κ work.now col (2 * settings.shape.n) next.old next.new }
-{
-    for g in 0..2 * settings.shape.n as usize {
-        next[16 * col + (8 * (g % 2) + g / 2)] = late_register(
-            work, col, settings, round, opened, g,
-        );
-    }
-}
-
 // Rounds 6 and 7.
 fn late_registers(
     next: &mut [u32],
@@ -438,8 +400,10 @@ fn late_registers(
     ensures { (masked : ℕ → ℕ) (κs : List ℕ) → length κs ≡ columns
         → RegistersHeld (public_by settings masked) round (λ (o : ℕ). get_or opened.now o 0) κs work.now (2 * settings.shape.n) next.new }
 {
-    for c in 0..columns {
-        late_into(next, work, c, settings, round, opened);
+    for g in 0..2 * settings.shape.n as usize {
+        into_columns(next, 8 * (g % 2) + g / 2, 16, columns, |c| {
+            late_register(work, c, settings, round, opened, g)
+        });
     }
 }
 

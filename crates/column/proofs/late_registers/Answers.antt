@@ -1,19 +1,26 @@
 -- `column::late_registers` meets its contract. Assumes nothing.
-use Rattle.column.proofs.Registers.{late_columns}
+use Rattle.column.proofs.Tables.{slots_more}
 use Rattle.steps.specs.Context.{public_by}
-use Prim.Native.Nat.{ℕ}
+use Rattle.steps.specs.Work.{running_on}
+use Rattle.slice.specs.Layout.{column}
+use Prim.Native.Nat.{ℕ, ◌%◌, ◌/◌}
 use native.Mathlib.Omega.{arith}
 use lib.ListN.{get_or}
+use Rattle.std.proofs.Common.{rules}
 use Rattle.column.proofs.late_registers.Goals as goal
 
-pub loop-c-preserved : goal.loop-c-preserved
-loop-c-preserved c =
+pub loop-g-preserved : goal.loop-g-preserved
+loop-g-preserved c =
+    let at = c.loop-g in
     let a = c.args in
-    let at = c.loop-c in
     let p = c.requires in
-    let late-into = c.late_into in
-    λ masked κ d g h l. late_columns (public_by a.settings masked) a.round (λ (o : ℕ). get_or a.opened.now o 0) κ a.work.now at.c _ _ _ p.ready.shape.most
-    (late-into.ensures masked (κ at.c)) (at.invariant masked κ) d g h l
+    λ masked κs long.
+        let F : ℕ → ℕ → ℕ = λ d k. running_on (public_by a.settings masked) a.round (λ (o : ℕ). get_or a.opened.now o 0) (get_or κs d 0) (column a.work.now d) (k % 2) (k / 2) in
+        λ d k h l.
+        slots_more F at.next a.columns at.g-counter _
+        (omega (arith, p.ready.shape.most)) (omega (arith, p.columns_in_bounds, at.auto.next))
+        (c.into_columns.ensures (λ f. F f at.g-counter) (λ f x m post. search rules))
+        (λ d k h l. at.invariant masked κs long d k (omega arith) l) d k (omega arith) l
 
 pub returns : goal.returns
-returns c = λ masked κs long d g h l. c.loop-c.invariant masked (λ (d : ℕ). get_or κs d 0) d g (omega arith) l
+returns c = λ masked κs long d g h l. c.loop-g.invariant masked κs long d g h (omega arith)

@@ -1,6 +1,6 @@
 -- `column::prepare_gates` meets its contract. Assumes nothing.
 use Rattle.column.proofs.Contexts.{gate_u, gate_v}
-use Rattle.column.proofs.Tables.{gates_more}
+use Rattle.column.proofs.Tables.{openings_more}
 use Rattle.slice.specs.Layout.{column}
 use Rattle.settings.specs.Sizes.{most_openings}
 use Rattle.field.specs.Forms.{Form, value}
@@ -16,6 +16,8 @@ use mathlib.Core.Path.{◌≡◌, refl, ap, ◌∙◌}
 use native.Mathlib.Omega.{arith}
 use borrow.Author.Tests.{eq-eqb}
 use lib.ListN.{get_or}
+use Rattle.steps.specs.Gates.{Listed, open_u, open_v}
+use Rattle.std.proofs.Common.{rules}
 use Rattle.column.proofs.prepare_gates.Goals as goal
 
 pub offset_bounds-known-x : goal.offset_bounds-known-x
@@ -44,19 +46,14 @@ gate_of-gate-requires c =
       g_bound = (omega arith, omega arith, omega arith, p.ready.1 c.split_place-x.result _ (rw c.split_place-x.ensures in_count) (omega arith));
     }
 
-pub v_into-requires : goal.v_into-requires
-v_into-requires c =
+pub into_columns-requires-in-loop-g-clause-takes : goal.into_columns-requires-in-loop-g-clause-takes
+into_columns-requires-in-loop-g-clause-takes c =
     let gate-of = c.gate_of-gate in
     let p = c.requires in
     let known = c.args.known in
     let fifth : 4 ≤ known.round - 1 → known.round ≡ 5 = λ last. omega (arith, last, p.le_round) in
-    record {
-      gate_fits = (
-        gate-of.ensures.1,
-        rw gate-of.ensures.0 (listed top_rises known.settings.shape _ (known.round - 1) _ (λ kind last. p.ready.2 (rw (eq-eqb _ _ kind, eq-eqb _ _ (fifth last)) refl))),
-      );
-      at_lt_most_openings = (omega (arith, p.ready.0.shape.most), omega arith, omega arith, omega arith);
-    }
+    let list : Listed top_rises gate-of.result.terms c.args.rises.now = rw gate-of.ensures.0 (listed top_rises known.settings.shape _ (known.round - 1) _ (λ kind last. p.ready.2 (rw (eq-eqb _ _ kind, eq-eqb _ _ (fifth last)) refl))) in
+    λ f h. search rules
 
 pub loop-g-preserved : goal.loop-g-preserved
 loop-g-preserved c =
@@ -64,25 +61,27 @@ loop-g-preserved c =
     let p = c.requires in
     let split-place = c.split_place-x in
     let gate-of = c.gate_of-gate in
-    let u-into = c.u_into in
-    let v-into = c.v_into in
     let a = c.args in
     let known = a.known in
     let g = at.g in
     let later : 2 ≤ known.round = p.le_round.0 in
     let skip = a.columns.skip in
     λ masked κs made.
-    let w = public_by known.settings masked in
-    let κ : ℕ → ℕ = λ (d : ℕ). get_or κs (column_at skip d) 0 in
-    let u = gate_u known masked made g split-place.result (omega arith) split-place.ensures later p.le_round.1 gate-of.result gate-of.ensures.0 in
-    let v = gate_v known masked made g split-place.result (omega arith) split-place.ensures later p.le_round.1 gate-of.result gate-of.ensures.0 in
-    gates_more (λ (d o : ℕ). opening_in w known.round κs a.work.now (column_at skip d) o) at.out a.columns.count g _ _
-    (omega (arith, p.ready.0.shape.most)) (omega (arith, p.count_in_bounds, at.auto.out))
-    (u-into.ensures κ
-    ∙ ap (λ (form : Form). fill_by most_openings at.out (2 * g) a.columns.count (λ (d : ℕ). value q (κ d) (column a.work.now (column_at skip d)) form)) u)
-    (v-into.ensures κ
-    ∙ ap (λ (form : Form). fill_by most_openings u-into.new.out (2 * g + 1) a.columns.count (λ (d : ℕ). value q (κ d) (column a.work.now (column_at skip d)) form)) v)
-    (at.invariant masked κs made)
+        let w = public_by known.settings masked in
+        let F : ℕ → ℕ → ℕ = λ d o. opening_in w known.round κs a.work.now (column_at skip d) o in
+        let u = gate_u known masked made g split-place.result (omega arith) split-place.ensures later p.le_round.1 gate-of.result gate-of.ensures.0 in
+        let v = gate_v known masked made g split-place.result (omega arith) split-place.ensures later p.le_round.1 gate-of.result gate-of.ensures.0 in
+        let one = openings_more F at.out a.columns.count (2 * g) _
+        (omega (arith, p.ready.0.shape.most)) (omega (arith, p.count_in_bounds, at.auto.out))
+        (c.into_columns.ensures (λ f. F f (2 * g)) (λ f x h post.
+        let is : x ≡ value q (get_or κs (column_at skip f) 0) (column a.work.now (column_at skip f)) (open_u gate-of.result) = search rules in
+        is ∙ ap (value q (get_or κs (column_at skip f) 0) (column a.work.now (column_at skip f))) u)) (at.invariant masked κs made) in
+        let two = openings_more F c.into_columns.new.out a.columns.count (2 * g + 1) _
+        (omega (arith, p.ready.0.shape.most)) (omega (arith, p.count_in_bounds, at.auto.out, c.into_columns.auto.out))
+        (c.into_columns-in-loop-g.ensures (λ f. F f (2 * g + 1)) (λ f x h post.
+        let is : x ≡ value q (get_or κs (column_at skip f) 0) (column a.work.now (column_at skip f)) (open_v gate-of.result) = search rules in
+        is ∙ ap (value q (get_or κs (column_at skip f) 0) (column a.work.now (column_at skip f))) v)) one in
+        λ d o h l. two d o h (omega arith)
 
 pub returns : goal.returns
 returns c = λ masked κs made d o h l. c.loop-g.invariant masked κs made d o h (omega arith)

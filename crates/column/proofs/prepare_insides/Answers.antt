@@ -1,33 +1,30 @@
 -- `column::prepare_insides` meets its contract. Assumes nothing.
 use Rattle.column.proofs.Contexts.{check-bound}
-use Rattle.column.proofs.Tables.{single_more}
+use Rattle.column.proofs.Tables.{openings_more}
 use Rattle.column.specs.Held.{column_at, opening_in}
-use Rattle.steps.specs.Steps.{insides}
-use Rattle.slice.specs.Layout.{column}
-use Rattle.field.specs.Forms.{value}
-use Rattle.field.specs.Field.{q}
 use Rattle.steps.specs.Context.{public_by}
-use Prim.Native.Nat.{ℕ}
-use mathlib.Core.Path.{ap, ◌∙◌}
-use native.Mathlib.Omega.{arith}
+use Rattle.slice.specs.Layout.{column}
+use Rattle.steps.specs.Steps.{insides}
+use Rattle.book.specs.Book.{group_k, group_gap, group_at}
+use Rattle.field.specs.Forms.{value, num, reg, ◌⊞◌, ◌⊟◌, ◌⊠◌}
+use Rattle.field.specs.Field.{q}
+use mathlib.Core.Path.{◌≡◌, ap, ◌∙◌}
 use lib.ListN.{get_or}
+use Prim.Native.Nat.{ℕ}
+use native.Mathlib.Omega.{arith}
+use Rattle.std.proofs.Common.{rules}
 use Rattle.column.proofs.prepare_insides.Goals as goal
 
-pub loop-f-preserved : goal.loop-f-preserved
-loop-f-preserved c =
-    let at = c.loop-f in
-    let column-at = c.column_at-index in
-    let p = c.requires in
+pub returns : goal.returns
+returns c =
     let a = c.args in
     let known = a.known in
-    let f = at.f in
-    let κ = get_or a.weights.now column-at.result 0 in
-    let col = column a.work.now column-at.result in
     λ masked made.
-    let w = public_by known.settings masked in
-    single_more (λ (d o : ℕ). opening_in w known.round a.weights.now a.work.now (column_at a.columns.skip d) o) at.out f c.open_check.result
-    (omega (arith, p.room.out_long))
-    (c.open_check.ensures (insides w known.settings.shape.n) (c.insides_value-insides.ensures masked made)
-    ∙ ap (value q κ col) (check-bound w known.round 0 p.kind_nonzero.1 p.kind_nonzero.0)
-    ∙ ap (λ (d : ℕ). opening_in w known.round a.weights.now a.work.now d 0) column-at.ensures.0)
-    (at.invariant masked made)
+        let w = public_by known.settings masked in
+        let F : ℕ → ℕ → ℕ = λ d k. opening_in (public_by known.settings masked) known.round a.weights.now a.work.now (column_at a.columns.skip d) k in
+        openings_more F a.out.now a.columns.count 0 _ (omega arith) (omega (arith, c.requires.room.out_long))
+        (c.into_columns.ensures (λ f. F f 0) (λ f x h post.
+        let κ = get_or a.weights.now (column_at a.columns.skip f) 0 in
+        let col = column a.work.now (column_at a.columns.skip f) in
+        let is : x ≡ value q κ col (reg (group_at w.params 0) ⊞ group_gap w.params ⊠ (num (group_k w.params) ⊟ insides w w.params.n)) = search rules in
+        is ∙ ap (value q κ col) (check-bound w known.round 0 c.requires.kind_nonzero.1 c.requires.kind_nonzero.0))) (λ d k h l. absurd (omega (arith, l)))

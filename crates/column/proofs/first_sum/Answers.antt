@@ -1,0 +1,5 @@
+-- `column::first_sum` meets its contract.
+use Rattle.column.proofs.first_sum.Goals as goal
+
+pub returns : goal.returns
+returns c = c.sum_value.ensures 0
