@@ -8,12 +8,10 @@ use native.Mathlib.Decide.{dec_lt}
 use native.Mathlib.Nat.{add_comm}
 use native.Mathlib.Omega.{arith}
 use lib.Dec.{eqb}
-use lib.ListN.{length, get_or, set}
-use lib.Seq.{get_or-set_same, get_or-set_other}
+use lib.ListN.{length, get_or}
 use borrow.Author.Tests.{eq-eqb, ne_eqb}
-use Rattle.lists.specs.Lists.{fill, fill_by}
-use Rattle.lists.proofs.Fill.{fill-at, fill-before}
-use Rattle.lists.proofs.Strides.{stride-at, stride-other, length-stride}
+use Rattle.lists.specs.Lists.{fill_by}
+use Rattle.lists.proofs.Strides.{stride-at, stride-other}
 use Rattle.column.specs.Held.{column_at, slot}
 
 -- ---- A choice of columns

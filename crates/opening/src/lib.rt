@@ -45,15 +45,13 @@ fn kept_columns(sent: &mut [u32], work: &[u32], count: usize)
     requires { (length work.now ≡ work_length key_count) × (length sent.old ≡ most_fields key_count) × (count ≤ most_openings) }
     ensures { sent.new ≡ columns_to count (own_in work.now) sent.old (1 + key_count) }
 {
-    let mut f = 0;
-    while f < FIELDS_PER_OPENING {
+    for f in 0..FIELDS_PER_OPENING {
         own_column(
             &mut sent[MOST_OPENINGS * f..MOST_OPENINGS * f + MOST_OPENINGS],
             work,
             f,
             count,
         );
-        f += 1;
     }
 }
 
@@ -83,10 +81,8 @@ fn put_in_turn(fields: &mut [u32], sent: &[u32], count: usize)
     requires { (count ≤ most_openings) × (length sent.now ≡ most_fields key_count) × (length fields.old ≡ most_fields key_count) }
     ensures { fields.new ≡ fill fields.old 0 ((1 + key_count) * count) (in_turn sent.now) }
 {
-    let mut x = 0;
-    while x < FIELDS_PER_OPENING * count {
+    for x in 0..FIELDS_PER_OPENING * count {
         fields[x] = sent[MOST_OPENINGS * (x % FIELDS_PER_OPENING) + x / FIELDS_PER_OPENING];
-        x += 1;
     }
 }
 
@@ -140,10 +136,8 @@ pub fn join_shares(opened: &mut [u32], own: &[u32], side: Side, fields: &[u32])
     ensures { opened.new ≡ fill opened.old 0 (openings (params_in side.settings) side.round) (joined_at own.now fields.now) }
 {
     let count = openings_in(side.settings.shape, side.round) as usize;
-    let mut o = 0;
-    while o < count {
+    for o in 0..count {
         opened[o] = add_mod(own[o], fields[o * FIELDS_PER_OPENING]);
-        o += 1;
     }
 }
 
@@ -165,14 +159,7 @@ fn check_passes(opened: &[u32], own: &[u32], side: Side, fields: &[u32], o: usiz
     requires own_len { (length own.now ≡ most_openings * width) × (length opened.now ≡ most_openings) }
     ensures { result ≡ checked_at side own.now fields.now opened.now o }
 {
-    let mut i = 0;
-    while i < KEYS {
-        if !part_passes(opened, own, side, fields, o, i) {
-            return false;
-        }
-        i += 1;
-    }
-    true
+    (0..KEYS).all(|i| part_passes(opened, own, side, fields, o, i))
 }
 
 // Does every opening pass its check?
@@ -182,12 +169,5 @@ pub fn checks_pass(opened: &[u32], own: &[u32], side: Side, fields: &[u32]) -> b
     ensures { result ≡ all_to (openings (params_in side.settings) side.round) (checked_at side own.now fields.now opened.now) }
 {
     let count = openings_in(side.settings.shape, side.round) as usize;
-    let mut o = 0;
-    while o < count {
-        if !check_passes(opened, own, side, fields, o) {
-            return false;
-        }
-        o += 1;
-    }
-    true
+    (0..count).all(|o| check_passes(opened, own, side, fields, o))
 }

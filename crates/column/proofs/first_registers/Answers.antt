@@ -54,7 +54,7 @@ into_columns-requires-clause-takes c =
 pub loop-g-preserved : goal.loop-g-preserved
 loop-g-preserved c =
     let sums = λ (κ : ℕ → ℕ). c.into_columns.ensures (λ f. value q (κ f) (column c.args.work.now f) (sum_form c.terms_of-terms.result 0)) (λ f x m post.
-        let sum : x ≡ value q 0 (column c.args.work.now f) (sum_form c.terms_of-terms.result 0) = search rules in sum) in
+    let sum : x ≡ value q 0 (column c.args.work.now f) (sum_form c.terms_of-terms.result 0) = search rules in sum) in
     let at = c.loop-g in
     let split-place = c.split_place-x in
     let terms-of = c.terms_of-terms in
@@ -63,14 +63,14 @@ loop-g-preserved c =
     let known = a.known in
     let g = at.g in
     λ masked opened κs long made.
-        let κ : ℕ → ℕ = λ d. get_or κs d 0 in
-        let is = terms_register known masked made g split-place.result (omega arith) split-place.ensures (omega (arith, p.round_value.0)) (omega (arith, p.round_value.0))
-        terms-of.result opened terms-of.ensures.0 in
-        λ d k h l.
-        slots_more (λ (d k : ℕ). running_on (public_by known.settings masked) 1 opened (κ d) (column a.work.now d) (k % 2) (k / 2)) at.next a.columns g _
-        (omega (arith, p.ready.0.shape.most)) (omega (arith, p.round_value, at.auto.next))
-        (sums κ ∙ ap (λ (form : Form). fill_by 16 at.next (slot g) a.columns (λ (d : ℕ). value q (κ d) (column a.work.now d) form)) is)
-        (λ d k h l. at.invariant masked opened κs long made d k (omega arith) l) d k (omega arith) l
+    let κ : ℕ → ℕ = λ d. get_or κs d 0 in
+    let is = terms_register known masked made g split-place.result (omega arith) split-place.ensures (omega (arith, p.round_value.0)) (omega (arith, p.round_value.0))
+    terms-of.result opened terms-of.ensures.0 in
+    λ d k h l.
+    slots_more (λ (d k : ℕ). running_on (public_by known.settings masked) 1 opened (κ d) (column a.work.now d) (k % 2) (k / 2)) at.next a.columns g _
+    (omega (arith, p.ready.0.shape.most)) (omega (arith, p.round_value, at.auto.next))
+    (sums κ ∙ ap (λ (form : Form). fill_by 16 at.next (slot g) a.columns (λ (d : ℕ). value q (κ d) (column a.work.now d) form)) is)
+    (λ d k h l. at.invariant masked opened κs long made d k (omega arith) l) d k (omega arith) l
 
 pub returns : goal.returns
 returns c = λ masked opened κs long made d k h l. c.loop-g.invariant masked opened κs long made d k h (omega arith)

@@ -15,12 +15,12 @@ loop-g-preserved c =
     let a = c.args in
     let p = c.requires in
     λ masked κs long.
-        let F : ℕ → ℕ → ℕ = λ d k. running_on (public_by a.settings masked) a.round (λ (o : ℕ). get_or a.opened.now o 0) (get_or κs d 0) (column a.work.now d) (k % 2) (k / 2) in
-        λ d k h l.
-        slots_more F at.next a.columns at.g-counter _
-        (omega (arith, p.ready.shape.most)) (omega (arith, p.columns_in_bounds, at.auto.next))
-        (c.into_columns.ensures (λ f. F f at.g-counter) (λ f x m post. search rules))
-        (λ d k h l. at.invariant masked κs long d k (omega arith) l) d k (omega arith) l
+    let F : ℕ → ℕ → ℕ = λ d k. running_on (public_by a.settings masked) a.round (λ (o : ℕ). get_or a.opened.now o 0) (get_or κs d 0) (column a.work.now d) (k % 2) (k / 2) in
+    λ d k h l.
+    slots_more F at.next a.columns at.g-counter _
+    (omega (arith, p.ready.shape.most)) (omega (arith, p.columns_in_bounds, at.auto.next))
+    (c.into_columns.ensures (λ f. F f at.g-counter) (λ f x m post. search rules))
+    (λ d k h l. at.invariant masked κs long d k (omega arith) l) d k (omega arith) l
 
 pub returns : goal.returns
 returns c = λ masked κs long d g h l. c.loop-g.invariant masked κs long d g h (omega arith)

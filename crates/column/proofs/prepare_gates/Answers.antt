@@ -2,10 +2,8 @@
 use Rattle.column.proofs.Contexts.{gate_u, gate_v}
 use Rattle.column.proofs.Tables.{openings_more}
 use Rattle.slice.specs.Layout.{column}
-use Rattle.settings.specs.Sizes.{most_openings}
-use Rattle.field.specs.Forms.{Form, value}
+use Rattle.field.specs.Forms.{value}
 use Rattle.field.specs.Field.{q}
-use Rattle.lists.specs.Lists.{fill_by}
 use Rattle.steps.proofs.Contexts.{place_in, count_most}
 use Rattle.steps.proofs.Gates.{listed}
 use Rattle.slice.specs.Weights.{top_rises}
@@ -67,21 +65,21 @@ loop-g-preserved c =
     let later : 2 ≤ known.round = p.le_round.0 in
     let skip = a.columns.skip in
     λ masked κs made.
-        let w = public_by known.settings masked in
-        let F : ℕ → ℕ → ℕ = λ d o. opening_in w known.round κs a.work.now (column_at skip d) o in
-        let u = gate_u known masked made g split-place.result (omega arith) split-place.ensures later p.le_round.1 gate-of.result gate-of.ensures.0 in
-        let v = gate_v known masked made g split-place.result (omega arith) split-place.ensures later p.le_round.1 gate-of.result gate-of.ensures.0 in
-        let one = openings_more F at.out a.columns.count (2 * g) _
-        (omega (arith, p.ready.0.shape.most)) (omega (arith, p.count_in_bounds, at.auto.out))
-        (c.into_columns.ensures (λ f. F f (2 * g)) (λ f x h post.
-        let is : x ≡ value q (get_or κs (column_at skip f) 0) (column a.work.now (column_at skip f)) (open_u gate-of.result) = search rules in
-        is ∙ ap (value q (get_or κs (column_at skip f) 0) (column a.work.now (column_at skip f))) u)) (at.invariant masked κs made) in
-        let two = openings_more F c.into_columns.new.out a.columns.count (2 * g + 1) _
-        (omega (arith, p.ready.0.shape.most)) (omega (arith, p.count_in_bounds, at.auto.out, c.into_columns.auto.out))
-        (c.into_columns-in-loop-g.ensures (λ f. F f (2 * g + 1)) (λ f x h post.
-        let is : x ≡ value q (get_or κs (column_at skip f) 0) (column a.work.now (column_at skip f)) (open_v gate-of.result) = search rules in
-        is ∙ ap (value q (get_or κs (column_at skip f) 0) (column a.work.now (column_at skip f))) v)) one in
-        λ d o h l. two d o h (omega arith)
+    let w = public_by known.settings masked in
+    let F : ℕ → ℕ → ℕ = λ d o. opening_in w known.round κs a.work.now (column_at skip d) o in
+    let u = gate_u known masked made g split-place.result (omega arith) split-place.ensures later p.le_round.1 gate-of.result gate-of.ensures.0 in
+    let v = gate_v known masked made g split-place.result (omega arith) split-place.ensures later p.le_round.1 gate-of.result gate-of.ensures.0 in
+    let one = openings_more F at.out a.columns.count (2 * g) _
+    (omega (arith, p.ready.0.shape.most)) (omega (arith, p.count_in_bounds, at.auto.out))
+    (c.into_columns.ensures (λ f. F f (2 * g)) (λ f x h post.
+    let is : x ≡ value q (get_or κs (column_at skip f) 0) (column a.work.now (column_at skip f)) (open_u gate-of.result) = search rules in
+    is ∙ ap (value q (get_or κs (column_at skip f) 0) (column a.work.now (column_at skip f))) u)) (at.invariant masked κs made) in
+    let two = openings_more F c.into_columns.new.out a.columns.count (2 * g + 1) _
+    (omega (arith, p.ready.0.shape.most)) (omega (arith, p.count_in_bounds, at.auto.out, c.into_columns.auto.out))
+    (c.into_columns-in-loop-g.ensures (λ f. F f (2 * g + 1)) (λ f x h post.
+    let is : x ≡ value q (get_or κs (column_at skip f) 0) (column a.work.now (column_at skip f)) (open_v gate-of.result) = search rules in
+    is ∙ ap (value q (get_or κs (column_at skip f) 0) (column a.work.now (column_at skip f))) v)) one in
+    λ d o h l. two d o h (omega arith)
 
 pub returns : goal.returns
 returns c = λ masked κs made d o h l. c.loop-g.invariant masked κs made d o h (omega arith)

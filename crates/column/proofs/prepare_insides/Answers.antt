@@ -20,11 +20,11 @@ returns c =
     let a = c.args in
     let known = a.known in
     λ masked made.
-        let w = public_by known.settings masked in
-        let F : ℕ → ℕ → ℕ = λ d k. opening_in (public_by known.settings masked) known.round a.weights.now a.work.now (column_at a.columns.skip d) k in
-        openings_more F a.out.now a.columns.count 0 _ (omega arith) (omega (arith, c.requires.room.out_long))
-        (c.into_columns.ensures (λ f. F f 0) (λ f x h post.
-        let κ = get_or a.weights.now (column_at a.columns.skip f) 0 in
-        let col = column a.work.now (column_at a.columns.skip f) in
-        let is : x ≡ value q κ col (reg (group_at w.params 0) ⊞ group_gap w.params ⊠ (num (group_k w.params) ⊟ insides w w.params.n)) = search rules in
-        is ∙ ap (value q κ col) (check-bound w known.round 0 c.requires.kind_nonzero.1 c.requires.kind_nonzero.0))) (λ d k h l. absurd (omega (arith, l)))
+    let w = public_by known.settings masked in
+    let F : ℕ → ℕ → ℕ = λ d k. opening_in (public_by known.settings masked) known.round a.weights.now a.work.now (column_at a.columns.skip d) k in
+    openings_more F a.out.now a.columns.count 0 _ (omega arith) (omega (arith, c.requires.room.out_long))
+    (c.into_columns.ensures (λ f. F f 0) (λ f x h post.
+    let κ = get_or a.weights.now (column_at a.columns.skip f) 0 in
+    let col = column a.work.now (column_at a.columns.skip f) in
+    let is : x ≡ value q κ col (reg (group_at w.params 0) ⊞ group_gap w.params ⊠ (num (group_k w.params) ⊟ insides w w.params.n)) = search rules in
+    is ∙ ap (value q κ col) (check-bound w known.round 0 c.requires.kind_nonzero.1 c.requires.kind_nonzero.0))) (λ d k h l. absurd (omega (arith, l)))

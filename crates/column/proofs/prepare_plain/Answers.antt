@@ -15,7 +15,7 @@ loop-o-preserved c =
     let a = c.args in
     let p = c.requires in
     λ masked.
-        let F : ℕ → ℕ → ℕ = λ d k. opening_in (public_by a.settings masked) a.round a.weights.now a.work.now (column_at a.columns.skip d) k in
-        openings_more F at.out a.columns.count at.o-counter _
-        (omega (arith, openings-most (params_of a.settings.shape) a.round p.ready.shape.most, c.openings_in-count.ensures)) (omega (arith, p.room.out_long, at.auto.out))
-        (c.into_columns.ensures (λ f. F f at.o-counter) (λ f x h post. search rules)) (at.invariant masked)
+    let F : ℕ → ℕ → ℕ = λ d k. opening_in (public_by a.settings masked) a.round a.weights.now a.work.now (column_at a.columns.skip d) k in
+    openings_more F at.out a.columns.count at.o-counter _
+    (omega (arith, openings-most (params_of a.settings.shape) a.round p.ready.shape.most, c.openings_in-count.ensures)) (omega (arith, p.room.out_long, at.auto.out))
+    (c.into_columns.ensures (λ f. F f at.o-counter) (λ f x h post. search rules)) (at.invariant masked)

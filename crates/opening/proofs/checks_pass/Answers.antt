@@ -1,21 +1,15 @@
 -- `opening::checks_pass` meets its contract.
-use mathlib.Core.Path.{refl, sym, ◌∙◌}
-use native.Mathlib.Numerals.{add-one}
+use mathlib.Core.Path.{refl, ◌∙◌}
 use native.Mathlib.Omega.{arith}
-use Rattle.lists.specs.Lists.{all_to}
-use Rattle.lists.proofs.Every.{all_to_no}
-use Rattle.lists.proofs.Questions.{and_yes}
+use Rattle.std.proofs.Common.{rules, tests}
+use Rattle.std.proofs.lemmas.Iterator.{YieldsList-from_range}
+use Rattle.std.proofs.lemmas.Iterator.Search.{all_from_yields_List}
+use Rattle.opening.specs.Work.{checked_at}
+use Rattle.opening.proofs.Ranges.{range_is}
 use Rattle.opening.proofs.checks_pass.Goals as goal
 
-pub loop-o-init : goal.loop-o-init
-unfolding all_to
-loop-o-init c = (omega arith, refl)
-
-pub returns-then-not-check_passes : goal.returns-then-not-check_passes
-returns-then-not-check_passes c = sym (all_to_no _ _ c.loop-o.o (omega arith) (sym c.check_passes.ensures ∙ c.if-not-check_passes.true))
-
-pub loop-o-preserved : goal.loop-o-preserved
-unfolding all_to
-loop-o-preserved c =
-    let loop = c.loop-o in
-    (omega arith, rw (add-one loop.o) (and_yes _ _ loop.invariant.1 (sym c.check_passes.ensures ∙ c.if-not-check_passes.false)))
+pub returns : goal.returns
+returns c =
+    let a = c.args in
+    all_from_yields_List (checked_at a.side a.own.now a.fields.now a.opened.now) _ _ _ c.all.ensures.ran (YieldsList-from_range 0 _ _ refl (omega arith)) (λ x b q k. search (rules, tests))
+    ∙ range_is (checked_at a.side a.own.now a.fields.now a.opened.now) _

@@ -3,7 +3,6 @@ use Rattle.opening.specs.Work.{columns_to}
 use Rattle.slice.specs.Layout.{own_in}
 use Rattle.settings.specs.Sizes.{most_openings}
 use Rattle.lists.proofs.Part.{fill-part}
-use Rattle.lists.proofs.Fill.{length-fill}
 use Rattle.lists.specs.Lists.{fill}
 use borrow.Rule.Slice.PartMut.{put_mid}
 use native.Mathlib.Numerals.{add-one}
@@ -11,12 +10,11 @@ use mathlib.Core.List.{List}
 use Prim.Native.Nat.{ℕ, ◌-◌, ◌+◌, ◌*◌}
 use mathlib.Core.Path.{◌≡◌, refl, ap, ◌∙◌}
 use native.Mathlib.Omega.{arith}
-use lib.ListN.{length}
 use Rattle.opening.proofs.kept_columns.Goals as goal
 
 pub loop-f-init : goal.loop-f-init
 unfolding columns_to
-loop-f-init c = (omega arith, refl, refl)
+loop-f-init c = refl
 
 pub loop-f-preserved : goal.loop-f-preserved
 unfolding columns_to
@@ -26,4 +24,4 @@ loop-f-preserved c = let loop = c.loop-f in
     let more : _ ≡ fill loop.sent (most_openings * m) a.count (own_in a.work.now m) =
     ap (λ (l : List ℕ). put_mid (most_openings * m) (most_openings * m + most_openings - most_openings * m) loop.sent l) c.own_column.ensures
     ∙ fill-part loop.sent (most_openings * m) (most_openings * m + most_openings - most_openings * m) (own_in a.work.now m) (omega arith) _ (omega arith) in
-    (omega arith, rw (add-one m, ← loop.invariant.1) more, ap length more ∙ length-fill _ _ _ _ ∙ loop.invariant.2)
+    rw (add-one m, ← loop.invariant) more
