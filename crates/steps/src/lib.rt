@@ -44,6 +44,7 @@ pub struct Column {
 }
 
 // The first (which = 0) or second (1) gate of coefficient j for a digit: addend + u × v, by the triple at a place. All columns share it.
+// `kind` is the shape's, and `which` counts: the gate's register is 8 × which + j (the layout's), so both are numbers.
 #[derive(Clone, Copy)]
 pub struct Gate {
     pub kind: u32,
@@ -51,15 +52,6 @@ pub struct Gate {
     pub which: usize,
     pub triple: usize,
     pub terms: Weighted,
-}
-
-// ---- Numbers
-
-// 1 where the test passes, else 0.
-fn less(a: u32, b: u32) -> u32
-    ensures { (result ≡ bit (ltb a b)) × (result ≤ 1) }
-{
-    if a < b { 1 } else { 0 }
 }
 
 // ---- The context
@@ -79,13 +71,8 @@ fn threshold_of(bound: u32, which: usize, y: u32) -> u32
 fn looks_at(kind: u32, round: u32) -> bool
     ensures { result ≡ looks_at kind round }
 {
-    if round < 2 {
-        return false;
-    }
-    if kind == 0 {
-        return round <= 5;
-    }
-    round <= 6
+    let last = if kind == 0 { 5 } else { 6 };
+    2 <= round && round <= last
 }
 
 // How many numbers a context splits: none where the round looks at no digit.
@@ -131,10 +118,8 @@ pub fn context_of(settings: Settings, round: u32, masked: &[u32]) -> Context
         round,
         splits: [none; 16],
     };
-    let mut x = 0;
-    while x < count {
+    for x in 0..count {
         known.splits[x] = split_number(set, number_at(settings, masked, x));
-        x += 1;
     }
     known
 }
@@ -154,19 +139,15 @@ pub fn split_place(kind: u32, g: usize) -> usize
 fn rule_of(kind: u32, i: usize, which: usize) -> Rule
     ensures { result ≡ rule_of kind i which }
 {
-    if kind == 0 {
-        if i < 4 {
-            if which == 0 {
-                return Rule::Carry;
-            }
-            return Rule::Zero;
-        }
-        if which == 0 {
-            return Rule::Top;
-        }
-        return Rule::Over;
+    if kind != 0 {
+        return Rule::Below;
     }
-    Rule::Below
+    match (i < 4, which == 0) {
+        (true, true) => Rule::Carry,
+        (true, false) => Rule::Zero,
+        (false, true) => Rule::Top,
+        (false, false) => Rule::Over,
+    }
 }
 
 fn limit_of(set: usize, i: usize) -> u32
@@ -231,11 +212,8 @@ fn addend_value(work: &[u32], col: usize, gate: Gate, tops: &[u32]) -> u32
 {
     let terms = gate.terms;
     let a = sum_value(work, col, terms, tops);
-    if gate.kind == 0 {
-        if gate.which == 1 {
-            return add_mod(register(work, col, SECOND + gate.j), a);
-        }
-        return a;
+    if gate.kind == 0 && gate.which == 1 {
+        return add_mod(register(work, col, SECOND + gate.j), a);
     }
     a
 }
@@ -360,7 +338,7 @@ fn inside_value(work: &[u32], col: Column, hi: u32, lo: u32, j: usize) -> u32
         register(work, col.index, FIRST + j),
         register(work, col.index, SECOND + j),
     );
-    add_mod(d, mul_mod(col.weight, less(hi, lo)))
+    add_mod(d, mul_mod(col.weight, u32::from(hi < lo)))
 }
 
 // BOUND: the sum of the insides of all coefficients. The context has hi and lo of each.
@@ -371,13 +349,11 @@ pub fn insides_value(work: &[u32], col: Column, known: Context) -> u32
         → result ≡ value q col.weight (column work.now col.index) (insides (public_by known.settings masked) known.settings.shape.n) }
 {
     let n = known.settings.shape.n as usize;
-    let mut total = mul_mod(col.weight, 0);
-    let mut j = 0;
-    while j < n {
+    let mut total = 0;
+    for j in 0..n {
         let hi = known.splits[2 * j];
         let lo = known.splits[2 * j + 1];
         total = add_mod(total, inside_value(work, col, hi.number, lo.number, j));
-        j += 1;
     }
     total
 }

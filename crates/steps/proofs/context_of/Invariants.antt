@@ -1,5 +1,5 @@
 -- `steps::context_of` meets its contract.
-use Prim.Native.Nat.{ℕ, ◌≤◌, ◌<◌, ◌-◌}
+use Prim.Native.Nat.{ℕ, ◌<◌}
 use mathlib.Core.Path.{◌≡◌}
 use mathlib.Core.List.{[]}
 use lib.ListN.{length, get_or}
@@ -10,8 +10,5 @@ use Rattle.steps.proofs.context_of.Given as goal
 
 abbrev pub invariant-loop-x : goal.invariant-loop-x
 invariant-loop-x l =
-    (l.x ≤ l.count) × (l.known.settings ≡ l.settings) × (l.known.round ≡ l.round) × (length l.known.splits ≡ 16)
+    (l.known.settings ≡ l.settings) × (l.known.round ≡ l.round) × (length l.known.splits ≡ 16)
     × ((y : ℕ) → y < l.x → get_or l.known.splits y (record { number = 0; digits = [] }) ≡ split_of (scale_of l.settings.shape.set) (number_at l.settings (λ (j : ℕ). get_or l.masked j 0) y))
-
-abbrev pub decreases-loop-x : goal.decreases-loop-x
-decreases-loop-x l = l.count - l.x

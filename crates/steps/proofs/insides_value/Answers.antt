@@ -1,26 +1,25 @@
--- `steps::insides_value` meets its contract. Assumes nothing.
+-- `steps::insides_value` meets its contract.
 use Rattle.steps.proofs.Contexts.{hi_is, lo_is}
 use native.Mathlib.Numerals.{add-one}
 use Rattle.steps.specs.Steps.{insides, inside_form}
+use native.Mathlib.Nat.{mul-zero}
 use native.Mathlib.Omega.{arith}
 use Rattle.steps.proofs.insides_value.Goals as goal
 
 pub loop-j-init : goal.loop-j-init
 unfolding insides
-loop-j-init c = (omega arith, λ masked made. c.mul_mod-total.ensures)
+loop-j-init c = λ masked made. rw mul-zero
 
 pub loop-j-preserved : goal.loop-j-preserved
 unfolding insides inside_form
 loop-j-preserved c = let known = c.args.known in
     let p = c.requires.places_in_bounds in
-    let j = c.loop-j.j in (
-      omega arith,
-      λ masked made.
-          rw (
-            add-one,
-            ← c.loop-j.invariant.1 masked made,
-            ← hi_is known.settings known.round masked known made p.1 p.2 j (omega arith),
-            ← lo_is known.settings known.round masked known made p.1 p.2 j (omega arith),
-            ← c.inside_value.ensures,
-          ) c.add_mod-total.ensures,
-    )
+    let j = c.loop-j.j in
+    λ masked made.
+    rw (
+      add-one,
+      ← c.loop-j.invariant masked made,
+      ← hi_is known.settings known.round masked known made p.1 p.2 j (omega arith),
+      ← lo_is known.settings known.round masked known made p.1 p.2 j (omega arith),
+      ← c.inside_value.ensures,
+    ) c.add_mod-total.ensures

@@ -1,16 +1,13 @@
--- `steps::insides_value` meets its contract. Assumes nothing.
+-- `steps::insides_value` meets its contract.
 use Rattle.steps.specs.Steps.{insides}
 use Rattle.field.specs.Forms.{value}
 use Rattle.field.specs.Field.{q}
 use Rattle.slice.specs.Layout.{column}
 use Rattle.steps.specs.Context.{public_by, ContextOf}
-use Prim.Native.Nat.{ℕ, ◌≤◌, ◌-◌}
+use Prim.Native.Nat.{ℕ}
 use mathlib.Core.Path.{◌≡◌}
 use Rattle.steps.proofs.insides_value.Given as goal
 
 abbrev pub invariant-loop-j : goal.invariant-loop-j
-invariant-loop-j l = (l.j ≤ l.n) × ((masked : ℕ → ℕ) → ContextOf l.known.settings l.known.round masked l.known → l.total ≡ value q l.col.weight
-    (column l.work l.col.index) (insides (public_by l.known.settings masked) l.j))
-
-abbrev pub decreases-loop-j : goal.decreases-loop-j
-decreases-loop-j l = l.n - l.j
+invariant-loop-j l = (masked : ℕ → ℕ) → ContextOf l.known.settings l.known.round masked l.known → l.total ≡ value q l.col.weight
+    (column l.work l.col.index) (insides (public_by l.known.settings masked) l.j)

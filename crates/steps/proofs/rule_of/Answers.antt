@@ -3,22 +3,22 @@ use Rattle.lists.proofs.Questions.{tests}
 use Rattle.slice.specs.Weights.{rule_of}
 use Rattle.steps.proofs.rule_of.Goals as goal
 
-pub returns-then-which-eq0 : goal.returns-then-which-eq0
+pub returns-then-kind-ne0 : goal.returns-then-kind-ne0
 unfolding rule_of
-returns-then-which-eq0 c = search tests
+returns-then-kind-ne0 c = search tests
 
-pub returns-then-i-lt4 : goal.returns-then-i-lt4
+pub returns-in-true-true : goal.returns-in-true-true
 unfolding rule_of
-returns-then-i-lt4 c = search tests
+returns-in-true-true c = search tests
 
-pub returns-then-which-eq0-2 : goal.returns-then-which-eq0-2
+pub returns-in-true-false : goal.returns-in-true-false
 unfolding rule_of
-returns-then-which-eq0-2 c = search tests
+returns-in-true-false c = search tests
 
-pub returns-then-kind-eq0 : goal.returns-then-kind-eq0
+pub returns-in-false-true : goal.returns-in-false-true
 unfolding rule_of
-returns-then-kind-eq0 c = search tests
+returns-in-false-true c = search tests
 
-pub returns : goal.returns
+pub returns-in-false-false : goal.returns-in-false-false
 unfolding rule_of
-returns c = search tests
+returns-in-false-false c = search tests
