@@ -24,7 +24,11 @@ own_at o = 1344 + o
 abbrev pub masked_at : ℕ → ℕ
 masked_at j = 1376 + j
 
--- the registers of column c: 0 behind the last of them, so that no form reads there
+-- the registers of a column's numbers: 0 behind the last of them, so that no form reads there
+unfoldable pub registers : List ℕ → Registers
+registers numbers place = cond (ltb place (own_at 0)) (get_or numbers place 0) 0
+
+-- the registers of column c of a slice
 unfoldable pub column : List ℕ → ℕ → Registers
 column work c place = cond (ltb place (own_at 0)) (get_or work (c * places + place) 0) 0
 

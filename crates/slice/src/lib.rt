@@ -12,7 +12,7 @@ ghost use Rattle.settings.specs.Questions.{ShapeReady};
 ghost use Rattle.settings.specs.Sets.{top_digits};
 ghost use Rattle.settings.specs.Settings.{params_of};
 ghost use Rattle.settings.specs.Sizes.{key_count, width, most_openings, shared, places, work_length};
-ghost use Rattle.slice.specs.Layout.{own_at, column, own_in, masked_in, begun_place, begun_work, with_batch, weights};
+ghost use Rattle.slice.specs.Layout.{own_at, registers, own_in, masked_in, begun_place, begun_work, with_batch, weights};
 ghost use Rattle.slice.specs.Weights.{weigh, top_rises, TopFits};
 ghost use Rattle.slice.specs.declared.Rule.TheVariants.{Zero, Top};
 
@@ -140,6 +140,14 @@ pub fn weights_of(number: u32, keys: [u32; KEYS]) -> [u32; WIDTH]
     for_columns(0, none, keys)
 }
 
+// Register i of a column.
+pub fn register(column: &[u32; PLACES], i: usize) -> u32
+    requires { i < own_at 0 }
+    ensures { result ≡ registers column.now i }
+{
+    column[i]
+}
+
 // The masked numbers that the slice holds.
 pub fn masked_in(work: &[u32]) -> [u32; 8]
     requires { places ≤ length work.now }
@@ -169,36 +177,28 @@ fn times(a: u32, b: u32) -> u64
     u64::from(a) * u64::from(b)
 }
 
-// Register i of column `col`.
-pub fn register(work: &[u32], col: usize, i: usize) -> u32
-    requires { ((col + 1) * places ≤ length work.now) × (i < own_at 0) }
-    ensures { result ≡ column work.now col i }
-{
-    work[col * PLACES + i]
-}
-
 // Entries `from` to `to` of the vector at a place, each once. Sums are reduced once.
-fn part_sum(work: &[u32], col: usize, place: usize, from: usize, to: usize) -> u32
-    requires { ((col + 1) * places ≤ length work.now) × (place + to ≤ own_at 0) × (to ≤ 64) × (from ≤ 64) }
-    ensures { result ≡ sum_to (to - from) (λ (x : ℕ). column work.now col (place + (from + x))) % q }
+fn part_sum(column: &[u32; PLACES], place: usize, from: usize, to: usize) -> u32
+    requires { (place + to ≤ own_at 0) × (to ≤ 64) × (from ≤ 64) }
+    ensures { result ≡ sum_to (to - from) (λ (x : ℕ). registers column.now (place + (from + x))) % q }
 {
     let mut total: u64 = 0;
     for j in from..to {
-        total += u64::from(register(work, col, place + j));
+        total += u64::from(register(column, place + j));
     }
     (total % Q64) as u32
 }
 
 // The entries of the vector, entry x times entry x + d of the list, d the digit. Sums are reduced once.
-fn listed_sum(work: &[u32], col: usize, terms: Weighted, list: &[u32]) -> u32
-    requires places_in_bounds { ((col + 1) * places ≤ length work.now) × (terms.place + terms.n ≤ own_at 0) × (terms.n ≤ 64) × (terms.n + terms.digit ≤ length list.now) }
+fn listed_sum(column: &[u32; PLACES], terms: Weighted, list: &[u32]) -> u32
+    requires places_in_bounds { (terms.place + terms.n ≤ own_at 0) × (terms.n ≤ 64) × (terms.n + terms.digit ≤ length list.now) }
     requires by_index { (i : ℕ) → i < length list.now → get_or list.now i 0 < 16777216 }
-    ensures { result ≡ sum_to terms.n (λ (x : ℕ). get_or list.now (x + terms.digit) 0 * column work.now col (terms.place + x)) % q }
+    ensures { result ≡ sum_to terms.n (λ (x : ℕ). get_or list.now (x + terms.digit) 0 * registers column.now (terms.place + x)) % q }
 {
     let d = terms.digit as usize;
     let mut total: u64 = 0;
     for j in 0..terms.n {
-        total += times(list[j + d], register(work, col, terms.place + j));
+        total += times(list[j + d], register(column, terms.place + j));
     }
     (total % Q64) as u32
 }
@@ -227,54 +227,54 @@ fn zero_entry(b: u32, d: u32) -> usize
 
 // The entries of the vector, each times its weight by the rule. But for Top's, weights are 0 or 1: the sum goes through the entries
 // of weight 1 alone. Top's stand in the list of t(d), `tops`, which no other rule reads.
-pub fn weighted_sum(work: &[u32], col: usize, terms: Weighted, tops: &[u32]) -> u32
-    requires places_in_bounds { ((col + 1) * places ≤ length work.now) × (terms.place + terms.n ≤ own_at 0) × (terms.n ≤ 64) × (1 ≤ terms.limit) × (terms.limit ≤ 45) }
+pub fn weighted_sum(column: &[u32; PLACES], terms: Weighted, tops: &[u32]) -> u32
+    requires places_in_bounds { (terms.place + terms.n ≤ own_at 0) × (terms.n ≤ 64) × (1 ≤ terms.limit) × (terms.limit ≤ 45) }
     requires n_value { (terms.rule ≡ Zero → (terms.n ≡ terms.limit) × (terms.digit ≤ terms.limit)) × (terms.rule ≡ Top → TopFits top_digits terms tops.now) }
-    ensures { (κ : ℕ) → result ≡ value q κ (column work.now col) (sum terms.n terms.place (weigh terms.rule terms.limit terms.digit)) }
+    ensures { (κ : ℕ) → result ≡ value q κ (registers column.now) (sum terms.n terms.place (weigh terms.rule terms.limit terms.digit)) }
 {
     let place = terms.place;
     let n = terms.n;
     let b = terms.limit;
     let d = terms.digit;
     match terms.rule {
-        Rule::Carry => part_sum(work, col, place, b.saturating_sub(d) as usize, n),
-        Rule::Zero => register(work, col, place + zero_entry(b, d)) % Q,
-        Rule::Top => listed_sum(work, col, terms, tops),
-        Rule::Over => part_sum(work, col, place, (b + 1).saturating_sub(d) as usize, n),
-        Rule::Below => part_sum(work, col, place, 0, (d as usize).min(n)),
+        Rule::Carry => part_sum(column, place, b.saturating_sub(d) as usize, n),
+        Rule::Zero => register(column, place + zero_entry(b, d)) % Q,
+        Rule::Top => listed_sum(column, terms, tops),
+        Rule::Over => part_sum(column, place, (b + 1).saturating_sub(d) as usize, n),
+        Rule::Below => part_sum(column, place, 0, (d as usize).min(n)),
     }
 }
 
 // Entry x of the vector, or 0 where there is none.
-fn entry_at(work: &[u32], col: usize, terms: Weighted, x: Option<u32>) -> u32
-    requires { ((col + 1) * places ≤ length work.now) × (terms.place + terms.n ≤ own_at 0) }
-    ensures { MatchOption x (result ≡ 0) (λ x. result ≡ cond (ltb x terms.n) (column work.now col (terms.place + x)) 0 % q) }
+fn entry_at(column: &[u32; PLACES], terms: Weighted, x: Option<u32>) -> u32
+    requires { terms.place + terms.n ≤ own_at 0 }
+    ensures { MatchOption x (result ≡ 0) (λ x. result ≡ cond (ltb x terms.n) (registers column.now (terms.place + x)) 0 % q) }
 {
     match x {
-        Some(x) if (x as usize) < terms.n => register(work, col, terms.place + x as usize) % Q,
+        Some(x) if (x as usize) < terms.n => register(column, terms.place + x as usize) % Q,
         _ => 0,
     }
 }
 
 // What the weighted sum grows by where the digit is one higher: one weight becomes 1, for Zero one becomes 0 too. For Top any may change:
 // `rises` has by how much, and no other rule reads it.
-pub fn raised_by(work: &[u32], col: usize, terms: Weighted, rises: &[u32]) -> u32
-    requires places_in_bounds { ((col + 1) * places ≤ length work.now) × (terms.place + terms.n ≤ own_at 0) × (terms.n ≤ 64) × (1 ≤ terms.limit) × (terms.limit ≤ 45) × (terms.digit < 65536) }
+pub fn raised_by(column: &[u32; PLACES], terms: Weighted, rises: &[u32]) -> u32
+    requires places_in_bounds { (terms.place + terms.n ≤ own_at 0) × (terms.n ≤ 64) × (1 ≤ terms.limit) × (terms.limit ≤ 45) × (terms.digit < 65536) }
     requires n_value { (terms.rule ≡ Zero → (terms.n ≡ terms.limit) × (terms.digit + 1 ≤ terms.limit)) × (terms.rule ≡ Top → TopFits top_rises terms rises.now) }
     ensures { (κ : ℕ) → result
-        ≡ value q κ (column work.now col) (sum terms.n terms.place (weigh terms.rule terms.limit (terms.digit + 1)) ⊟ sum terms.n terms.place (weigh terms.rule terms.limit terms.digit)) }
+        ≡ value q κ (registers column.now) (sum terms.n terms.place (weigh terms.rule terms.limit (terms.digit + 1)) ⊟ sum terms.n terms.place (weigh terms.rule terms.limit terms.digit)) }
 {
     let place = terms.place;
     let b = terms.limit;
     let d = terms.digit;
     match terms.rule {
-        Rule::Carry => entry_at(work, col, terms, b.checked_sub(d + 1)),
+        Rule::Carry => entry_at(column, terms, b.checked_sub(d + 1)),
         Rule::Zero => sub_mod(
-            register(work, col, place + zero_entry(b, d + 1)),
-            register(work, col, place + zero_entry(b, d)),
+            register(column, place + zero_entry(b, d + 1)),
+            register(column, place + zero_entry(b, d)),
         ),
-        Rule::Top => listed_sum(work, col, terms, rises),
-        Rule::Over => entry_at(work, col, terms, b.checked_sub(d)),
-        Rule::Below => entry_at(work, col, terms, Some(d)),
+        Rule::Top => listed_sum(column, terms, rises),
+        Rule::Over => entry_at(column, terms, b.checked_sub(d)),
+        Rule::Below => entry_at(column, terms, Some(d)),
     }
 }

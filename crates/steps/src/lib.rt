@@ -13,7 +13,7 @@ ghost use Rattle.settings.specs.Questions.{Ready, ShapeReady};
 ghost use Rattle.settings.specs.Sizes.{places};
 ghost use Rattle.rounding.specs.Rounds.{threshold};
 ghost use Rattle.book.specs.Book.{group_k, group_gap, group_at};
-ghost use Rattle.slice.specs.Layout.{running_at, column};
+ghost use Rattle.slice.specs.Layout.{running_at, registers, column};
 ghost use Rattle.slice.specs.Weights.{top_rises, rule_of};
 ghost use Rattle.steps.specs.Steps.{limit_of, shift_of, open_input, insides, group_of, check_entry, after_check};
 ghost use Rattle.steps.specs.Context.{public_by, looks_at, number_at, split_count, split_place, ContextOf};
@@ -22,7 +22,7 @@ ghost use Rattle.steps.specs.Gates.{terms_at, gate_at, TermsFit, GateFits, Liste
 use book::{group_at, group_gap, group_k, mask_at, triple_at, vector_at};
 use field::{Q, Q64, add_mod, mul_mod, sub_mod};
 use rounding::{Split, split_number};
-use settings::{Settings, Shape, alpha_of, base_of, parts_of};
+use settings::{PLACES, Settings, Shape, alpha_of, base_of, parts_of};
 use slice::{FIRST, INPUT, Rule, SECOND, Weighted, raised_by, register, weighted_sum};
 
 // What both sides know in a round: the settings, the round's number, and the numbers whose digits its gates look at, each split in its
@@ -36,11 +36,12 @@ pub struct Context {
     pub splits: [Split; 16],
 }
 
-// A column of the working slice, and what a public 1 adds to it.
-#[derive(Clone, Copy)]
-pub struct Column {
-    pub index: usize,
-    pub weight: u32,
+// Column c of a working slice.
+pub fn column_of(work: &[u32], c: usize) -> &[u32; PLACES]
+    requires { (c + 1) * places ≤ length work.now }
+    ensures { registers result.now ≡ column work.now c }
+{
+    &work.as_chunks::<PLACES>().0[c]
 }
 
 // The first (which = 0) or second (1) gate of coefficient j for a digit: addend + u × v, by the triple at a place. All columns share it.
@@ -197,68 +198,66 @@ pub fn gate_of(shape: Shape, split: Split, g: usize, i: usize) -> Gate
 // `tops`, and F' − F in the list `rises` what t(d) grows by.
 
 // The gate's sum alone: what round 1 makes of digit 0.
-pub fn sum_value(work: &[u32], col: usize, terms: Weighted, tops: &[u32]) -> u32
+pub fn sum_value(column: &[u32; PLACES], terms: Weighted, tops: &[u32]) -> u32
     requires terms_fit { TermsFit terms }
-    requires places_in_bounds { ((col + 1) * places ≤ length work.now) × Listed top_digits terms tops.now }
-    ensures { (κ : ℕ) → result ≡ value q κ (column work.now col) (sum_form terms 0) }
+    requires listed { Listed top_digits terms tops.now }
+    ensures { (κ : ℕ) → result ≡ value q κ (registers column.now) (sum_form terms 0) }
 {
-    weighted_sum(work, col, terms, tops)
+    weighted_sum(column, terms, tops)
 }
 
-fn addend_value(work: &[u32], col: usize, gate: Gate, tops: &[u32]) -> u32
+fn addend_value(column: &[u32; PLACES], gate: Gate, tops: &[u32]) -> u32
     requires gate_fits { GateFits gate }
-    requires places_in_bounds { ((col + 1) * places ≤ length work.now) × Listed top_digits gate.terms tops.now }
-    ensures { (κ : ℕ) → result ≡ value q κ (column work.now col) (addend_form gate) }
+    requires listed { Listed top_digits gate.terms tops.now }
+    ensures { (κ : ℕ) → result ≡ value q κ (registers column.now) (addend_form gate) }
 {
     let terms = gate.terms;
-    let a = sum_value(work, col, terms, tops);
+    let a = sum_value(column, terms, tops);
     if gate.kind == 0 && gate.which == 1 {
-        return add_mod(register(work, col, SECOND + gate.j), a);
+        return add_mod(register(column, SECOND + gate.j), a);
     }
     a
 }
 
-fn u_value(work: &[u32], col: usize, gate: Gate) -> u32
+fn u_value(column: &[u32; PLACES], gate: Gate) -> u32
     requires gate_fits { GateFits gate }
-    requires places_in_bounds { (col + 1) * places ≤ length work.now }
-    ensures { (κ : ℕ) → result ≡ value q κ (column work.now col) (u_form gate) }
+    ensures { (κ : ℕ) → result ≡ value q κ (registers column.now) (u_form gate) }
 {
     if gate.kind == 0 {
-        return register(work, col, FIRST + gate.j);
+        return register(column, FIRST + gate.j);
     }
-    register(work, col, gate.terms.place + gate.terms.digit as usize)
+    register(column, gate.terms.place + gate.terms.digit as usize)
 }
 
-fn v_value(work: &[u32], col: usize, gate: Gate, rises: &[u32]) -> u32
+fn v_value(column: &[u32; PLACES], gate: Gate, rises: &[u32]) -> u32
     requires gate_fits { GateFits gate }
-    requires places_in_bounds { ((col + 1) * places ≤ length work.now) × Listed top_rises gate.terms rises.now }
-    ensures { (κ : ℕ) → result ≡ value q κ (column work.now col) (v_form gate) }
+    requires listed { Listed top_rises gate.terms rises.now }
+    ensures { (κ : ℕ) → result ≡ value q κ (registers column.now) (v_form gate) }
 {
     if gate.kind == 0 {
         let terms = gate.terms;
-        return raised_by(work, col, terms, rises);
+        return raised_by(column, terms, rises);
     }
-    register(work, col, FIRST + 8 * gate.which + gate.j)
+    register(column, FIRST + 8 * gate.which + gate.j)
 }
 
 // u − a.
-pub fn open_u(work: &[u32], col: usize, gate: Gate) -> u32
+pub fn open_u(column: &[u32; PLACES], gate: Gate) -> u32
     requires gate_fits { GateFits gate }
-    requires places_in_bounds { (col + 1) * places ≤ length work.now }
-    ensures { (κ : ℕ) → result ≡ value q κ (column work.now col) (open_u gate) }
+    ensures { (κ : ℕ) → result ≡ value q κ (registers column.now) (open_u gate) }
 {
-    let u = u_value(work, col, gate);
-    sub_mod(u, register(work, col, gate.triple))
+    let u = u_value(column, gate);
+    sub_mod(u, register(column, gate.triple))
 }
 
 // v − b.
-pub fn open_v(work: &[u32], col: usize, gate: Gate, rises: &[u32]) -> u32
+pub fn open_v(column: &[u32; PLACES], gate: Gate, rises: &[u32]) -> u32
     requires gate_fits { GateFits gate }
-    requires places_in_bounds { ((col + 1) * places ≤ length work.now) × Listed top_rises gate.terms rises.now }
-    ensures { (κ : ℕ) → result ≡ value q κ (column work.now col) (open_v gate) }
+    requires listed { Listed top_rises gate.terms rises.now }
+    ensures { (κ : ℕ) → result ≡ value q κ (registers column.now) (open_v gate) }
 {
-    let v = v_value(work, col, gate, rises);
-    sub_mod(v, register(work, col, gate.triple + 1))
+    let v = v_value(column, gate, rises);
+    sub_mod(v, register(column, gate.triple + 1))
 }
 
 // A number up to q times a factor that is not reduced.
@@ -279,25 +278,25 @@ pub struct Factors {
 // addend + e × v + f × u + third − e × f, e and f the opened numbers. u and v are not worked out again: they are this side's own numbers for
 // the two openings, with a and b added. The end alone is reduced: − e × f is q less e × f modulo q, times the weight.
 pub fn gate_value(
-    work: &[u32],
-    col: Column,
+    column: &[u32; PLACES],
+    weight: u32,
     gate: Gate,
     own: Factors,
     opened: Factors,
     tops: &[u32],
 ) -> u32
     requires gate_fits { GateFits gate }
-    requires places_in_bounds { ((col.index + 1) * places ≤ length work.now) × (opened.u < q) × (opened.v < q) × Listed top_digits gate.terms tops.now }
-    requires u_value { (own.u ≡ value q col.weight (column work.now col.index) (open_u gate)) × (own.v ≡ value q col.weight (column work.now col.index) (open_v gate)) }
-    ensures { result ≡ value q col.weight (column work.now col.index) (result_form gate opened.u opened.v) }
+    requires opened_below { (opened.u < q) × (opened.v < q) × Listed top_digits gate.terms tops.now }
+    requires u_value { (own.u ≡ value q weight (registers column.now) (open_u gate)) × (own.v ≡ value q weight (registers column.now) (open_v gate)) }
+    ensures { result ≡ value q weight (registers column.now) (result_form gate opened.u opened.v) }
 {
-    let addend = addend_value(work, col.index, gate, tops);
-    let u = own.u as u64 + register(work, col.index, gate.triple) as u64;
-    let v = own.v as u64 + register(work, col.index, gate.triple + 1) as u64;
-    let third = register(work, col.index, gate.triple + 2);
+    let addend = addend_value(column, gate, tops);
+    let u = own.u as u64 + register(column, gate.triple) as u64;
+    let v = own.v as u64 + register(column, gate.triple + 1) as u64;
+    let third = register(column, gate.triple + 2);
     let sum = addend as u64 + times(opened.u, v) + times(opened.v, u) + third as u64;
     let product = mul_mod(opened.u, opened.v);
-    ((sum + times(Q - product, col.weight as u64)) % Q64) as u32
+    ((sum + times(Q - product, weight as u64)) % Q64) as u32
 }
 
 // ---- What else is opened
@@ -314,62 +313,62 @@ fn shift_of(settings: Settings) -> u32
 }
 
 // Round 1: y. (No masked number is looked at.)
-pub fn open_input(work: &[u32], col: Column, settings: Settings, j: usize) -> u32
+pub fn open_input(column: &[u32; PLACES], weight: u32, settings: Settings, j: usize) -> u32
     requires ready { Ready settings }
-    requires places_in_bounds { ((col.index + 1) * places ≤ length work.now) × (j < settings.shape.n) }
-    ensures { (masked : ℕ → ℕ) → result ≡ value q col.weight (column work.now col.index) (open_input (public_by settings masked) j) }
+    requires coefficient { j < settings.shape.n }
+    ensures { (masked : ℕ → ℕ) → result ≡ value q weight (registers column.now) (open_input (public_by settings masked) j) }
 {
     let shape = settings.shape;
     let shift = shift_of(settings);
     let place = mask_at(shape, j);
     let a = add_mod(
-        register(work, col.index, INPUT + j),
-        mul_mod(col.weight, shift),
+        register(column, INPUT + j),
+        mul_mod(weight, shift),
     );
-    sub_mod(a, register(work, col.index, place))
+    sub_mod(a, register(column, place))
 }
 
 // BOUND: is the coefficient with these hi and lo inside?
-fn inside_value(work: &[u32], col: Column, hi: u32, lo: u32, j: usize) -> u32
-    requires { ((col.index + 1) * places ≤ length work.now) × (j < 8) }
-    ensures { result ≡ value q col.weight (column work.now col.index) (reg (running_at 0 j) ⊟ reg (running_at 1 j) ⊞ num (bit (ltb hi lo))) }
+fn inside_value(column: &[u32; PLACES], weight: u32, hi: u32, lo: u32, j: usize) -> u32
+    requires { j < 8 }
+    ensures { result ≡ value q weight (registers column.now) (reg (running_at 0 j) ⊟ reg (running_at 1 j) ⊞ num (bit (ltb hi lo))) }
 {
     let d = sub_mod(
-        register(work, col.index, FIRST + j),
-        register(work, col.index, SECOND + j),
+        register(column, FIRST + j),
+        register(column, SECOND + j),
     );
-    add_mod(d, mul_mod(col.weight, u32::from(hi < lo)))
+    add_mod(d, mul_mod(weight, u32::from(hi < lo)))
 }
 
 // BOUND: the sum of the insides of all coefficients. The context has hi and lo of each.
-pub fn insides_value(work: &[u32], col: Column, known: Context) -> u32
+pub fn insides_value(column: &[u32; PLACES], weight: u32, known: Context) -> u32
     requires ready { Ready known.settings }
-    requires places_in_bounds { ((col.index + 1) * places ≤ length work.now) × (known.settings.shape.kind ≢ 0) × (known.round ≡ 6) }
+    requires bound_round { (known.settings.shape.kind ≢ 0) × (known.round ≡ 6) }
     ensures { (masked : ℕ → ℕ) → ContextOf known.settings known.round masked known
-        → result ≡ value q col.weight (column work.now col.index) (insides (public_by known.settings masked) known.settings.shape.n) }
+        → result ≡ value q weight (registers column.now) (insides (public_by known.settings masked) known.settings.shape.n) }
 {
     let n = known.settings.shape.n as usize;
     let mut total = 0;
     for j in 0..n {
         let hi = known.splits[2 * j];
         let lo = known.splits[2 * j + 1];
-        total = add_mod(total, inside_value(work, col, hi.number, lo.number, j));
+        total = add_mod(total, inside_value(column, weight, hi.number, lo.number, j));
     }
     total
 }
 
 // Round 6: ρ + g × (K − number), of the group of a coefficient. HIGH: the number is its count of zeros; BOUND: that of the insides.
-pub fn open_check(work: &[u32], col: Column, shape: Shape, group: usize, number: u32) -> u32
+pub fn open_check(column: &[u32; PLACES], weight: u32, shape: Shape, group: usize, number: u32) -> u32
     requires shape_ready { ShapeReady shape }
-    requires places_in_bounds { ((col.index + 1) * places ≤ length work.now) × (group < shape.n) }
-    ensures { (f : Form) → number ≡ value q col.weight (column work.now col.index) f → result
-        ≡ value q col.weight (column work.now col.index) (reg (group_at (params_of shape) group) ⊞ group_gap (params_of shape) ⊠ (num (group_k (params_of shape)) ⊟ f)) }
+    requires group_in { group < shape.n }
+    ensures { (f : Form) → number ≡ value q weight (registers column.now) f → result
+        ≡ value q weight (registers column.now) (reg (group_at (params_of shape) group) ⊞ group_gap (params_of shape) ⊠ (num (group_k (params_of shape)) ⊟ f)) }
 {
-    let most = mul_mod(col.weight, group_k(shape));
+    let most = mul_mod(weight, group_k(shape));
     let n = sub_mod(most, number);
     let place = group_at(shape, group);
     let gap = group_gap(shape);
-    add_mod(register(work, col.index, place), mul_mod(gap, n))
+    add_mod(register(column, place), mul_mod(gap, n))
 }
 
 // ---- What the opened numbers of round 6 make of the running registers
@@ -383,15 +382,15 @@ fn index_of(shape: Shape, x: u32) -> usize
 }
 
 // The entry of a group's vector for the opened number x: the zero check's result.
-fn check_entry(work: &[u32], col: usize, settings: Settings, group: usize, x: u32) -> u32
+fn check_entry(column: &[u32; PLACES], settings: Settings, group: usize, x: u32) -> u32
     requires ready { Ready settings }
-    requires places_in_bounds { ((col + 1) * places ≤ length work.now) × (group < 8) × (x < q) }
-    ensures { (masked : ℕ → ℕ) (κ : ℕ) → result ≡ value q κ (column work.now col) (check_entry (public_by settings masked) group x) }
+    requires group_in { (group < 8) × (x < q) }
+    ensures { (masked : ℕ → ℕ) (κ : ℕ) → result ≡ value q κ (registers column.now) (check_entry (public_by settings masked) group x) }
 {
     let shape = settings.shape;
     let place = group_at(shape, group);
     let index = index_of(shape, x);
-    register(work, col, place + 1 + index)
+    register(column, place + 1 + index)
 }
 
 // Whose zero check it is: its own for HIGH, the one of all for BOUND.
@@ -405,20 +404,20 @@ fn group_of(kind: u32, j: usize) -> usize
 }
 
 // The first register of coefficient j after round 6: HIGH's F − C; BOUND's result, for coefficient 0.
-pub fn after_check(work: &[u32], col: usize, settings: Settings, j: usize, opened: &[u32]) -> u32
+pub fn after_check(column: &[u32; PLACES], settings: Settings, j: usize, opened: &[u32]) -> u32
     requires ready { Ready settings }
-    requires places_in_bounds { ((col + 1) * places ≤ length work.now) × (j < settings.shape.n) }
-    requires j_in_bounds { (group_of settings.shape.kind j < length opened.now) × ((o : ℕ) → get_or opened.now o 0 < q) }
-    ensures { (masked : ℕ → ℕ) (κ : ℕ) → result ≡ value q κ (column work.now col) (after_check (public_by settings masked) j 0 (get_or opened.now (group_of settings.shape.kind j) 0)) }
+    requires coefficient { j < settings.shape.n }
+    requires opened_below { (group_of settings.shape.kind j < length opened.now) × ((o : ℕ) → get_or opened.now o 0 < q) }
+    ensures { (masked : ℕ → ℕ) (κ : ℕ) → result ≡ value q κ (registers column.now) (after_check (public_by settings masked) j 0 (get_or opened.now (group_of settings.shape.kind j) 0)) }
 {
     let kind = settings.shape.kind;
     let x = opened[group_of(kind, j)];
     if kind == 0 {
-        let wrap = check_entry(work, col, settings, j, x);
-        return sub_mod(register(work, col, FIRST + j), wrap);
+        let wrap = check_entry(column, settings, j, x);
+        return sub_mod(register(column, FIRST + j), wrap);
     }
     if j == 0 {
-        return check_entry(work, col, settings, 0, x);
+        return check_entry(column, settings, 0, x);
     }
-    register(work, col, FIRST + j)
+    register(column, FIRST + j)
 }

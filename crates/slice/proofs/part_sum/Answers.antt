@@ -2,7 +2,7 @@
 use Prim.Native.Nat.{ℕ, ◌+◌, ◌≤◌}
 use mathlib.Core.Path.{◌∙◌}
 use native.Mathlib.Omega.{arith}
-use Rattle.slice.specs.Layout.{column}
+use Rattle.slice.specs.Layout.{registers}
 use Rattle.slice.proofs.Ranges.{part_none, part-next, part-done}
 use Rattle.slice.proofs.part_sum.Goals as goal
 
@@ -15,7 +15,7 @@ loop-j-preserved c =
     let a = c.args in
     let past : a.from ≤ loop.j = omega arith in (
       omega arith,
-      part-next a.from loop.j loop.total _ (λ (i : ℕ). column a.work.now a.col (a.place + i)) past loop.invariant.1 (c.from-total.ensures ∙ c.register.ensures),
+      part-next a.from loop.j loop.total _ (λ (i : ℕ). registers a.column.now (a.place + i)) past loop.invariant.1 (c.from-total.ensures ∙ c.register.ensures),
       omega arith,
     )
 

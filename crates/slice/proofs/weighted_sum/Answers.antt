@@ -3,7 +3,7 @@ use Prim.Native.Nat.{ℕ, ◌+◌, ◌%◌}
 use mathlib.Core.Path.{sym, ap, ◌∙◌}
 use native.Mathlib.Omega.{arith}
 use Rattle.field.specs.Field.{q}
-use Rattle.slice.specs.Layout.{column}
+use Rattle.slice.specs.Layout.{registers}
 use Rattle.slice.specs.Weights.{weigh}
 use Rattle.slice.proofs.Ranges.{carry-sum, zero-sum, over-sum, below-sum, top_listed, tops_small}
 use Rattle.settings.proofs.Sets.{top-length}
@@ -22,7 +22,7 @@ returns-in-Carry c κ =
     let a = c.args in
     rw c.in-Carry.is
     (c.part_sum.ensures ∙ rw c.saturating_sub.ensures (ap (λ (x : ℕ). x % q)
-    (sym (carry-sum a.terms.n a.terms.limit a.terms.digit (λ (j : ℕ). column a.work.now a.col (a.terms.place + j))))))
+    (sym (carry-sum a.terms.n a.terms.limit a.terms.digit (λ (j : ℕ). registers a.column.now (a.terms.place + j))))))
 
 pub returns-in-Zero : goal.returns-in-Zero
 returns-in-Zero c κ =
@@ -32,7 +32,7 @@ returns-in-Zero c κ =
     let entry = c.zero_entry in
     rw (told, z.0)
     (ap (λ (x : ℕ). x % q) (c.register.ensures ∙ sym (zero-sum a.terms.limit a.terms.digit entry.result z.1 entry.ensures.0
-    (λ (j : ℕ). column a.work.now a.col (a.terms.place + j)) entry.ensures.1)))
+    (λ (j : ℕ). registers a.column.now (a.terms.place + j)) entry.ensures.1)))
 
 pub returns-in-Top : goal.returns-in-Top
 unfolding weigh
@@ -42,18 +42,18 @@ returns-in-Top c κ =
     let fits = c.requires.n_value.1 told in
     rw told
     (c.listed_sum.ensures ∙ ap (λ (x : ℕ). x % q)
-    (top_listed a.terms.n a.terms.limit a.terms.digit (λ (j : ℕ). column a.work.now a.col (a.terms.place + j)) a.tops.now fits.1 fits.2 fits.0))
+    (top_listed a.terms.n a.terms.limit a.terms.digit (λ (j : ℕ). registers a.column.now (a.terms.place + j)) a.tops.now fits.1 fits.2 fits.0))
 
 pub returns-in-Over : goal.returns-in-Over
 returns-in-Over c κ =
     let a = c.args in
     rw c.in-Over.is
     (c.part_sum-in-Over.ensures ∙ rw c.saturating_sub-in-Over.ensures (ap (λ (x : ℕ). x % q)
-    (sym (over-sum a.terms.n a.terms.limit a.terms.digit (λ (j : ℕ). column a.work.now a.col (a.terms.place + j))))))
+    (sym (over-sum a.terms.n a.terms.limit a.terms.digit (λ (j : ℕ). registers a.column.now (a.terms.place + j))))))
 
 pub returns-in-Below : goal.returns-in-Below
 returns-in-Below c κ =
     let a = c.args in
     rw c.in-Below.is
     (c.part_sum-in-Below.ensures ∙ rw c.min.ensures (ap (λ (x : ℕ). x % q)
-    (sym (below-sum a.terms.n a.terms.limit a.terms.digit (λ (j : ℕ). column a.work.now a.col (a.terms.place + j))))))
+    (sym (below-sum a.terms.n a.terms.limit a.terms.digit (λ (j : ℕ). registers a.column.now (a.terms.place + j))))))

@@ -13,13 +13,13 @@ loop-j-init c = λ masked made. rw mul-zero
 pub loop-j-preserved : goal.loop-j-preserved
 unfolding insides inside_form
 loop-j-preserved c = let known = c.args.known in
-    let p = c.requires.places_in_bounds in
+    let p = c.requires.bound_round in
     let j = c.loop-j.j in
     λ masked made.
     rw (
       add-one,
       ← c.loop-j.invariant masked made,
-      ← hi_is known.settings known.round masked known made p.1 p.2 j (omega arith),
-      ← lo_is known.settings known.round masked known made p.1 p.2 j (omega arith),
+      ← hi_is known.settings known.round masked known made p.0 p.1 j (omega arith),
+      ← lo_is known.settings known.round masked known made p.0 p.1 j (omega arith),
       ← c.inside_value.ensures,
     ) c.add_mod-total.ensures
