@@ -3,13 +3,14 @@ use Prim.Native.Nat.{ℕ, zero, suc, ◌+◌, ◌*◌, ◌-◌, ◌/◌, ◌%◌
 use mathlib.Core.Path.{◌≡◌, refl, ap, ◌∙◌}
 use mathlib.Core.Bool.{true}
 use mathlib.Core.List.{List, [], ◌∷◌, ◌++◌}
+use Rattle.std.proofs.Common.{Some}
 use native.Mathlib.Omega.{arith}
 use native.Mathlib.Decide.{dec_lt}
 use borrow.Author.Tests.{le-ltb, lt-leb, le-leb, ne_eqb}
 use lib.ListN.{length, length-append}
 use Rattle.lists.specs.Lists.{every}
 use Rattle.lists.proofs.Every.{every_append}
-use Rattle.text.specs.Decimal.{digit_byte, value_from, value_of, most_digits, too_large, fit, number_in}
+use Rattle.text.specs.Decimal.{digit_byte, value_from, value_of, most_digits, too_large, number_in}
 use Rattle.text.specs.Text.{decimal_in, decimal, last_digit}
 use Rattle.text.proofs.Decimals.{tens, decimal-none, decimal-below, decimal-more, length_decimal_32}
 
@@ -24,7 +25,7 @@ value-last v n = let s : last_digit n - 48 ≡ n % 10 = omega arith in ap (λ (d
 
 last-digit : (n : ℕ) → every digit_byte (last_digit n ∷ []) ≡ true
 unfolding every digit_byte
-last-digit n = rw (le-ltb (last_digit n) 48 (omega arith), le-leb (last_digit n) 57 (omega arith)) refl
+last-digit n = rw (le-leb 48 (last_digit n) (omega arith), le-leb (last_digit n) 57 (omega arith)) refl
 
 -- what holds of a number of one digit, and of one more digit, holds of all decimals
 value-decimal : (k n : ℕ) → n < tens k → value_of (decimal_in k n) ≡ n
@@ -64,7 +65,7 @@ some-digit (suc k) n = go (dec_lt n 10)
         omega (arith, e, length-append (decimal_in (suc k - 1) (n / 10)) (last_digit n ∷ []))
 
 -- "Numbers are unsigned decimals of 1 to 10 digits, at most 2^32 − 1": each such number is read from its decimal
-pub read_decimal : (n : ℕ) → n < too_large → number_in (decimal n) ≡ fit n
+pub read_decimal : (n : ℕ) → n < too_large → number_in (decimal n) ≡ Some n
 unfolding number_in decimal tens
 read_decimal n h =
     let v : value_of (decimal_in 19 n) ≡ n = value-decimal 19 n (omega (arith, h)) in

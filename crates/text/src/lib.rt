@@ -3,8 +3,9 @@
 #![tactic(auto)]
 
 ghost use Rattle.std.specs.Prelude.{◌≡◌, [], ◌∷◌, ◌<◌, length};
-ghost use Rattle.text.specs.Decimal.{digit_byte, no_digits, bad_digits, with_digit, number_read, number_in};
-ghost use Rattle.text.specs.Numbers.{start_numbers, malformed_input, blank_byte, with_number_digit, numbers_ended, after_byte, after_bytes, stored, kept, kept_over};
+ghost use Rattle.std.specs.Option.{option_map_or};
+ghost use Rattle.text.specs.Decimal.{no_digits, with_digit, number_read, number_in};
+ghost use Rattle.text.specs.Numbers.{start_numbers, with_number_digit, numbers_ended, after_byte, after_bytes, stored, kept, kept_over};
 ghost use Rattle.text.specs.Text.{text_at, puts, last_digit, decimal_in, decimal, numbers_text, hex_digit, hex_byte, hex_bytes};
 
 // ---- A number in a word
@@ -15,17 +16,9 @@ pub const TOO_LARGE: u64 = 1 << 32;
 // The most digits of a number that is read.
 const MOST_DIGITS: u32 = 10;
 
-// A word: whether it has its form, and the number that it stands for.
-#[derive(Clone, Copy)]
-pub struct ReadNumber {
-    pub good: bool,
-    pub value: u32,
-}
-
-// How far a number has been read: whether all is well so far, how many digits there are, and their value.
+// How far a number has been read: how many digits there are, and their value.
 #[derive(Clone, Copy)]
 pub struct DigitsRead {
-    pub good: bool,
     pub count: u32,
     pub value: u32,
 }
@@ -34,101 +27,57 @@ pub struct DigitsRead {
 fn no_digits() -> DigitsRead
     ensures { result ≡ no_digits }
 {
-    DigitsRead {
-        good: true,
-        count: 0,
-        value: 0,
-    }
+    DigitsRead { count: 0, value: 0 }
 }
 
-// After a byte with which this is no number.
-fn bad_digits() -> DigitsRead
-    ensures { result ≡ bad_digits }
-{
-    DigitsRead {
-        good: false,
-        count: 0,
-        value: 0,
-    }
-}
-
-fn is_digit(byte: u8) -> bool
-    ensures { result ≡ digit_byte byte }
-{
-    if byte < b'0' {
-        return false;
-    }
-    byte <= b'9'
-}
-
-// One digit more.
-fn add_digit(read: DigitsRead, byte: u8) -> DigitsRead
+// One digit more; nothing, where with this byte it is no number.
+#[tactic(auto, unfolding(crate::specs::Decimal::with_digit, crate::specs::Decimal::digit_byte))]
+fn add_digit(read: DigitsRead, byte: u8) -> Option<DigitsRead>
     ensures { result ≡ with_digit read byte }
 {
-    if !read.good {
-        return bad_digits();
-    }
-    if !is_digit(byte) {
-        return bad_digits();
+    if !byte.is_ascii_digit() {
+        return None;
     }
     if read.count >= MOST_DIGITS {
-        return bad_digits();
+        return None;
     }
     let value = read.value as u64 * 10 + (byte - b'0') as u64;
     if value >= TOO_LARGE {
-        return bad_digits();
+        return None;
     }
-    DigitsRead {
-        good: true,
+    Some(DigitsRead {
         count: read.count + 1,
         value: value as u32,
-    }
+    })
 }
 
 // The number, when its last byte has been read.
-fn end_digits(read: DigitsRead) -> ReadNumber
+#[tactic(auto, unfolding(crate::specs::Decimal::number_read))]
+fn end_digits(read: DigitsRead) -> Option<u32>
     ensures { result ≡ number_read read }
 {
-    if !read.good {
-        return ReadNumber {
-            good: false,
-            value: 0,
-        };
-    }
     if read.count == 0 {
-        return ReadNumber {
-            good: false,
-            value: 0,
-        };
+        return None;
     }
-    ReadNumber {
-        good: true,
-        value: read.value,
-    }
+    Some(read.value)
 }
 
 // The number of a word. The first byte with which it is none decides.
-pub fn number_in(word: &[u8]) -> ReadNumber
+pub fn number_in(word: &[u8]) -> Option<u32>
     ensures { result ≡ number_in word.now }
 {
     let mut read = no_digits();
-    let mut i = 0;
-    while i < word.len() {
-        read = add_digit(read, word[i]);
-        if !read.good {
-            return end_digits(read);
-        }
-        i += 1;
+    for byte in word {
+        read = add_digit(read, *byte)?;
     }
     end_digits(read)
 }
 
 // ---- The numbers of an input. `most` is how many it may have: the places of the slice that they are read into.
 
-// How far an input has been read: whether all is well so far; the number being read; and how many numbers have ended before it.
+// How far an input has been read: the number being read; and how many numbers have ended before it.
 #[derive(Clone, Copy)]
 pub struct NumbersRead {
-    pub good: bool,
     pub digits: DigitsRead,
     pub count: usize,
 }
@@ -138,84 +87,57 @@ pub fn start_numbers() -> NumbersRead
     ensures { result ≡ start_numbers }
 {
     NumbersRead {
-        good: true,
         digits: no_digits(),
         count: 0,
     }
 }
 
-// After a byte that makes the input malformed. Nothing later mends it.
-fn refuse_input() -> NumbersRead
-    ensures { result ≡ malformed_input }
-{
-    NumbersRead {
-        good: false,
-        digits: no_digits(),
-        count: 0,
-    }
-}
-
-fn is_blank(byte: u8) -> bool
-    ensures { result ≡ blank_byte byte }
-{
-    if byte == b' ' {
-        return true;
-    }
-    byte == b'\n'
-}
-
-// One digit more of the number being read.
-fn add_number_digit(read: NumbersRead, byte: u8, most: usize) -> NumbersRead
+// One digit more of the number being read; nothing, where it makes the input malformed, as below.
+#[tactic(auto, unfolding(crate::specs::Numbers::with_number_digit))]
+fn add_number_digit(read: NumbersRead, byte: u8, most: usize) -> Option<NumbersRead>
     ensures { result ≡ with_number_digit most read byte }
 {
     if read.count >= most {
-        return refuse_input();
+        return None;
     }
-    let digits = add_digit(read.digits, byte);
-    if !digits.good {
-        return refuse_input();
-    }
-    NumbersRead {
-        good: true,
+    let digits = add_digit(read.digits, byte)?;
+    Some(NumbersRead {
         digits,
         count: read.count,
-    }
+    })
 }
 
 // The number being read, if there is one, ends here.
-pub fn end_numbers(read: NumbersRead, most: usize) -> NumbersRead
+#[tactic(auto, unfolding(crate::specs::Numbers::numbers_ended))]
+pub fn end_numbers(read: NumbersRead, most: usize) -> Option<NumbersRead>
     ensures { result ≡ numbers_ended most read }
 {
     if read.digits.count == 0 {
-        return read;
+        return Some(read);
     }
     if read.count >= most {
-        return refuse_input();
+        return None;
     }
-    NumbersRead {
-        good: read.good,
+    Some(NumbersRead {
         digits: no_digits(),
         count: read.count + 1,
-    }
+    })
 }
 
 // One byte more.
-fn next_byte(read: NumbersRead, byte: u8, most: usize) -> NumbersRead
+#[tactic(auto, unfolding(crate::specs::Numbers::after_byte, crate::specs::Numbers::blank_byte, crate::specs::Decimal::digit_byte))]
+fn next_byte(read: NumbersRead, byte: u8, most: usize) -> Option<NumbersRead>
     ensures { result ≡ after_byte most read byte }
 {
-    if !read.good {
-        return read;
+    match byte {
+        b'0'..=b'9' => add_number_digit(read, byte, most),
+        b' ' | b'\n' => end_numbers(read, most),
+        _ => None,
     }
-    if is_digit(byte) {
-        return add_number_digit(read, byte, most);
-    }
-    if is_blank(byte) {
-        return end_numbers(read, most);
-    }
-    refuse_input()
 }
 
 // Stores a number, if there is room.
+#[tactic(auto, unfolding(crate::specs::Numbers::stored))]
 fn store(numbers: &mut [u32], at: usize, value: u32)
     ensures { numbers.new ≡ stored numbers.old at value }
 {
@@ -225,33 +147,34 @@ fn store(numbers: &mut [u32], at: usize, value: u32)
 }
 
 // One byte more; the number being read stands at its place after each digit.
-fn feed_byte(read: NumbersRead, byte: u8, numbers: &mut [u32]) -> NumbersRead
-    ensures { (result ≡ after_byte (length numbers.old) read byte) × (numbers.new ≡ kept result numbers.old) }
+#[tactic(auto, unfolding(crate::specs::Numbers::kept))]
+fn feed_byte(read: NumbersRead, byte: u8, numbers: &mut [u32]) -> Option<NumbersRead>
+    ensures value { result ≡ after_byte (length numbers.old) read byte }
+    ensures numbers_after { numbers.new ≡ option_map_or (λ after. kept after numbers.old) result numbers.old }
 {
-    let after = next_byte(read, byte, numbers.len());
+    let after = next_byte(read, byte, numbers.len())?;
     if after.digits.count > 0 {
         store(numbers, after.count, after.digits.value);
     }
-    after
+    Some(after)
 }
 
 // Some bytes more.
-pub fn feed_numbers(read: NumbersRead, bytes: &[u8], numbers: &mut [u32]) -> NumbersRead
+pub fn feed_numbers(read: NumbersRead, bytes: &[u8], numbers: &mut [u32]) -> Option<NumbersRead>
     ensures value { result ≡ after_bytes (length numbers.old) read bytes.now }
     ensures numbers_after { numbers.new ≡ kept_over (length numbers.old) read bytes.now numbers.old }
 {
     let mut here = read;
-    let mut i = 0;
-    while i < bytes.len() {
-        here = feed_byte(here, bytes[i], numbers);
-        i += 1;
+    for byte in bytes {
+        here = feed_byte(here, *byte, numbers)?;
     }
-    here
+    Some(here)
 }
 
 // ---- Putting
 
 // One byte.
+#[tactic(auto, unfolding(crate::specs::Text::put, crate::specs::Text::puts))]
 pub fn put_byte(out: &mut [u8], at: usize, byte: u8) -> usize
     ensures { text_at out.new result ≡ puts (text_at out.old at) (byte ∷ []) }
 {
@@ -267,10 +190,8 @@ pub fn put_bytes(out: &mut [u8], at: usize, bytes: &[u8]) -> usize
     ensures { text_at out.new result ≡ puts (text_at out.old at) bytes.now }
 {
     let mut next = at;
-    let mut i = 0;
-    while i < bytes.len() {
-        next = put_byte(out, next, bytes[i]);
-        i += 1;
+    for byte in bytes {
+        next = put_byte(out, next, *byte);
     }
     next
 }
@@ -296,6 +217,7 @@ fn put_digits(out: &mut [u8], at: usize, number: u64, more: u32) -> usize
 }
 
 // A number in decimal.
+#[tactic(auto, unfolding(crate::specs::Text::decimal))]
 pub fn put_number(out: &mut [u8], at: usize, number: u64) -> usize
     ensures { text_at out.new result ≡ puts (text_at out.old at) (decimal number) }
 {
@@ -303,6 +225,7 @@ pub fn put_number(out: &mut [u8], at: usize, number: u64) -> usize
 }
 
 // A blank, then a number.
+#[tactic(auto, unfolding(crate::specs::Text::puts))]
 fn put_next_number(out: &mut [u8], at: usize, number: u32) -> usize
     ensures { text_at out.new result ≡ puts (text_at out.old at) (32 ∷ decimal number) }
 {
@@ -315,15 +238,14 @@ pub fn put_numbers(out: &mut [u8], at: usize, numbers: &[u32]) -> usize
     ensures { text_at out.new result ≡ puts (text_at out.old at) (numbers_text numbers.now) }
 {
     let mut next = at;
-    let mut i = 0;
-    while i < numbers.len() {
-        next = put_next_number(out, next, numbers[i]);
-        i += 1;
+    for number in numbers {
+        next = put_next_number(out, next, *number);
     }
     next
 }
 
 // The digit of a number below 16.
+#[tactic(auto, unfolding(crate::specs::Text::hex_digit))]
 fn hex_digit(digit: u8) -> u8
     requires { digit < 16 }
     ensures { result ≡ hex_digit digit }
@@ -335,6 +257,7 @@ fn hex_digit(digit: u8) -> u8
 }
 
 // A byte as two hexadecimal digits.
+#[tactic(auto, unfolding(crate::specs::Text::puts))]
 fn put_hex_byte(out: &mut [u8], at: usize, byte: u8) -> usize
     ensures { text_at out.new result ≡ puts (text_at out.old at) (hex_byte byte) }
 {
@@ -347,10 +270,8 @@ pub fn put_hex(out: &mut [u8], at: usize, bytes: &[u8]) -> usize
     ensures { text_at out.new result ≡ puts (text_at out.old at) (hex_bytes bytes.now) }
 {
     let mut next = at;
-    let mut i = 0;
-    while i < bytes.len() {
-        next = put_hex_byte(out, next, bytes[i]);
-        i += 1;
+    for byte in bytes {
+        next = put_hex_byte(out, next, *byte);
     }
     next
 }

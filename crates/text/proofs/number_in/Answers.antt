@@ -1,26 +1,14 @@
 -- `text::number_in` meets its contract.
-use mathlib.Core.Path.{ap, ◌∙◌}
-use native.Mathlib.Omega.{arith}
-use borrow.Author.Tests.{not-true}
-use Rattle.text.specs.Decimal.{number_read}
-use Rattle.text.proofs.Words.{read_word, digits_more, digits-done, bad_decides}
+use Rattle.std.proofs.Common.{arith, ◌∙◌}
+use Rattle.text.proofs.Words.{digits_more, digits_stop, digits-done}
 use Rattle.text.proofs.number_in.Goals as goal
 
-pub returns-then-not-read : goal.returns-then-not-read
-returns-then-not-read c =
-    let loop = c.loop-i in
-    let word = c.args.word.now in
-    let more = digits_more loop.read _ _ word loop.i (omega arith) loop.invariant.1 c.add_digit-read.ensures in
-    c.end_digits.ensures ∙ bad_decides _ _ _ (not-true _ c.if-not-read.true) more ∙ read_word word
+pub returns-in_err-read : goal.returns-in_err-read
+returns-in_err-read c =
+    rw c.from_residual.ensures (digits_stop _ c.args.word.now c.loop-byte.byte-index c.loop-byte.invariant (omega arith) c.in_err-read.ensures)
 
-pub loop-i-preserved : goal.loop-i-preserved
-loop-i-preserved c =
-    let loop = c.loop-i in
-    let word = c.args.word.now in
-    (omega arith, digits_more loop.read _ _ word loop.i (omega arith) loop.invariant.1 c.add_digit-read.ensures)
+pub loop-byte-preserved : goal.loop-byte-preserved
+loop-byte-preserved c = digits_more _ c.args.word.now c.loop-byte.byte-index c.loop-byte.invariant c.in_ok-read.read (omega arith) c.in_ok-read.ensures
 
 pub returns : goal.returns
-returns c =
-    let loop = c.loop-i in
-    let word = c.args.word.now in
-    c.end_digits-2.ensures ∙ ap number_read (digits-done loop.read _ word loop.i (omega arith) loop.invariant.1) ∙ read_word word
+returns c = c.end_digits.ensures ∙ digits-done _ c.args.word.now c.loop-byte.byte-index c.loop-byte.invariant (omega arith)
