@@ -1,9 +1,9 @@
 -- What an input line asks for: its words, and what each must be.
-use Rattle.std.specs.Prelude.{ℕ, suc, ◌-◌, Bool, true, false, cond, List, [], ◌∷◌, map, eqb, ltb, length, get_or, drop, replicate}
-use Rattle.lists.specs.Lists.{every, to_first}
+use Rattle.std.specs.Prelude.{ℕ, suc, ◌-◌, Bool, false, cond, List, [], ◌∷◌, eqb, ltb, length, get_or, drop, Option, Some, None}
+use Rattle.std.specs.Option.{option_map, option_and_then}
+use Rattle.lists.specs.Lists.{to_first}
 use Rattle.syntax.specs.Rows.{row}
-use Rattle.text.specs.Decimal.{fit, unfit, number_in}
-use Rattle.text.specs.declared.ReadNumber.{ReadNumber}
+use Rattle.text.specs.Decimal.{number_in}
 use Rattle.syntax.specs.declared.Request.{Request}
 
 -- "one blank between": a line's words, split at each blank (byte 32). A blank at an end, or next to another, leaves an empty word
@@ -16,45 +16,36 @@ unfoldable pub is_byte : ℕ → List ℕ → Bool
 is_byte b w = cond (eqb (length w) 1) (eqb (get_or w 0 0) b) false
 
 -- "H or B": 0 for HIGH, 1 for BOUND
-unfoldable pub kind_in : List ℕ → ReadNumber
-kind_in w = cond (is_byte 72 w) (fit 0) (cond (is_byte 66 w) (fit 1) unfit)
+unfoldable pub kind_in : List ℕ → Option ℕ
+kind_in w = cond (is_byte 72 w) (Some 0) (cond (is_byte 66 w) (Some 1) None)
 
 -- "set or `-` (meaning 0)"
-unfoldable pub set_in : List ℕ → ReadNumber
-set_in w = cond (is_byte 45 w) (fit 0) (number_in w)
+unfoldable pub set_in : List ℕ → Option ℕ
+set_in w = cond (is_byte 45 w) (Some 0) (number_in w)
 
 -- "H or B, set or `-` (meaning 0), B, then coefficients": the word at place i
-unfoldable pub field_at : ℕ → List ℕ → ReadNumber
+unfoldable pub field_at : ℕ → List ℕ → Option ℕ
 field_at i w = cond (eqb i 0) (kind_in w) (cond (eqb i 1) (set_in w) (number_in w))
 
 -- the words from place i on
-unfoldable pub fields_from : ℕ → List (List ℕ) → List ReadNumber
+unfoldable pub fields_from : ℕ → List (List ℕ) → List (Option ℕ)
 fields_from i [] = []
 fields_from i (w ∷ ws) = field_at i w ∷ fields_from (suc i) ws
 
--- have all words their form?
-unfoldable pub all_good : List ReadNumber → Bool
-all_good fs = every (λ (f : ReadNumber). f.good) fs
-
--- their numbers
-unfoldable pub values_of : List ReadNumber → List ℕ
-values_of fs = map (λ (f : ReadNumber). f.value) fs
-
--- the request of a malformed line
-abbrev pub malformed : Request
-malformed = record { good = false; kind = 0; set = 0; bound = 0; count = 0; numbers = replicate 8 0 }
+-- the numbers of words that all have their form
+unfoldable pub values_of : List (Option ℕ) → Option (List ℕ)
+values_of [] = Some []
+values_of (f ∷ fs) = option_and_then (λ (v : ℕ). option_map (λ (vs : List ℕ). v ∷ vs) (values_of fs)) f
 
 -- n words with these values: kind, set, B, and the coefficients, of which the first 8 are kept
 unfoldable pub requested : ℕ → List ℕ → Request
 requested n vs =
-    record { good = true; kind = get_or vs 0 0; set = get_or vs 1 0; bound = get_or vs 2 0; count = n - 3; numbers = row 8 (drop 3 vs) }
+    record { kind = get_or vs 0 0; set = get_or vs 1 0; bound = get_or vs 2 0; count = n - 3; numbers = row 8 (drop 3 vs) }
 
 -- three words at least, and all of their form
-unfoldable pub order_of : List (List ℕ) → Request
-order_of ws =
-    cond (ltb (length ws) 3) malformed
-    (cond (all_good (fields_from 0 ws)) (requested (length ws) (values_of (fields_from 0 ws))) malformed)
+unfoldable pub order_of : List (List ℕ) → Option Request
+order_of ws = cond (ltb (length ws) 3) None (option_map (requested (length ws)) (values_of (fields_from 0 ws)))
 
 -- "any other form, or a line above 1,024 bytes without its line end .., is malformed"
-unfoldable pub line_of : List ℕ → Request
-line_of line = cond (ltb 1024 (length line)) malformed (order_of (words line))
+unfoldable pub line_of : List ℕ → Option Request
+line_of line = cond (ltb 1024 (length line)) None (order_of (words line))

@@ -1,23 +1,21 @@
 // The form of lines: what an input line asks for, and the text of an output line.
 #![tactic(auto)]
 
-ghost use Rattle.std.specs.Prelude.{◌≡◌, ◌≤◌, length, set};
+ghost use Rattle.std.specs.Prelude.{◌≡◌, ◌≤◌, length, set, IfSome};
 ghost use Rattle.text.specs.Text.{text_at, puts};
-ghost use Rattle.syntax.specs.Line.{is_byte, kind_in, set_in, field_at, words, malformed, requested, line_of};
+ghost use Rattle.syntax.specs.Line.{kind_in, set_in, field_at, words, requested, line_of};
 ghost use Rattle.syntax.specs.Reading.{start_words, with_words, finish};
 ghost use Rattle.syntax.specs.Answer.{refusal_text, answer_part, answer_text};
 
 use lists::length_before;
-use text::{ReadNumber, number_in, put_byte, put_number, put_numbers};
+use text::{number_in, put_byte, put_number, put_numbers};
 
 // The most bytes of an input line, without its line end.
 pub const LONGEST_INPUT_LINE: usize = 1024;
 
-// What a line asks for: kind 0 HIGH or 1 BOUND, set, B, how many coefficients, and the first 8 of them. All is 0 where the line
-// is malformed (`good` is false).
+// What a line asks for: kind 0 HIGH or 1 BOUND, set, B, how many coefficients, and the first 8 of them.
 #[derive(Clone, Copy)]
 pub struct Request {
-    pub good: bool,
     pub kind: u32,
     pub set: u32,
     pub bound: u32,
@@ -25,71 +23,46 @@ pub struct Request {
     pub numbers: [u32; 8],
 }
 
-// How far a line has been read: whether each word had its form, how many there were, and the numbers of the first 11: kind, set, B and
-// eight coefficients.
+// How far a line has been read: how many words there were, and the numbers of the first 11: kind, set, B and eight coefficients.
 #[derive(Clone, Copy)]
 struct WordsRead {
-    good: bool,
     count: usize,
     values: [u32; 11],
 }
 
 // ---- Words
 
-// Is the word this one byte?
-fn is_byte(word: &[u8], byte: u8) -> bool
-    ensures { result ≡ is_byte byte word.now }
-{
-    if word.len() != 1 {
-        return false;
-    }
-    word[0] == byte
-}
-
-fn kind_in(word: &[u8]) -> ReadNumber
+#[tactic(auto, unfolding(crate::specs::Line::kind_in, crate::specs::Line::is_byte))]
+fn kind_in(word: &[u8]) -> Option<u32>
     ensures { result ≡ kind_in word.now }
 {
-    if is_byte(word, b'H') {
-        return ReadNumber {
-            good: true,
-            value: 0,
-        };
-    }
-    if is_byte(word, b'B') {
-        return ReadNumber {
-            good: true,
-            value: 1,
-        };
-    }
-    ReadNumber {
-        good: false,
-        value: 0,
+    match word {
+        [b'H'] => Some(0),
+        [b'B'] => Some(1),
+        _ => None,
     }
 }
 
-fn set_in(word: &[u8]) -> ReadNumber
+#[tactic(auto, unfolding(crate::specs::Line::set_in, crate::specs::Line::is_byte))]
+fn set_in(word: &[u8]) -> Option<u32>
     ensures { result ≡ set_in word.now }
 {
-    if is_byte(word, b'-') {
-        return ReadNumber {
-            good: true,
-            value: 0,
-        };
+    match word {
+        [b'-'] => Some(0),
+        _ => number_in(word),
     }
-    number_in(word)
 }
 
 // The word at a place of the line.
-fn field_at(place: usize, word: &[u8]) -> ReadNumber
+#[tactic(auto, unfolding(crate::specs::Line::field_at))]
+fn field_at(place: usize, word: &[u8]) -> Option<u32>
     ensures { result ≡ field_at place word.now }
 {
-    if place == 0 {
-        return kind_in(word);
+    match place {
+        0 => kind_in(word),
+        1 => set_in(word),
+        _ => number_in(word),
     }
-    if place == 1 {
-        return set_in(word);
-    }
-    number_in(word)
 }
 
 // ---- A line
@@ -103,48 +76,23 @@ fn place(values: &mut [u32], at: usize, value: u32)
     }
 }
 
-// The words of a line, up to the first that has not its form: nothing behind it makes the line good.
-fn read_words(line: &[u8]) -> WordsRead
+// The words of a line; nothing, where one has not its form.
+fn read_words(line: &[u8]) -> Option<WordsRead>
     requires { length line.now ≤ 1024 }
-    ensures result_value { finish result ≡ finish (with_words start_words (words line.now)) }
-    ensures count_bound { result.count ≤ 1025 }
+    ensures value { result ≡ with_words start_words (words line.now) }
+    ensures count_bound { IfSome result (λ read. read.count ≤ 1025) }
 {
     let mut values = [0u32; 11];
     let mut count = 0;
     let mut at = 0;
     while at <= line.len() {
-        let n = length_before(&line[at..], b' ');
-        let end = at + n;
-        let field = field_at(count, &line[at..end]);
-        if !field.good {
-            return WordsRead {
-                good: false,
-                count,
-                values,
-            };
-        }
-        place(&mut values, count, field.value);
+        let end = at + length_before(&line[at..], b' ');
+        let value = field_at(count, &line[at..end])?;
+        place(&mut values, count, value);
         count += 1;
         at = end + 1;
     }
-    WordsRead {
-        good: true,
-        count,
-        values,
-    }
-}
-
-fn refuse() -> Request
-    ensures { result ≡ malformed }
-{
-    Request {
-        good: false,
-        kind: 0,
-        set: 0,
-        bound: 0,
-        count: 0,
-        numbers: [0; 8],
-    }
+    Some(WordsRead { count, values })
 }
 
 // The request of so many words with these values.
@@ -154,7 +102,6 @@ fn request_of(count: usize, v: [u32; 11]) -> Request
     ensures { result ≡ requested count v }
 {
     Request {
-        good: true,
         kind: v[0],
         set: v[1],
         bound: v[2],
@@ -163,29 +110,28 @@ fn request_of(count: usize, v: [u32; 11]) -> Request
     }
 }
 
-// The request of a line that has been read.
-fn end_words(read: WordsRead) -> Request
+// The request of a line that has been read: it has three words at least.
+#[tactic(auto, unfolding(crate::specs::Reading::finish))]
+fn end_words(read: WordsRead) -> Option<Request>
     requires { read.count ≤ 1025 }
     ensures { result ≡ finish read }
 {
     if read.count < 3 {
-        return refuse();
+        return None;
     }
-    if read.good {
-        let values = read.values;
-        return request_of(read.count, values);
-    }
-    refuse()
+    let values = read.values;
+    Some(request_of(read.count, values))
 }
 
-// What a line, without its line end, asks for.
-pub fn read_line(line: &[u8]) -> Request
+// What a line, without its line end, asks for; nothing, where it is malformed.
+#[tactic(auto, unfolding(crate::specs::Line::line_of))]
+pub fn read_line(line: &[u8]) -> Option<Request>
     ensures { result ≡ line_of line.now }
 {
     if line.len() > LONGEST_INPUT_LINE {
-        return refuse();
+        return None;
     }
-    end_words(read_words(line))
+    end_words(read_words(line)?)
 }
 
 // ---- An output line
