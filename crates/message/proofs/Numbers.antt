@@ -2,13 +2,16 @@
 use mathlib.Core.Path.{◌≡◌, refl, sym, ap, ◌∙◌}
 use mathlib.Core.List.{List, [], ◌∷◌, ◌++◌}
 use Prim.Native.Nat.{ℕ, suc, ◌+◌, ◌-◌, ◌*◌, ◌%◌, ◌/◌, ◌^◌, ◌≤◌, ◌<◌}
-use native.Mathlib.Nat.{div-one, mod-one, one-mul, mul-suc, mul_comm, mul_assoc, add-mul, zero-add, mod-lt, lt_of_lt_of_le}
+use native.Mathlib.Nat.{div-one, one-mul, mul-suc, mul_comm, mul_assoc, add-mul, zero-add, lt_of_lt_of_le}
 use native.Mathlib.Omega.{arith}
 use lib.Dec.{lit<}
 use lib.Arith.{digits_lt}
-use lib.Pow.{pow-add, pow_pos, pow_mono, shl_exact, shr_lt, shr-shr, high, low, field, mod-mod-pow, mod-pow-add}
-use lib.ListN.{length, get_or, take, drop, length-append, take-append-drop}
-use lib.Seq.{take-suc, length-take-le, get_or-drop}
+use lib.Pow.{pow-add, pow_mono, shl_exact, shr_lt, shr-shr, high, low, field, mod-mod-pow}
+use native.Mathlib.Decide.{dec_lt}
+use lib.ListN.{length, get_or, take, drop, length-append, take-append-drop, get_or-eq_default}
+use lib.Seq.{take-suc, take-add, length-take-le, get_or-drop}
+use Rattle.std.proofs.Common.{length-drop}
+use Rattle.std.proofs.lemmas.List.{length-take, get_or-take, take_more}
 use Rattle.settings.specs.Sizes.{bytes_for}
 use Rattle.message.specs.Bits.{padding, number_on, number_of}
 use Rattle.message.specs.Fields.{first_bits, bits_at}
@@ -48,6 +51,13 @@ number_lt [] h = lit< tt
 number_lt (b ∷ s) h =
     rw (on_is (0 * 256 + b) s, zero-add b, pow_byte (length s))
     (digits_lt (h 0) (number_lt s (λ j. h (suc j))))
+
+pub bytes_take : (s : List ℕ) → Bytes s → (m : ℕ) → Bytes (take m s)
+bytes_take s bytes m j = go (dec_lt j m)
+  where
+    go : Dec (j < m) → get_or (take m s) j 0 < 256
+    go (yes h) = rw (get_or-take m s j 0 h) (bytes j)
+    go (no h) = rw (get_or-eq_default (take m s) 0 {n = j} (omega (arith, length-take m s))) (lit< tt)
 
 -- ---- the first bits
 
@@ -99,29 +109,31 @@ module _ (s : List ℕ) (bytes : Bytes s) where
   pub byte_is : (i : ℕ) → i < length s → first_bits s (8 * suc i) % 256 ≡ get_or s i 0
   byte_is i h = rw (first_more i h) (low (first_bits s (8 * i)) 8 (bytes i))
 
-  -- ---- the bytes from place i on as a field of bits
-
-  pub number_more : (i k : ℕ) → i + k < length s → bits_at s (8 * i) (8 * (k + 1)) ≡ bits_at s (8 * i) (8 * k) * 256 + get_or s (i + k) 0
+  -- the k bytes from place i on as a field of bits
+  pub number_part : (i k : ℕ) → i + k ≤ length s → number_of (take k (drop i s)) ≡ bits_at s (8 * i) (8 * k)
   unfolding bits_at
-  number_more i k h =
-      let a : 8 * i + 8 * (k + 1) ≡ 8 * suc (i + k) = omega arith in
-      let b : 8 * i + 8 * k ≡ 8 * (i + k) = omega arith in
-      let d : 8 * (k + 1) ≡ 8 * k + 8 = omega arith in
-      let f = first_bits s (8 * (i + k)) in
-      let x = get_or s (i + k) 0 in
-      rw (a, b, d, first_more (i + k) h, mod-pow-add (f * 2 ^ 8 + x) (8 * k) 8, high f 8 {lo = x} (bytes (i + k)), low f 8 {lo = x} (bytes (i + k)))
+  number_part i k h =
+      let part = take k (drop i s) in
+      let size : length part ≡ k = length-take-le k (drop i s) (omega (arith, length-drop i s)) in
+      let place : 8 * i + 8 * k ≡ 8 * (i + k) = omega arith in
+      let small : number_of part < 2 ^ (8 * k) = rw size at (number_lt part (bytes_take (drop i s) (bytes_drop i) k)) in
+      rw (place, first_take (i + k) h, take-add i k s, number_append (take i s) part, size)
+      (sym (low (number_of (take i s)) (8 * k) small))
 
-pub number-none : (s : List ℕ) (at : ℕ) → bits_at s at 0 ≡ 0
-unfolding bits_at
-number-none s at = mod-one (first_bits s (at + 0))
+-- ---- the number of the first bytes
 
-pub bits_lt : (s : List ℕ) (at w : ℕ) → bits_at s at w < 2 ^ w
-unfolding bits_at
-bits_lt s at w = mod-lt _ (pow_pos w)
+pub number_none : 0 ≡ number_of []
+unfolding number_on
+number_none = refl
 
--- the number of fewer than 8 bytes leaves room for one more
-pub bits_small : (s : List ℕ) (at k : ℕ) → k < 8 → bits_at s at (8 * k) < 2 ^ 56
-bits_small s at k h = lt_of_lt_of_le (bits_lt s at (8 * k)) (pow_mono {i = 8 * k} {j = 56} (omega arith))
+pub number_more : (s : List ℕ) (k : ℕ) → k < length s → number_of (take k s) * 256 + get_or s k 0 ≡ number_of (take (k + 1) s)
+number_more s k h = rw (take_more s k 0 h, number_append (take k s) (get_or s k 0 ∷ []), number_one (get_or s k 0))
+
+-- fewer than 8 bytes leave room for one more
+pub number_small : (s : List ℕ) → Bytes s → (k : ℕ) → k < 8 → number_of (take k s) < 2 ^ 56
+number_small s bytes k h =
+    lt_of_lt_of_le (number_lt (take k s) (bytes_take s bytes k))
+    (pow_mono {i = 8 * length (take k s)} {j = 56} (omega (arith, length-take k s)))
 
 -- ---- a field of bits is read from the bytes that it touches
 

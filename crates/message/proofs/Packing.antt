@@ -8,8 +8,10 @@ use native.Mathlib.Decide.{dec_lt}
 use lib.Dec.{lit<}
 use lib.Arith.{digits_lt}
 use lib.Pow.{pow-add, pow_pos, pow_mono, shl_exact, shl_lt, shr-shr, shl-shr, split, high}
-use lib.ListN.{length, get_or, drop, get_or-eq_default}
-use lib.Seq.{ext_get_or, drop-append-add, drop-drop}
+use lib.ListN.{length, get_or, drop, get_or-eq_default, length-drop}
+use borrow.Rule.Slice.PartMut.{put_mid, mid_of}
+use Rattle.lists.proofs.Part.{fill-part}
+use lib.Seq.{length-take-le, ext_get_or, drop-append-add, drop-drop}
 use Rattle.lists.specs.Lists.{list_from, list_to, fill, in_front}
 use Rattle.lists.proofs.Lists.{length-list_from, get_d_list_to}
 use Rattle.lists.proofs.Fill.{length-fill, fill-before, fill-behind, fill-at, front_at, front-behind, front-is}
@@ -196,6 +198,15 @@ module _ (a u v w : ℕ) (ha : a < 2 ^ u) (hu : u < 8) (hv : v < 2 ^ w) (hw : w 
   exact =
       let e : 8 * bytes_for (u + w) - u - w ≡ padding (u + w) = omega arith in
       rw (e, head_exact) (shl_exact (u + w) (padding (u + w)) 64 join_lt (omega arith))
+
+-- a number's bytes, written into a part of a buffer
+pub part_written :
+    (s t : List ℕ) (a k n x : ℕ) → k ≡ n → a + n ≤ length s →
+    (let m = length (mid_of a k s) in t ≡ fill (mid_of a k s) 0 m (byte_of m x)) →
+    put_mid a k s t ≡ fill s a n (byte_of n x)
+part_written s t a k n x e room stored =
+    let size : length (mid_of a k s) ≡ k = length-take-le k (drop a s) (omega (arith, length-drop a s)) in
+    ap (put_mid a k s) (rw size at stored) ∙ rw e (fill-part s a n (byte_of n x) room n (omega arith))
 
 -- the bits before the field in its first byte
 pub head_lt : (s : List ℕ) (at a : ℕ) → a ≡ first_bits s at % 2 ^ (at % 8) → a < 2 ^ (at % 8)

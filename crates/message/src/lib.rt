@@ -4,6 +4,7 @@
 ghost use Rattle.std.specs.Prelude.{◌≡◌, true, ◌+◌, ◌*◌, ◌%◌, ◌^◌, ◌≤◌, ◌<◌, length};
 ghost use Rattle.lists.specs.Lists.{fill, in_front, all_below};
 ghost use Rattle.settings.specs.Sizes.{key_count, most_fields, bytes_for, field_bits, message_bits};
+ghost use Rattle.message.specs.Bits.{number_of};
 ghost use Rattle.message.specs.Message.{header_number, header_with, message_of, field_in, ask_parts, ask_form, form_no};
 ghost use Rattle.message.specs.Fields.{bits_at, field_at, ends_at, fields_read, first_bits, put_bits, put_fields, byte_of, HeaderFits};
 
@@ -85,48 +86,37 @@ impl Header {
     {
         let settings = self.settings;
         let shape = settings.shape;
-        let a = self.sender as u64 * Self::SETS + shape.set as u64;
-        let b = a * Self::KINDS + shape.kind as u64;
-        let c = b * Self::COUNTS + (shape.n - 1) as u64;
-        let d = c * Self::ROUNDS + self.round as u64;
-        let e = d * Self::BOUNDS + settings.bound as u64;
-        e * Self::SERIALS + self.serial as u64
+        let a = u64::from(self.sender) * Self::SETS + u64::from(shape.set);
+        let b = a * Self::KINDS + u64::from(shape.kind);
+        let c = b * Self::COUNTS + u64::from(shape.n - 1);
+        let d = c * Self::ROUNDS + u64::from(self.round);
+        let e = d * Self::BOUNDS + u64::from(settings.bound);
+        e * Self::SERIALS + u64::from(self.serial)
     }
 }
 
 // ---- Bit fields, most significant bit first
 
-fn wide(x: u8) -> u64
-    ensures { (result ≡ x) × (result < 256) }
-{
-    x as u64
-}
-
-// The number in the `count` bytes from place `first` on.
-fn get_number(bytes: &[u8], first: usize, count: usize) -> u64
-    requires { (first + count ≤ length bytes.now) × (count ≤ 8) }
-    ensures { result ≡ bits_at bytes.now (8 * first) (8 * count) }
+// Up to eight bytes as one number.
+fn get_number(bytes: &[u8]) -> u64
+    requires { length bytes.now ≤ 8 }
+    ensures { result ≡ number_of bytes.now }
 {
     let mut x: u64 = 0;
-    let mut k = 0;
-    while k < count {
-        x = x * 256 + wide(bytes[first + k]);
-        k += 1;
+    for byte in bytes {
+        x = x * 256 + u64::from(*byte);
     }
     x
 }
 
-// The `count` bytes of x, from place `first` on: the last first, so that each is what is left of x modulo 256.
-fn write_number(out: &mut [u8], first: usize, count: usize, x: u64)
-    requires { (first + count ≤ length out.old) × (count ≤ 8) }
-    ensures { out.new ≡ fill out.old first count (byte_of count x) }
+// Fills up to eight bytes with the last bytes of a number.
+fn write_number(out: &mut [u8], x: u64)
+    requires { length out.old ≤ 8 }
+    ensures { out.new ≡ fill out.old 0 (length out.old) (byte_of (length out.old) x) }
 {
-    let mut rest = x;
-    let mut k = count;
-    while k > 0 {
-        k -= 1;
-        out[first + k] = (rest % 256) as u8;
-        rest = rest / 256;
+    let count = out.len();
+    for (k, byte) in out.iter_mut().enumerate() {
+        *byte = ((x >> (8 * (count - 1 - k))) % 256) as u8;
     }
 }
 
@@ -137,7 +127,8 @@ fn get_bits(bytes: &[u8], at: usize, width: usize) -> u32
 {
     let used = at % 8;
     let count = (used + width + 7) / 8;
-    let x = get_number(bytes, at / 8, count);
+    let first = at / 8;
+    let x = get_number(&bytes[first..first + count]);
     ((x >> (8 * count - used - width)) % (1u64 << width)) as u32
 }
 
@@ -146,7 +137,7 @@ fn last_bits(value: u32, count: usize) -> u64
     requires { count < 8 }
     ensures { result ≡ value % 2 ^ count }
 {
-    value as u64 % (1u64 << count)
+    u64::from(value) % (1u64 << count)
 }
 
 // Puts a field of `width` bits behind the first `at` bits, and zeros to the end of its last byte. `head` is what those bits leave in the
@@ -158,8 +149,9 @@ fn put_bits(out: &mut [u8], at: usize, width: usize, head: u64, value: u32)
 {
     let used = at % 8;
     let count = (used + width + 7) / 8;
-    let x = ((head << width) + value as u64) << (8 * count - used - width);
-    write_number(out, at / 8, count, x);
+    let x = ((head << width) + u64::from(value)) << (8 * count - used - width);
+    let first = at / 8;
+    write_number(&mut out[first..first + count], x);
 }
 
 // ---- Reader
@@ -171,13 +163,6 @@ pub struct Reader<'a> {
     pub at: usize,
 }
 
-// What was read, and the reader behind it.
-#[derive(Clone, Copy)]
-pub struct Read<'a> {
-    pub value: u32,
-    pub reader: Reader<'a>,
-}
-
 impl<'a> Reader<'a> {
     // At the first bit.
     pub fn new(bytes: &'a [u8]) -> Reader<'a>
@@ -186,19 +171,15 @@ impl<'a> Reader<'a> {
         Reader { bytes, at: 0 }
     }
 
-    // The field of so many bits that comes next, and the reader behind it. Called by `read_message`, front to back.
-    pub fn read(self, width: usize) -> Read<'a>
-        requires { (width ≤ 32) × (self.at + width ≤ 8 * length self.bytes.now) × (self.at + width < 2 ^ 64) }
-        ensures { (result.value ≡ bits_at self.entry.bytes.now self.entry.at width)
-            × (result.reader.bytes ≡ self.entry.bytes) × (result.reader.at ≡ self.entry.at + width) }
+    // Reads the field of so many bits that comes next. Called by `read_message`, front to back.
+    pub fn read(&mut self, width: usize) -> u32
+        requires { (width ≤ 32) × (self.old.at + width ≤ 8 * length self.old.bytes.now) × (self.old.at + width < 2 ^ 64) }
+        ensures { (result ≡ bits_at self.old.bytes.now self.old.at width)
+            × (self.new.bytes ≡ self.old.bytes) × (self.new.at ≡ self.old.at + width) }
     {
-        Read {
-            value: get_bits(self.bytes, self.at, width),
-            reader: Reader {
-                bytes: self.bytes,
-                at: self.at + width,
-            },
-        }
+        let value = get_bits(self.bytes, self.at, width);
+        self.at += width;
+        value
     }
 }
 
@@ -210,13 +191,12 @@ fn put_fields(out: &mut [u8], fields: &[u32])
     requires fields_value { all_below (2 ^ field_bits) fields.now ≡ true }
     ensures { out.new ≡ put_fields out.old fields.now }
 {
-    let mut head: u64 = 0;
-    let mut i = 0;
-    while i < fields.len() {
-        let at = Header::BITS + FIELD_BITS * i;
-        put_bits(out, at, FIELD_BITS, head, fields[i]);
-        head = last_bits(fields[i], (at + FIELD_BITS) % 8);
-        i += 1;
+    let mut at = Header::BITS;
+    let mut head = 0;
+    for field in fields {
+        put_bits(out, at, FIELD_BITS, head, *field);
+        at += FIELD_BITS;
+        head = last_bits(*field, at % 8);
     }
 }
 
@@ -228,7 +208,7 @@ pub fn put_message(out: &mut [u8], header: Header, fields: &[u32]) -> usize
     ensures { (result ≡ bytes_for (message_bits (length fields.now)))
         × (out.new ≡ in_front (message_of (header_number header) fields.now) out.old) }
 {
-    write_number(out, 0, Header::BYTES, header.number());
+    write_number(&mut out[..Header::BYTES], header.number());
     put_fields(out, fields);
     length_of(fields.len())
 }
@@ -249,29 +229,21 @@ fn read_message(message: &[u8], fields: &mut [u32], padding: usize) -> Ends
     ensures { (result ≡ ends_at (length fields.old) message.now padding)
         × (fields.new ≡ fill fields.old 0 (length fields.old) (field_at message.now)) }
 {
-    let high = Reader::new(message).read(Header::HALF);
-    let low = high.reader.read(Header::HALF);
-    let mut reader = low.reader;
-    let mut f = 0;
-    while f < fields.len() {
-        let field = reader.read(FIELD_BITS);
-        fields[f] = field.value;
-        reader = field.reader;
-        f += 1;
+    let mut reader = Reader::new(message);
+    let high = reader.read(Header::HALF);
+    let low = reader.read(Header::HALF);
+    for field in fields.iter_mut() {
+        *field = reader.read(FIELD_BITS);
     }
-    let last = reader.read(padding);
-    Ends {
-        high: high.value,
-        low: low.value,
-        padding: last.value,
-    }
+    let padding = reader.read(padding);
+    Ends { high, low, padding }
 }
 
 // The number of a header's two halves.
 fn header_of(ends: Ends) -> u64
     ensures { result ≡ ends.high * 2 ^ 32 + ends.low }
 {
-    ends.high as u64 * Header::HALVES + ends.low as u64
+    u64::from(ends.high) * Header::HALVES + u64::from(ends.low)
 }
 
 // Questions 11 and 12 of a message with as many fields as `fields` has: the first no, or 0. The message is read front to back, once,

@@ -1,11 +1,7 @@
--- `message::get_number` meets its contract.
-use Rattle.message.specs.Fields.{bits_at}
-use Prim.Native.Nat.{◌≤◌, ◌-◌, ◌*◌}
-use mathlib.Core.Path.{◌≡◌}
+-- `message::get_number`: the number of the bytes so far.
+use Rattle.std.proofs.Common.{◌≡◌, take}
+use Rattle.message.specs.Bits.{number_of}
 use Rattle.message.proofs.get_number.Given as goal
 
-abbrev pub invariant-loop-k : goal.invariant-loop-k
-invariant-loop-k l = (l.k ≤ l.count) × (l.x ≡ bits_at l.bytes (8 * l.first) (8 * l.k))
-
-abbrev pub decreases-loop-k : goal.decreases-loop-k
-decreases-loop-k l = l.count - l.k
+abbrev pub invariant-loop-byte : goal.invariant-loop-byte
+invariant-loop-byte l = l.x ≡ number_of (take l.byte-index l.bytes)

@@ -1,23 +1,20 @@
 -- `message::read_message` meets its contract.
+use Rattle.std.proofs.Common.{arith, sym}
 use Rattle.lists.proofs.Fill.{fill_none, front-more}
-use native.Mathlib.Omega.{arith}
-use mathlib.Core.Path.{sym}
 use Rattle.message.proofs.read_message.Goals as goal
 
-pub loop-f-init : goal.loop-f-init
-loop-f-init c = record {
-  in_range = omega arith;
+pub loop-field-init : goal.loop-field-init
+loop-field-init c = record {
   same_message = cc;
   place = omega arith;
   read_so_far = sym (fill_none _ _ _);
 }
 
-pub loop-f-preserved : goal.loop-f-preserved
-loop-f-preserved c =
-    let read = c.read-field.ensures in
-    let kept = c.loop-f.invariant in
+pub loop-field-preserved : goal.loop-field-preserved
+loop-field-preserved c =
+    let read = c.read.ensures in
+    let kept = c.loop-field.invariant in
     record {
-      in_range = omega arith;
       same_message = cc;
       place = omega arith;
       read_so_far = rw (kept.read_so_far, read.0, kept.same_message, kept.place) (sym (front-more _ _ _));
