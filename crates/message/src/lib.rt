@@ -4,14 +4,14 @@
 ghost use Rattle.std.specs.Prelude.{◌≡◌, true, ◌+◌, ◌*◌, ◌%◌, ◌^◌, ◌≤◌, ◌<◌, length};
 ghost use Rattle.lists.specs.Lists.{fill, in_front, all_below};
 ghost use Rattle.settings.specs.Sizes.{key_count, most_fields, bytes_for, field_bits, message_bits};
+ghost use Rattle.settings.specs.Refusals.{refused};
 ghost use Rattle.message.specs.Bits.{number_of};
 ghost use Rattle.message.specs.Message.{header_number, header_with, message_of, field_in, ask_parts, ask_form, form_no};
 ghost use Rattle.message.specs.Fields.{bits_at, field_at, ends_at, fields_read, first_bits, put_bits, put_fields, byte_of, HeaderFits};
 
 use field::all_below_q;
 use settings::{
-    FIELD_BITS, FIELDS, HEADER, MESSAGE_LENGTH, MOST_FIELDS, NOT_DUE, ROUNDS, Settings,
-    field_count, length_of, settings_no,
+    FIELD_BITS, MOST_FIELDS, ROUNDS, Refusal, Settings, ask_settings, field_count, length_of,
 };
 
 // ---- Header
@@ -79,7 +79,7 @@ impl Header {
         }
     }
 
-    // The header's bits as one number. `form_no` and `send` of crate side come after questions 1 to 3 and the round.
+    // The header's bits as one number. `ask_form` and `send` of crate side come after questions 1 to 3 and the round.
     pub fn number(self) -> u64
         requires { HeaderFits self }
         ensures { result ≡ header_number self }
@@ -213,7 +213,7 @@ pub fn put_message(out: &mut [u8], header: Header, fields: &[u32]) -> usize
     length_of(fields.len())
 }
 
-// ---- Reading a message of so many fields. `form_no` asks its length first.
+// ---- Reading a message of so many fields. `ask_form` asks its length first.
 
 // What stands before and behind the fields: the header's two halves, and the padding.
 #[derive(Clone, Copy)]
@@ -223,7 +223,7 @@ pub struct Ends {
     pub padding: u32,
 }
 
-// A message read front to back by one reader: its fields into `fields`. `form_no` has asked the message's length.
+// A message read front to back by one reader: its fields into `fields`. `ask_form` has asked the message's length.
 fn read_message(message: &[u8], fields: &mut [u32], padding: usize) -> Ends
     requires { (message_bits (length fields.old) + padding ≡ 8 * length message.now) × (padding ≤ 32) × (length fields.old ≤ most_fields key_count) }
     ensures { (result ≡ ends_at (length fields.old) message.now padding)
@@ -246,68 +246,59 @@ fn header_of(ends: Ends) -> u64
     u64::from(ends.high) * Header::HALVES + u64::from(ends.low)
 }
 
-// Questions 11 and 12 of a message with as many fields as `fields` has: the first no, or 0. The message is read front to back, once,
-// and its fields are left in `fields`.
-fn parts_no(due: u64, message: &[u8], fields: &mut [u32]) -> u32
+// Questions 11 and 12 of a message with as many fields as `fields` has. The message is read front to back, once, and its fields are left
+// in `fields`.
+fn ask_parts(due: u64, message: &[u8], fields: &mut [u32]) -> Result<(), Refusal>
     requires { (length message.now ≡ bytes_for (message_bits (length fields.old))) × (length fields.old ≤ most_fields key_count) }
-    ensures { (result ≡ ask_parts due (length fields.old) message.now 0)
+    ensures { (refused result ≡ ask_parts due (length fields.old) message.now 0)
         × (fields.new ≡ fill fields.old 0 (length fields.old) (field_in (length fields.old) message.now)) }
 {
     let padding = 8 * message.len() - (Header::BITS + FIELD_BITS * fields.len());
     let ends = read_message(message, fields, padding);
     if header_of(ends) != due {
-        return HEADER;
+        return Err(Refusal::Header);
     }
     if !all_below_q(fields) {
-        return FIELDS;
+        return Err(Refusal::Fields);
     }
     if ends.padding != 0 {
-        return FIELDS;
+        return Err(Refusal::Fields);
     }
-    0
+    Ok(())
 }
 
-// Questions 10 to 12 of a message that is to have the header `due`: the first no, or 0. A message of the due length leaves its fields in
-// `fields`. `message_form` and `take` of crate side lend it, and have asked questions 1 to 3 and the round.
-pub fn form_no(due: Header, message: &[u8], fields: &mut [u32]) -> u32
+// Questions 10 to 12 of a message that is to have the header `due`. A message of the due length leaves its fields in `fields`.
+// `message_form` and `take` of crate side lend it, and have asked questions 1 to 3 and the round.
+pub fn ask_form(due: Header, message: &[u8], fields: &mut [u32]) -> Result<(), Refusal>
     requires header_fits { HeaderFits due }
     requires fields_len { length fields.old ≡ most_fields key_count }
-    ensures { (result ≡ ask_form key_count due message.now 0)
+    ensures { (refused result ≡ ask_form key_count due message.now 0)
         × (fields.new ≡ fields_read key_count due message.now fields.old) }
 {
     let settings = due.settings;
     let shape = settings.shape;
     let count = field_count(shape, due.round);
     if message.len() != length_of(count) {
-        return MESSAGE_LENGTH;
+        return Err(Refusal::MessageLength);
     }
-    parts_no(due.number(), message, &mut fields[..count])
+    ask_parts(due.number(), message, &mut fields[..count])
 }
 
-// The form test: the first no, or 0.
+// The form test.
 pub fn message_form(
     receiver: u32,
     settings: Settings,
     round: u32,
     serial: u32,
     message: &[u8],
-) -> u32
-    ensures { result ≡ form_no key_count receiver settings round serial message.now }
+) -> Result<(), Refusal>
+    ensures { refused result ≡ form_no key_count receiver settings round serial message.now }
 {
-    let no = settings_no(receiver, settings);
-    if no != 0 {
-        return no;
-    }
-    if round < 1 {
-        return NOT_DUE;
-    }
-    if round > ROUNDS {
-        return NOT_DUE;
-    }
-    if serial < 1 {
-        return NOT_DUE;
+    ask_settings(receiver, settings)?;
+    if round < 1 || round > ROUNDS || serial < 1 {
+        return Err(Refusal::NotDue);
     }
     let due = Header::new(1 - receiver, settings, round, serial);
     let mut fields = [0u32; MOST_FIELDS];
-    form_no(due, message, &mut fields)
+    ask_form(due, message, &mut fields)
 }

@@ -1,12 +1,14 @@
 -- When the kept fields are whole, and what then holds of them.
-use mathlib.Core.Path.{◌≡◌}
+use mathlib.Core.Path.{◌≡◌, refl}
 use mathlib.Core.Logic.{◌≢◌}
 use mathlib.Core.Bool.{Bool, true, false, cond, ◌&&◌}
-use mathlib.Core.List.{List}
-use Prim.Native.Nat.{ℕ, ◌≤◌}
+use mathlib.Core.List.{List, ◌++◌}
+use Prim.Native.Nat.{ℕ, zero, suc, ◌≤◌}
 use native.Mathlib.Omega.{arith}
-use lib.Dec.{leb}
-use lib.ListN.{length}
+use lib.Dec.{leb, eqb}
+use lib.ListN.{length, get_or, take, drop}
+use Rattle.lists.specs.Lists.{in_front}
+use Rattle.lists.proofs.Lists.{front-taken, length-list_from}
 use borrow.Author.Tests.{ne_eqb, eqb-true, leb-true}
 use Rattle.lists.specs.Answers.{ask}
 use Rattle.lists.proofs.Questions.{passed, both_yes}
@@ -16,31 +18,33 @@ use Rattle.settings.specs.Settings.{params_in}
 use Rattle.settings.proofs.Ready.{settings-ready, settings-pass, settings_refuse, settings_rest}
 use Rattle.settings.specs.Schedule.{rounds, steps, round_ok, steps_in}
 use Rattle.state.specs.declared.Side.{Side}
-use Rattle.state.specs.State.{is_sending, is_taking, is_finished, whole, send_due, take_due, finished, Whole, step_of, places_of, in_range, answer_no}
+use Rattle.state.specs.State.{is_sending, is_taking, is_finished, whole, send_due, take_due, finished, Whole, step_of, places_of, held_answer, in_range, answer_no}
 
 -- questions 1 to 3 of the kept settings
 abbrev pub kept_no : Side → ℕ
 kept_no s = ask_settings s.number s.settings 0
+
+asked : (n m : ℕ) (k b c d : Bool) → (n ≡ 0 → m ≡ ask k 4 (ask (b && (c && d)) 8 0)) → (n ≢ 0 → m ≡ n) → eqb m 0 ≡ (eqb n 0 && k && b && c && d)
+unfolding ask
+asked zero m true true true true p r = rw (p refl)
+asked zero m true true true false p r = rw (p refl)
+asked zero m true true false d p r = rw (p refl)
+asked zero m true false c d p r = rw (p refl)
+asked zero m false b c d p r = rw (p refl)
+asked (suc n) m k b c d p r = let some : suc n ≢ 0 = λ z. omega arith in rw (r some, ne_eqb (suc n) 0 some)
 
 module _ (s : Side) where
   -- the kept fields behind the settings
   abbrev rest_ok : Bool
   rest_ok = leb 1 s.serial && round_ok s.round
 
-  pub broken_settings : kept_no s ≢ 0 → false ≡ whole s
+  -- the kept fields one after the other
+  pub whole_is : whole s ≡ (eqb (kept_no s) 0 && keys_ok s.keys && leb 1 s.serial && leb 1 s.round && leb s.round rounds)
   unfolding whole
-  broken_settings h =
-      rw (settings_refuse s.number s.settings (ask (keys_ok s.keys) 4 (ask rest_ok 8 0)) h, ne_eqb (kept_no s) 0 h)
-
-  pub broken_keys : kept_no s ≡ 0 → keys_ok s.keys ≡ false → false ≡ whole s
-  unfolding whole ask
-  broken_keys h e = rw (settings-pass s.number s.settings (ask (keys_ok s.keys) 4 (ask rest_ok 8 0)) h, e)
-
-  -- otherwise the last question decides
-  pub whole-last : (b : Bool) → kept_no s ≡ 0 → keys_ok s.keys ≡ true → rest_ok ≡ b → b ≡ whole s
-  unfolding whole ask
-  whole-last true h e f = rw (settings-pass s.number s.settings (ask (keys_ok s.keys) 4 (ask rest_ok 8 0)) h, e, f)
-  whole-last false h e f = rw (settings-pass s.number s.settings (ask (keys_ok s.keys) 4 (ask rest_ok 8 0)) h, e, f)
+  whole_is =
+      let rest = ask (keys_ok s.keys) 4 (ask rest_ok 8 0) in
+      asked (kept_no s) _ (keys_ok s.keys) (leb 1 s.serial) (leb 1 s.round) (leb s.round rounds)
+      (λ z. settings-pass s.number s.settings rest z) (λ n. settings_refuse s.number s.settings rest n)
 
 pub whole_fields : (s : Side) → whole s ≡ true → Whole s
 unfolding whole
@@ -96,3 +100,9 @@ answer-ready s out e =
     let fifteen = passed (in_range s) 14 _ eight.1 in
     let nine = passed (leb (places_of s) (length out)) 8 0 fifteen.1 in
     (places-most s (finished-whole s eight.0), leb-true (places_of s) (length out) nine.0)
+
+-- the first numbers of the kept answer, in front of a buffer
+pub answer_written : (s : Side) (t out : List ℕ) (n : ℕ) → n ≡ places_of s → n ≤ length s.answer → t ≡ take n s.answer → t ++ drop n out ≡ in_front (held_answer s) out
+answer_written s t out n count room front =
+    let held : ℕ → ℕ = λ j. get_or s.answer j 0 in
+    rw (front, front-taken n s.answer room, ← count, length-list_from 0 n held)

@@ -1,13 +1,13 @@
 -- A side: its kept fields, what is due, its answer and its opening count.
-use Rattle.std.specs.Prelude.{ℕ, ◌≤◌, ◌<◌, ◌≡◌, Bool, true, false, cond, ◌&&◌, ◌||◌, List, eqb, leb, length, get_or, replicate}
+use Rattle.std.specs.Prelude.{ℕ, ◌≤◌, ◌<◌, ◌≡◌, Bool, true, false, cond, ◌&&◌, ◌||◌, List, eqb, leb, length, get_or, replicate, Result, Ok, Err}
 use Rattle.lists.specs.Answers.{ask}
 use Rattle.lists.specs.Lists.{list_to, all_below, in_front}
 use Rattle.settings.specs.Sizes.{key_count, openings_up_to, answer_places}
 use Rattle.settings.specs.Questions.{ask_settings, keys_ok, Ready}
 use Rattle.settings.specs.Schedule.{rounds, steps, round_ok, goes_on, round_after, sends_after, taken_by, steps_in}
 use Rattle.settings.specs.Settings.{Params, params_in, settings_with}
+use Rattle.settings.specs.declared.Refusal.{Refusal}
 use Rattle.state.specs.declared.Side.{Side}
-use Rattle.state.specs.declared.AnswerResult.{AnswerResult}
 use Rattle.state.specs.declared.Phase.{Phase}
 use Rattle.state.specs.declared.Phase.TheVariants.{Sending, Taking, Stopped, Finished}
 
@@ -25,11 +25,24 @@ is_taking Taking = true
 is_taking Stopped = false
 is_taking Finished = false
 
+abbrev pub is_stopped : Phase → Bool
+is_stopped Sending = false
+is_stopped Taking = false
+is_stopped Stopped = true
+is_stopped Finished = false
+
 abbrev pub is_finished : Phase → Bool
 is_finished Sending = false
 is_finished Taking = false
 is_finished Stopped = false
 is_finished Finished = true
+
+-- is a phase, the second, this one?
+abbrev pub is_phase : Phase → Phase → Bool
+is_phase Sending = is_sending
+is_phase Taking = is_taking
+is_phase Stopped = is_stopped
+is_phase Finished = is_finished
 
 -- "Kept fields that break 1 to 4, serial 0, or a round outside 1 to 7 count as stopped"
 unfoldable pub whole : Side → Bool
@@ -40,6 +53,10 @@ whole s =
     (ask (leb 1 s.serial && round_ok s.round) 8
     0)))
     0
+
+-- whole, and in this phase
+abbrev pub stands : Side → Phase → Bool
+stands s phase = whole s && is_phase phase s.phase
 
 unfoldable pub send_due : Side → Bool
 send_due s = whole s && is_sending s.phase
@@ -118,6 +135,16 @@ answer_no s out =
     (ask (in_range s) 15
     (ask (leb (places_of s) (length out)) 9
     0))
+
+-- what the answer call gives: the number of the first no, or 0, and how many places it wrote
+pub record AnswerResult : Type 0 where
+  pub refused : ℕ
+  pub length : ℕ
+
+-- how much a call has written that gives the length: nothing, where it refuses
+abbrev pub written : Result ℕ Refusal → ℕ
+written (Ok length) = length
+written (Err e) = 0
 
 pub record AfterAnswer : Type 0 where
   pub result : AnswerResult

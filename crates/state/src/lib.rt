@@ -4,18 +4,19 @@
 ghost use Rattle.std.specs.Prelude.{◌≡◌, ◌≤◌, ◌<◌};
 ghost use Rattle.settings.specs.Schedule.{rounds, steps};
 ghost use Rattle.settings.specs.Settings.{params_of};
+ghost use Rattle.settings.specs.Refusals.{refused};
 ghost use Rattle.settings.specs.Sizes.{openings_up_to};
-ghost use Rattle.state.specs.State.{is_sending, is_taking, is_finished, whole, send_due, take_due, under_way, finished, Whole, fresh_side, moved, in_phase, step_of};
-ghost use Rattle.state.specs.State.{phase_after, at_step, places_of, answer_limit, in_range, answer_no, answer_call, rounds_taken, count_call};
+ghost use Rattle.state.specs.State.{whole, stands, send_due, take_due, under_way, Whole, fresh_side, in_phase, step_of};
+ghost use Rattle.state.specs.State.{phase_after, at_step, places_of, answer_limit, in_range, answer_no, written, answer_call, rounds_taken, count_call};
 
-use lists::{all_below, copy_numbers};
+use lists::all_below;
 use settings::{
-    KEYS, NO_ROOM, NOT_DUE, OUT_OF_RANGE, ROUNDS, STEPS, Settings, Shape, answer_places, keys_ok,
-    openings_in, parts_of, round_after, sends_after, settings_no, steps_in, taken_by,
+    KEYS, ROUNDS, Refusal, STEPS, Settings, Shape, answer_places, ask_settings, keys_ok,
+    openings_in, parts_of, round_after, sends_after, steps_in, taken_by,
 };
 
 // Where a side stands in its round.
-#[derive(Clone, Copy)]
+#[derive(Clone, Copy, Debug, PartialEq, Eq)]
 pub enum Phase {
     Sending,
     Taking,
@@ -34,13 +35,6 @@ pub struct Side {
     pub round: u32,
     pub phase: Phase,
     pub answer: [u32; 8],
-}
-
-// What answer gives back: the number of the first no, or 0, and how many places it wrote.
-#[derive(Clone, Copy)]
-pub struct AnswerResult {
-    pub refused: u32,
-    pub length: usize,
 }
 
 // ---- States
@@ -67,121 +61,48 @@ pub fn fresh() -> Side
     }
 }
 
-fn is_sending(phase: Phase) -> bool
-    ensures { result ≡ is_sending phase }
-{
-    match phase {
-        Phase::Sending => true,
-        Phase::Taking => false,
-        Phase::Stopped => false,
-        Phase::Finished => false,
-    }
-}
-
-fn is_taking(phase: Phase) -> bool
-    ensures { result ≡ is_taking phase }
-{
-    match phase {
-        Phase::Sending => false,
-        Phase::Taking => true,
-        Phase::Stopped => false,
-        Phase::Finished => false,
-    }
-}
-
-fn is_finished(phase: Phase) -> bool
-    ensures { result ≡ is_finished phase }
-{
-    match phase {
-        Phase::Sending => false,
-        Phase::Taking => false,
-        Phase::Stopped => false,
-        Phase::Finished => true,
-    }
-}
-
 // Are the kept fields whole? Broken ones count as stopped, whatever the phase says.
+#[tactic(auto, using(crate::proofs::States::whole_is, settings::proofs::Refused::is_ok_refused))]
 fn is_whole(side: Side) -> bool
     ensures { result ≡ whole side }
 {
-    if settings_no(side.number, side.settings) != 0 {
-        return false;
-    }
-    let keys = side.keys;
-    if !keys_ok(keys) {
-        return false;
-    }
-    if side.serial < 1 {
-        return false;
-    }
-    if side.round < 1 {
-        return false;
-    }
-    side.round <= ROUNDS
+    ask_settings(side.number, side.settings).is_ok()
+        && keys_ok(side.keys)
+        && side.serial >= 1
+        && side.round >= 1
+        && side.round <= ROUNDS
+}
+
+// Are the kept fields whole, and the run in this phase?
+fn stands(side: Side, phase: Phase) -> bool
+    ensures { result ≡ stands side phase }
+{
+    is_whole(side) && side.phase == phase
 }
 
 pub fn send_due(side: Side) -> bool
     ensures { result ≡ send_due side }
 {
-    if !is_whole(side) {
-        return false;
-    }
-    let phase = side.phase;
-    is_sending(phase)
+    stands(side, Phase::Sending)
 }
 
 pub fn take_due(side: Side) -> bool
     ensures { result ≡ take_due side }
 {
-    if !is_whole(side) {
-        return false;
-    }
-    let phase = side.phase;
-    is_taking(phase)
+    stands(side, Phase::Taking)
 }
 
 pub fn under_way(side: Side) -> bool
     ensures { result ≡ under_way side }
 {
-    if send_due(side) {
-        return true;
-    }
-    take_due(side)
-}
-
-fn run_finished(side: Side) -> bool
-    ensures { result ≡ finished side }
-{
-    if !is_whole(side) {
-        return false;
-    }
-    let phase = side.phase;
-    is_finished(phase)
-}
-
-// The side at another round, in another phase, with another answer.
-fn move_to(side: Side, round: u32, phase: Phase, answer: [u32; 8]) -> Side
-    ensures { result ≡ moved side round phase answer }
-{
-    let keys = side.keys;
-    let settings = side.settings;
-    Side {
-        number: side.number,
-        settings,
-        keys,
-        serial: side.serial,
-        round,
-        phase,
-        answer,
-    }
+    send_due(side) || take_due(side)
 }
 
 // The side in another phase.
 pub fn in_phase(side: Side, phase: Phase) -> Side
     ensures { result ≡ in_phase side phase }
 {
-    let answer = side.answer;
-    move_to(side, side.round, phase, answer)
+    Side { phase, ..side }
 }
 
 // ---- Steps
@@ -191,11 +112,10 @@ pub fn step_of(side: Side) -> u32
     requires { Whole side }
     ensures { (result ≡ step_of side) × (result ≤ steps) }
 {
-    let phase = side.phase;
-    if is_finished(phase) {
+    if side.phase == Phase::Finished {
         return STEPS;
     }
-    steps_in(side.number, side.round, is_sending(phase))
+    steps_in(side.number, side.round, side.phase == Phase::Sending)
 }
 
 // The phase of side `number` after `m` steps.
@@ -215,9 +135,12 @@ pub fn phase_after(number: u32, m: u32) -> Phase
 pub fn at_step(side: Side, m: u32, answer: [u32; 8]) -> Side
     ensures { result ≡ at_step side m answer }
 {
-    let round = round_after(m);
-    let phase = phase_after(side.number, m);
-    move_to(side, round, phase, answer)
+    Side {
+        round: round_after(m),
+        phase: phase_after(side.number, m),
+        answer,
+        ..side
+    }
 }
 
 // ---- Opening count
@@ -227,11 +150,9 @@ fn openings_up_to(shape: Shape, count: u32) -> u32
     requires { (shape.n ≤ 8) × (count ≤ rounds) }
     ensures { result ≡ openings_up_to (params_of shape) count }
 {
-    let mut total: u32 = 0;
-    let mut round: u32 = 0;
-    while round < count {
+    let mut total = 0;
+    for round in 0..count {
         total += openings_in(shape, round + 1);
-        round += 1;
     }
     total
 }
@@ -274,46 +195,39 @@ fn answer_limit(shape: Shape) -> u32
     2
 }
 
-// Question 15: is every number of the opened answer in range? `answer_no` has asked for whole fields.
+// Question 15: is every number of the opened answer in range? `ask_answer` has asked for whole fields.
 fn in_range(side: Side) -> bool
     requires { Whole side }
     ensures { result ≡ in_range side }
 {
     let limit = answer_limit(side.settings.shape);
     let count = places_of(side);
-    let held = side.answer;
-    all_below(&held[..count], limit)
+    all_below(&side.answer[..count], limit)
 }
 
-// The first no of answer, or 0.
-fn answer_no(side: Side, out: &[u32]) -> u32
-    ensures { result ≡ answer_no side out.now }
+// The questions of answer.
+fn ask_answer(side: Side, out: &[u32]) -> Result<(), Refusal>
+    ensures { refused result ≡ answer_no side out.now }
 {
-    if !run_finished(side) {
-        return NOT_DUE;
+    if !stands(side, Phase::Finished) {
+        return Err(Refusal::NotDue);
     }
     if !in_range(side) {
-        return OUT_OF_RANGE;
+        return Err(Refusal::OutOfRange);
     }
     if out.len() < places_of(side) {
-        return NO_ROOM;
+        return Err(Refusal::NoRoom);
     }
-    0
+    Ok(())
 }
 
-// The opened answer of a finished run, in front of `out`; none if a number of it is out of range.
-pub fn answer(side: Side, out: &mut [u32]) -> AnswerResult
-    ensures { record { result = result; out = out.new } ≡ answer_call side out.old }
+// Writes the opened answer of a finished run in front of `out`, and gives its length.
+pub fn answer(side: Side, out: &mut [u32]) -> Result<usize, Refusal>
+    ensures { record { result = record { refused = refused result; length = written result }; out = out.new } ≡ answer_call side out.old }
 {
-    let refused = answer_no(side, out);
-    if refused != 0 {
-        return AnswerResult { refused, length: 0 };
-    }
+    ask_answer(side, out)?;
     let count = places_of(side);
-    let held = side.answer;
-    copy_numbers(out, 0, &held, 0, count);
-    AnswerResult {
-        refused: 0,
-        length: count,
-    }
+    let kept = &side.answer[..count];
+    out[..count].copy_from_slice(kept);
+    Ok(count)
 }

@@ -1,36 +1,46 @@
 -- `state::answer` meets its contract.
-use borrow.Author.Rules.{rules}
-use mathlib.Core.Path.{◌≡◌, sym, ap, ap₂, ◌∙◌}
-use Prim.Native.Nat.{ℕ}
-use lib.ListN.{length, get_or}
-use Rattle.lists.specs.Lists.{fill}
-use borrow.Author.Tests.{eq-eqb, ne_eqb}
-use Rattle.state.specs.State.{places_of, after_answer, answer_call}
-use Rattle.state.proofs.States.{answer-ready}
-use Rattle.lists.proofs.Fill.{from_start, front-is}
-use native.Mathlib.Omega.{arith}
+use Rattle.std.proofs.Common.{◌≡◌, length, arith, rules, sym, ap₂}
+use Rattle.std.proofs.lemmas.Result.{err_from_is_err_and}
+use borrow.Author.Tests.{ne_eqb}
+use lib.Seq.{length-take-le}
+use Rattle.settings.specs.Refusals.{number_of}
+use Rattle.settings.proofs.Refused.{number_nonzero}
+use Rattle.state.specs.State.{after_answer, answer_call}
+use Rattle.state.proofs.States.{answer-ready, answer_written}
 use Rattle.state.proofs.answer.Goals as goal
 
-pub returns-then-refused-ne0 : goal.returns-then-refused-ne0
+pub returns-in_err-ask_answer : goal.returns-in_err-ask_answer
 unfolding answer_call
-returns-then-refused-ne0 c = rw (← c.answer_no-refused.ensures, ne_eqb c.answer_no-refused.result 0 c.if-refused-ne0.true)
+returns-in_err-ask_answer c =
+    let p = err_from_is_err_and c.from_residual.result c.from_residual.ensures.1 in
+    let no = c.in_err-ask_answer.field-0.0 in
+    rw (p.1, p.2, ← c.in_err-ask_answer.ensures, ne_eqb (number_of no) 0 (number_nonzero no))
 
-pub copy_numbers-requires : goal.copy_numbers-requires
-copy_numbers-requires c =
-    let side = c.args.side in
-    let ready = answer-ready side c.args.out.now (sym c.answer_no-refused.ensures ∙ c.if-refused-ne0.false) in
-    let eight : length side.answer ≡ 8 = search rules in
-    (omega (arith, ready.1, c.places_of-count.ensures), omega (arith, ready.0, c.places_of-count.ensures))
+-- there is room for as many numbers, and as many are kept
+pub slice_bounds-copy_from_slice-end : goal.slice_bounds-copy_from_slice-end
+slice_bounds-copy_from_slice-end c =
+    omega (arith, (answer-ready c.args.side c.args.out.now (sym c.in_ok-ask_answer.ensures)).1)
+
+pub slice_bounds-copy_from_slice-end-2 : goal.slice_bounds-copy_from_slice-end-2
+slice_bounds-copy_from_slice-end-2 c =
+    sym (length-take-le _ c.args.out.now (omega (arith, (answer-ready c.args.side c.args.out.now (sym c.in_ok-ask_answer.ensures)).1)))
+
+pub shared_ref_as_front-kept : goal.shared_ref_as_front-kept
+shared_ref_as_front-kept c =
+    omega (arith, (answer-ready c.args.side c.args.out.now (sym c.in_ok-ask_answer.ensures)).0)
+
+pub copy_from_slice-requires : goal.copy_from_slice-requires
+copy_from_slice-requires c =
+    let ready = answer-ready c.args.side c.args.out.now (sym c.in_ok-ask_answer.ensures) in
+    let eight : length c.args.side.answer ≡ 8 = search rules in
+    rw (length-take-le c.places_of-count.result c.args.out.now (omega (arith, ready.1)), length-take-le c.places_of-count.result c.args.side.answer (omega (arith, ready.0)))
 
 pub returns : goal.returns
 unfolding answer_call
 returns c =
-    let refused = c.answer_no-refused in
-    let count = c.places_of-count in
     let side = c.args.side in
-    let out = c.args.out.now in
-    let ready = answer-ready side out (sym refused.ensures ∙ c.if-refused-ne0.false) in
-    let held : ℕ → ℕ = λ j. get_or side.answer j 0 in
-    rw (← refused.ensures, eq-eqb refused.result 0 c.if-refused-ne0.false)
-    (ap₂ (after_answer 0) count.ensures
-    (c.copy_numbers.ensures ∙ from_start out side.answer 0 _ ∙ ap (λ (n : ℕ). fill out 0 n held) count.ensures ∙ front-is out (places_of side) held ready.1))
+    let ready = answer-ready side c.args.out.now (sym c.in_ok-ask_answer.ensures) in
+    let eight : length side.answer ≡ 8 = search rules in
+    let count = c.places_of-count.ensures in
+    rw (← c.in_ok-ask_answer.ensures)
+    (ap₂ (after_answer 0) count (answer_written side _ c.args.out.now _ count (omega (arith, ready.0)) c.copy_from_slice.ensures.after))

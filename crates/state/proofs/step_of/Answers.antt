@@ -1,17 +1,20 @@
 -- `state::step_of` meets its contract.
-use mathlib.Core.Path.{◌≡◌}
-use native.Mathlib.Omega.{arith}
-use Rattle.state.specs.State.{step_of}
+use Rattle.std.proofs.Common.{◌≡◌, arith, rules}
+use Rattle.state.specs.State.{is_finished, is_sending, step_of}
 use Rattle.state.proofs.States.{step-most}
 use Rattle.state.proofs.step_of.Goals as goal
 
-pub returns-then-is_finished : goal.returns-then-is_finished
+pub returns-then-eq : goal.returns-then-eq
 unfolding step_of
-returns-then-is_finished c = (rw (← c.is_finished.ensures, c.if-is_finished.true), omega arith)
+returns-then-eq c =
+    let e : c.eq.result ≡ is_finished c.args.side.phase = search rules in
+    (rw (← e, c.if-eq.true), omega arith)
 
 pub returns : goal.returns
 unfolding step_of
 returns c =
-    let a = c.args in
-    let e : c.steps_in.result ≡ step_of a.side = rw (← c.is_finished.ensures, c.if-is_finished.false, ← c.is_sending.ensures) c.steps_in.ensures in
-    (e, rw e (step-most a.side c.requires))
+    let side = c.args.side in
+    let e : c.eq.result ≡ is_finished side.phase = search rules in
+    let f : c.eq-2.result ≡ is_sending side.phase = search rules in
+    let steps : c.steps_in.result ≡ step_of side = rw (← e, c.if-eq.false, ← f) c.steps_in.ensures in
+    (steps, rw steps (step-most side c.requires))

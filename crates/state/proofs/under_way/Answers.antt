@@ -6,6 +6,6 @@ pub returns-then-send_due : goal.returns-then-send_due
 unfolding under_way
 returns-then-send_due c = rw (← c.send_due.ensures, c.if-send_due.true)
 
-pub returns : goal.returns
+pub returns-else-send_due : goal.returns-else-send_due
 unfolding under_way
-returns c = rw (← c.send_due.ensures, c.if-send_due.false) c.take_due.ensures
+returns-else-send_due c = rw (← c.send_due.ensures, c.if-send_due.false) c.take_due.ensures

@@ -1,11 +1,11 @@
--- `message::parts_no` meets its contract.
+-- `message::ask_parts` meets its contract.
 use Rattle.message.proofs.Reading.{parts_is}
 use Rattle.message.proofs.Numbers.{Bytes}
 use Rattle.lists.proofs.Questions.{walk}
 use native.Mathlib.Omega.{arith}
 use borrow.Author.Rules.{rules}
 use mathlib.Core.Path.{refl}
-use Rattle.message.proofs.parts_no.Goals as goal
+use Rattle.message.proofs.ask_parts.Goals as goal
 
 pub returns-then-header_of-due : goal.returns-then-header_of-due
 returns-then-header_of-due c =
