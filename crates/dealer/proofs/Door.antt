@@ -16,8 +16,9 @@ use Rattle.settings.specs.Sizes.{key_count, width_of, shared, draw_length}
 use Rattle.settings.proofs.Ready.{shape-ready, shape_rest}
 use Rattle.book.specs.Books.{multipliers, server_book, phone_book}
 use Rattle.dealer.specs.Deal.{deal_no, deal_call, Passed}
-use Rattle.dealer.specs.Work.{shared_for, server_for, phone_for, DealSlices, Wrote}
-use Rattle.dealer.specs.declared.DealContext.{DealContext}
+use Rattle.dealer.specs.Work.{shared_for, server_for, phone_for, Lent}
+use Rattle.dealer.specs.Runs.{params, context_of, Wrote}
+use Rattle.dealer.specs.declared.Dealing.{Dealing}
 use Rattle.dealer.proofs.Work.{dealt-whole}
 
 module _ (k : ℕ) (a : Shape) (keys0 keys1 draw server phone : List ℕ) where
@@ -48,27 +49,29 @@ module _ (k : ℕ) (a : Shape) (keys0 keys1 draw server phone : List ℕ) where
   unfolding deal_call
   refusal code e h = rw (← e, ne_eqb code 0 h)
 
-module _ (a : Shape) (factors keys0 keys1 draw server phone : List ℕ) (passes : 0 ≡ deal_no key_count a keys0 keys1 draw server phone) where
-  -- what the work is told
-  abbrev order_of : DealContext
-  order_of = record { shape = a; factors = factors }
-
-  pub ready : DealSlices order_of draw server phone
-  ready =
+module _ (a : Shape) (keys0 keys1 draw server phone : List ℕ) (passes : 0 ≡ deal_no key_count a keys0 keys1 draw server phone) where
+  -- what the work is told of its slices
+  pub lent : Lent a draw server phone
+  lent =
       let h = door key_count a keys0 keys1 draw server phone (sym passes) in
       record { ready = h.ready; draw_size = h.draw_size; server_size = h.server_size; phone_size = h.phone_size; below = h.below }
 
-  -- and what it leaves is the deal
-  pub dealt : (server' phone' : List ℕ) (at : ℕ) → factors ≡ multipliers keys0 keys1 → Wrote order_of draw server phone 0 (shared_for order_of) server' phone' at
-      → record { refused = 0; server = server'; phone = phone' } ≡ deal_call key_count a keys0 keys1 draw server phone
-  unfolding deal_call server_book phone_book server_for phone_for
-  dealt server' phone' at f w =
-      let l = ready in
-      rw (
-        ← passes,
-        ← f,
-        w.server_is,
-        w.phone_is,
-        dealt-whole server (server_for order_of draw) (shared_for order_of) l.server_size,
-        dealt-whole phone (phone_for order_of draw) (shared_for order_of) l.phone_size,
-      )
+-- the work deals both books: who lent them finds so in them
+pub dealt : {old new : Dealing} (keys0 keys1 : List ℕ) → 0 ≡ deal_no key_count old.shape keys0 keys1 old.draw.now old.server.now old.phone.now
+    → old.factors ≡ multipliers keys0 keys1 → Wrote old 0 (shared (params old)) new → (server phone : List ℕ)
+    → (old.server.ghost_name ≡ new.server.ghost_name → server ≡ new.server.now) → (old.phone.ghost_name ≡ new.phone.ghost_name → phone ≡ new.phone.now)
+    → record { refused = 0; server = server; phone = phone } ≡ deal_call key_count old.shape keys0 keys1 old.draw.now old.server.now old.phone.now
+unfolding deal_call server_book phone_book server_for phone_for
+dealt {old} keys0 keys1 passes f w server phone s p =
+    let o = context_of old in
+    let put = w.put in
+    rw (
+      ← passes,
+      ← f,
+      s (sym put.same_server),
+      p (sym put.same_phone),
+      put.server_is,
+      put.phone_is,
+      dealt-whole old.server.now (server_for o) (shared_for o) old.lent.server_size,
+      dealt-whole old.phone.now (phone_for o) (shared_for o) old.lent.phone_size,
+    )

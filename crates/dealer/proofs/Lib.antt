@@ -1,5 +1,5 @@
 -- Laws of the dealer's work.
 pub mod Work
 pub mod Vectors
-pub mod Door
 pub mod Steps
+pub mod Door

@@ -1,13 +1,11 @@
 -- What the places of the book say of the steps of a deal: what each step deals, and where the next one goes on.
 use mathlib.Core.Path.{◌≡◌, refl, sym, ap, ◌∙◌}
 use mathlib.Core.Logic.{◌≢◌}
-use mathlib.Core.Bool.{Bool, true, false, cond}
-use mathlib.Core.List.{List}
+use mathlib.Core.Bool.{true}
 use Prim.Native.Nat.{ℕ, ◌+◌, ◌*◌, ◌/◌, ◌≤◌, ◌<◌}
 use native.Mathlib.Nat.{add-zero}
 use native.Mathlib.Numerals.{add-one}
 use native.Mathlib.Omega.{arith}
-use lib.Dec.{eqb}
 use borrow.Author.Tests.{eq-eqb, ne_eqb}
 use lib.ListN.{get_or}
 use Rattle.lists.specs.Answers.{bit}
@@ -21,8 +19,7 @@ use Rattle.rounding.specs.declared.Split.{Split}
 use Rattle.book.specs.Book.{Entry, group_k, mask_at, vector_at, triple_at, group_at, is_drawn, drawn}
 use Rattle.settings.specs.Sizes.{stride, groups, width}
 use Rattle.book.specs.Theorems.{Holds}
-use Rattle.dealer.specs.Work.{params_for, shared_for, cursor_for, Next, Draws, Vector}
-use Rattle.dealer.specs.declared.DealContext.{DealContext}
+use Rattle.dealer.specs.Work.{DealContext, params_for, shared_for, cursor_for, Next, Draws, Vector}
 use Rattle.book.proofs.Places.{places}
 use Rattle.book.proofs.Books.{value-holds}
 use Rattle.settings.proofs.Sizes.{shared-high, shared-bound}
@@ -103,47 +100,37 @@ module _ (o : DealContext) where
     pub right-draws : Draws o (k + 1)
     right-draws = draws-at (k + 1) _ _ ((places (params_for o)).of_right c t h l) refl (omega arith)
 
-    pub next-product : (draw : List ℕ) (at at' next v : ℕ) → at ≡ cursor_for o k → at' ≡ cursor_for o (k + 1) → next ≡ cursor_for o (k + 2)
-        → v ≡ mul q (get_or draw at 0) (get_or draw at' 0) → Next o draw (k + 2) next v
-    unfolding bit drawn
-    next-product draw at at' next v a b d f =
+    pub next-product : (next a b v : ℕ) → next ≡ cursor_for o (k + 2) → a ≡ drawn (params_for o) width o.draw k → b ≡ drawn (params_for o) width o.draw (k + 1)
+        → v ≡ mul q a b → Next o (k + 2) next v
+    unfolding bit
+    next-product next a b v n f g u =
         let p = (places (params_for o)).of_product c t h l in
-        rw (d, e) (record {
+        rw (n, e) (record {
           inside = p.0;
           begins = rw p.1 (sym (add-zero _));
-          is = f ∙ rw (a, b, e) (sym (value-holds (params_for o) width draw _ _ p));
+          is = u ∙ rw (f, g, e) (sym (value-holds (params_for o) width o.draw _ _ p));
         })
 
   vector_fits : (c i : ℕ) → c < o.shape.n → i < 5 → vector_at (params_for o) c i + base (params_for o).scale i ≤ shared_for o
   unfolding vector_at triple_at
   vector_fits c i h l = omega (arith, sum-within (base (params_for o).scale) 5 i l, ((places (params_for o)).of_left c 0 h (omega arith)).0)
 
-  module _ (draw : List ℕ) where
-    pub digit_vector : (c i k size d : ℕ) (r : Split) → c < o.shape.n → i < 5 → k ≡ vector_at (params_for o) c i → size ≡ base (params_for o).scale i
-        → r ≡ split_of (params_for o).scale (drawn (params_for o) width draw (mask_at (params_for o) c)) → d ≡ get_or r.digits i 0 → Vector o draw k size d
-    digit_vector c i k size d r h l e f g u =
-        let fits : vector_at (params_for o) c i + base (params_for o).scale i ≤ shared_for o = vector_fits c i h l in
-        rw (e, f, u, g) (record {
-          inside = fits;
-          draws = λ j b. ap is_drawn ((places (params_for o)).of_vector c i j h l b).1;
-          is = λ j b. sym (value-holds (params_for o) width draw _ _ ((places (params_for o)).of_vector c i j h l b));
-        })
+  pub digit_vector : (c i k size d : ℕ) (r : Split) → c < o.shape.n → i < 5 → k ≡ vector_at (params_for o) c i → size ≡ base (params_for o).scale i
+      → r ≡ split_of (params_for o).scale (drawn (params_for o) width o.draw (mask_at (params_for o) c)) → d ≡ get_or r.digits i 0 → Vector o k size d
+  digit_vector c i k size d r h l e f g u =
+      let fits : vector_at (params_for o) c i + base (params_for o).scale i ≤ shared_for o = vector_fits c i h l in
+      rw (e, f, u, g) (record {
+        inside = fits;
+        draws = λ j b. ap is_drawn ((places (params_for o)).of_vector c i j h l b).1;
+        is = λ j b. sym (value-holds (params_for o) width o.draw _ _ ((places (params_for o)).of_vector c i j h l b));
+      })
 
-    pub group_vector : (g k at d size : ℕ) → g < groups (params_for o) → k ≡ group_at (params_for o) g → at ≡ cursor_for o k
-        → size ≡ group_k (params_for o) + 2 → d ≡ get_or draw at 0 / gap q (group_k (params_for o)) → Vector o draw (k + 1) size d
-    unfolding drawn
-    group_vector g k at d size h e a f u =
-        let last = ((places (params_for o)).of_group_place g (group_k (params_for o) + 1) h (omega arith)).0 in
-        rw (f, u, a, e) (record {
-          inside = omega arith;
-          draws = λ j b. ap is_drawn ((places (params_for o)).of_group_place g j h b).1;
-          is = λ j b. sym (value-holds (params_for o) width draw _ _ ((places (params_for o)).of_group_place g j h b));
-        })
-
--- a group's number is small
-pub groups-few : (o : DealContext) (g : ℕ) → g < groups (params_for o) → o.shape.n ≤ 8 → g < 8
-groups-few o g h l = by (eqb o.shape.kind 0) h
-  where
-    by : (b : Bool) → g < cond b o.shape.n 1 → g < 8
-    by true k = omega arith
-    by false k = omega arith
+  pub group_vector : (g k size rho d : ℕ) → g < groups (params_for o) → k ≡ group_at (params_for o) g → size ≡ group_k (params_for o) + 2
+      → rho ≡ drawn (params_for o) width o.draw k → d ≡ rho / gap q (group_k (params_for o)) → Vector o (k + 1) size d
+  group_vector g k size rho d h e u v f =
+      let last = ((places (params_for o)).of_group_place g (group_k (params_for o) + 1) h (omega arith)).0 in
+      rw (f, v, u, e) (record {
+        inside = omega arith;
+        draws = λ j b. ap is_drawn ((places (params_for o)).of_group_place g j h b).1;
+        is = λ j b. sym (value-holds (params_for o) width o.draw _ _ ((places (params_for o)).of_group_place g j h b));
+      })

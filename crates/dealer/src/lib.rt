@@ -8,285 +8,185 @@ ghost use Rattle.field.specs.Sums.{sum_to};
 ghost use Rattle.settings.specs.Sets.{base};
 ghost use Rattle.settings.specs.Settings.{params_of};
 ghost use Rattle.settings.specs.Sizes.{key_count, width, shared, stride, draw_length, groups};
-ghost use Rattle.settings.specs.Questions.{keys_ok};
+ghost use Rattle.settings.specs.Refusals.{refused};
 ghost use Rattle.rounding.specs.Digits.{split_of};
 ghost use Rattle.book.specs.Book.{group_k, mask_at, vector_at, triple_at, group_at, drawn};
 ghost use Rattle.dealer.specs.Deal.{deal_no, deal_call};
-ghost use Rattle.dealer.specs.Work.{DealSlices, Next, Draws, Vector, Wrote, params_for, cursor_for, shared_for};
+ghost use Rattle.dealer.specs.Work.{Lent};
 
 use book::{group_at, group_gap, group_k, mask_at, triple_at, vector_at};
 use field::{all_below_q, mul_mod, neg_mod, sub_mod};
-use lists::copy_numbers;
 use rounding::{Split, split_number};
 use settings::{
-    KEY, KEYS, LENGTH, NOT_BELOW_Q, Shape, WIDTH, base_of, draw_length, for_columns, keys_ok,
-    shape_no, shared_of,
+    KEYS, Refusal, Shape, WIDTH, ask_shape, base_of, draw_length, for_columns, keys_ok, shared_of,
 };
 
-// What the working functions are told: the settings, and what each column's numbers add up to, as a factor.
-#[derive(Clone, Copy)]
-struct DealContext {
+// ---- The deal's work
+
+// A deal at work: what it is told, the draw, both lent books, and where the next place's numbers begin in the draw.
+#[derive(Drop)]
+struct Dealing<'a> {
     shape: Shape,
+    // What each column's numbers add up to, as a factor.
     factors: [u32; WIDTH],
+    draw: &'a [u32],
+    server: &'a mut [u32],
+    phone: &'a mut [u32],
+    next: usize,
+    ghost lent: { Lent shape draw.now server.now phone.now },
 }
 
-// ---- The deal's work: each function deals a run of places and gives back where the next place's numbers begin in the draw.
-
-// The columns of place k, with the joined value `value`; its own numbers begin at `at`.
-fn deal_place(
-    o: DealContext,
-    draw: &[u32],
-    server: &mut [u32],
-    phone: &mut [u32],
-    k: usize,
-    at: usize,
-    value: u32,
-) -> usize
-    requires deal_slices { DealSlices o draw.now server.old phone.old }
-    requires next { Next o draw.now k at value }
-    ensures { Wrote o draw.now server.old phone.old k 1 server.new phone.new result }
+// The server's numbers of places that hold 0: the phone's, negated.
+fn put_negatives(server: &mut [u32], phone: &[u32])
+    requires { (length server.old ≡ length phone.now) × (all_below q phone.now ≡ true) }
+    ensures { server.new ≡ fill server.old 0 (length phone.now) (λ (i : ℕ). sub q 0 (get_or phone.now i 0)) }
 {
-    let mut c = 0;
-    while c < WIDTH {
-        let own = draw[at + c];
-        phone[WIDTH * k + c] = own;
-        server[WIDTH * k + c] = sub_mod(mul_mod(o.factors[c], value), own);
-        c += 1;
-    }
-    at + WIDTH
-}
-
-// Place k, which holds a drawn number: it stands just before the place's own numbers.
-fn deal_drawn(
-    o: DealContext,
-    draw: &[u32],
-    server: &mut [u32],
-    phone: &mut [u32],
-    k: usize,
-    at: usize,
-) -> usize
-    requires deal_slices { DealSlices o draw.now server.old phone.old }
-    requires draws { Draws o k × (at ≡ cursor_for o k) }
-    ensures wrote { Wrote o draw.now server.old phone.old k 1 server.new phone.new result }
-    ensures in_draw { at < length draw.now }
-{
-    let value = draw[at];
-    deal_place(o, draw, server, phone, k, at + 1, value)
-}
-
-// `count` numbers of the server's book from number `first` on, of places that hold 0: the phone's, which the draw has from `at` on, negated.
-fn put_negatives(server: &mut [u32], first: usize, draw: &[u32], at: usize, count: usize)
-    requires { (first + count ≤ length server.old) × (at + count ≤ length draw.now) × (all_below q draw.now ≡ true) }
-    ensures { server.new ≡ fill server.old first count (λ (i : ℕ). sub q 0 (get_or draw.now (at + i) 0)) }
-{
-    let mut i = 0;
-    while i < count {
-        server[first + i] = neg_mod(draw[at + i]);
-        i += 1;
+    for (i, x) in server.iter_mut().enumerate() {
+        *x = neg_mod(phone[i]);
     }
 }
 
-// The vector of d, from place k on: all places as if they held 0, several numbers at a time; then the place that holds 1. (A d behind the
-// vector's end has no place: no digit is such, but nothing here need know it.)
-fn deal_vector(
-    o: DealContext,
-    draw: &[u32],
-    server: &mut [u32],
-    phone: &mut [u32],
-    k: usize,
-    at: usize,
-    size: usize,
-    d: u32,
-) -> usize
-    requires deal_slices { DealSlices o draw.now server.old phone.old }
-    requires vector { Vector o draw.now k size d × (at ≡ cursor_for o k) }
-    ensures { Wrote o draw.now server.old phone.old k size server.new phone.new result }
-{
-    let next = at + WIDTH * size;
-    copy_numbers(phone, WIDTH * k, draw, at, WIDTH * size);
-    put_negatives(server, WIDTH * k, draw, at, WIDTH * size);
-    let one = d as usize;
-    if one >= size {
-        return next;
+impl<'a> Dealing<'a> {
+    ghost use Rattle.dealer.specs.Work.{Next, Draws, Vector};
+    ghost use Rattle.dealer.specs.Runs.{context_of, params, At, Put, Wrote};
+
+    // The columns of place k, with the joined value `value`; its own numbers begin at `at`.
+    fn put_place(&mut self, k: usize, at: usize, value: u32)
+        requires { Next (context_of self.old) k at value }
+        ensures { Put self.old k 1 self.new × (self.new.next ≡ self.old.next) }
+    {
+        for c in 0..WIDTH {
+            let own = self.draw[at + c];
+            self.phone[WIDTH * k + c] = own;
+            self.server[WIDTH * k + c] = sub_mod(mul_mod(self.factors[c], value), own);
+        }
     }
-    deal_place(o, draw, server, phone, k + one, at + WIDTH * one, 1);
-    next
-}
 
-// The vectors of r's five digits, r being the mask of coefficient c.
-fn deal_vectors(
-    o: DealContext,
-    draw: &[u32],
-    server: &mut [u32],
-    phone: &mut [u32],
-    c: usize,
-    at: usize,
-    r: Split,
-) -> usize
-    requires deal_slices { DealSlices o draw.now server.old phone.old }
-    requires c_lt_n { (c < o.shape.n) × (at ≡ cursor_for o (vector_at (params_for o) c 0)) × (r ≡ split_of (params_for o).scale (drawn (params_for o) width draw.now (mask_at (params_for o) c))) }
-    ensures { Wrote o draw.now server.old phone.old (vector_at (params_for o) c 0) (sum_to 5 (base
-        (params_for o).scale)) server.new phone.new result }
-{
-    let mut next = at;
-    let mut i = 0;
-    while i < 5 {
-        let k = vector_at(o.shape, c, i);
-        let size = base_of(o.shape.set as usize, i) as usize;
-        next = deal_vector(o, draw, server, phone, k, next, size, r.digits[i]);
-        i += 1;
+    // Place k, with the joined value `value`.
+    fn deal_place(&mut self, k: usize, value: u32)
+        requires { Next (context_of self.old) k self.old.next value }
+        ensures { Wrote self.old k 1 self.new }
+    {
+        self.put_place(k, self.next, value);
+        self.next += WIDTH;
     }
-    next
-}
 
-// Mask r of coefficient c, and the vectors of its digits.
-fn deal_mask(
-    o: DealContext,
-    draw: &[u32],
-    server: &mut [u32],
-    phone: &mut [u32],
-    c: usize,
-    at: usize,
-) -> usize
-    requires deal_slices { DealSlices o draw.now server.old phone.old }
-    requires c_lt_n { (c < o.shape.n) × (at ≡ cursor_for o (mask_at (params_for o) c)) }
-    ensures { Wrote o draw.now server.old phone.old (mask_at (params_for o) c) (1 + sum_to 5 (base
-        (params_for o).scale)) server.new phone.new result }
-{
-    let shape = o.shape;
-    let k = mask_at(shape, c);
-    let r = split_number(shape.set as usize, draw[at]);
-    let next = deal_drawn(o, draw, server, phone, k, at);
-    deal_vectors(o, draw, server, phone, c, next, r)
-}
-
-// Triple t of coefficient c: a, b and a × b.
-fn deal_triple(
-    o: DealContext,
-    draw: &[u32],
-    server: &mut [u32],
-    phone: &mut [u32],
-    c: usize,
-    t: usize,
-    at: usize,
-) -> usize
-    requires deal_slices { DealSlices o draw.now server.old phone.old }
-    requires c_lt_n { (c < o.shape.n) × (t < 8) × (at ≡ cursor_for o (triple_at (params_for o) c t)) }
-    ensures { Wrote o draw.now server.old phone.old (triple_at (params_for o) c t) 3 server.new phone.new result }
-{
-    let shape = o.shape;
-    let k = triple_at(shape, c, t);
-    let at_b = deal_drawn(o, draw, server, phone, k, at);
-    let at_c = deal_drawn(o, draw, server, phone, k + 1, at_b);
-    let product = mul_mod(draw[at], draw[at_b]);
-    deal_place(o, draw, server, phone, k + 2, at_c, product)
-}
-
-// The eight triples of coefficient c.
-fn deal_triples(
-    o: DealContext,
-    draw: &[u32],
-    server: &mut [u32],
-    phone: &mut [u32],
-    c: usize,
-    at: usize,
-) -> usize
-    requires deal_slices { DealSlices o draw.now server.old phone.old }
-    requires c_lt_n { (c < o.shape.n) × (at ≡ cursor_for o (triple_at (params_for o) c 0)) }
-    ensures { Wrote o draw.now server.old phone.old (triple_at (params_for o) c 0) 24 server.new phone.new result }
-{
-    let mut next = at;
-    let mut t = 0;
-    while t < 8 {
-        next = deal_triple(o, draw, server, phone, c, t, next);
-        t += 1;
+    // Place k, which holds a drawn number: it stands just before the place's own numbers.
+    fn deal_drawn(&mut self, k: usize) -> u32
+        requires { Draws (context_of self.old) k × At self.old k }
+        ensures wrote { Wrote self.old k 1 self.new }
+        ensures value { result ≡ drawn (params self.old) width self.old.draw.now k }
+    {
+        let value = self.draw[self.next];
+        self.next += 1;
+        self.deal_place(k, value);
+        value
     }
-    next
-}
 
-// Group g: ρ, and the vector of ρ divided by the gap.
-fn deal_group(
-    o: DealContext,
-    draw: &[u32],
-    server: &mut [u32],
-    phone: &mut [u32],
-    g: usize,
-    at: usize,
-) -> usize
-    requires deal_slices { DealSlices o draw.now server.old phone.old }
-    requires g_bound { (g < groups (params_for o)) × (at ≡ cursor_for o (group_at (params_for o) g)) }
-    ensures { Wrote o draw.now server.old phone.old (group_at (params_for o) g) (group_k (params_for o) + 3) server.new phone.new result }
-{
-    let shape = o.shape;
-    let k = group_at(shape, g);
-    let d = draw[at] / group_gap(shape);
-    let next = deal_drawn(o, draw, server, phone, k, at);
-    let size = group_k(shape) as usize + 2;
-    deal_vector(o, draw, server, phone, k + 1, next, size, d)
-}
-
-// All places of coefficient c.
-fn deal_coefficient(
-    o: DealContext,
-    draw: &[u32],
-    server: &mut [u32],
-    phone: &mut [u32],
-    c: usize,
-    at: usize,
-) -> usize
-    requires deal_slices { DealSlices o draw.now server.old phone.old }
-    requires c_lt_n { (c < o.shape.n) × (at ≡ cursor_for o (mask_at (params_for o) c)) }
-    ensures { Wrote o draw.now server.old phone.old (mask_at (params_for o) c) (stride (params_for o)) server.new phone.new result }
-{
-    let shape = o.shape;
-    let triples = deal_mask(o, draw, server, phone, c, at);
-    let next = deal_triples(o, draw, server, phone, c, triples);
-    if shape.kind == 0 {
-        return deal_group(o, draw, server, phone, c, next);
+    // The vector of d, from place k on: all places as if they held 0, several numbers at a time; then the place that holds 1. (A d behind
+    // the vector's end has no place: no digit is such, but nothing here need know it.)
+    fn deal_vector(&mut self, k: usize, size: usize, d: u32)
+        requires { Vector (context_of self.old) k size d × At self.old k }
+        ensures { Wrote self.old k size self.new }
+    {
+        let at = self.next;
+        self.next += WIDTH * size;
+        let own = &self.draw[at..self.next];
+        let place = WIDTH * k;
+        let end = place + own.len();
+        self.phone[place..end].copy_from_slice(own);
+        put_negatives(&mut self.server[place..end], own);
+        let one = d as usize;
+        if one < size {
+            self.put_place(k + one, at + WIDTH * one, 1);
+        }
     }
-    next
-}
 
-// All coefficients.
-fn deal_coefficients(o: DealContext, draw: &[u32], server: &mut [u32], phone: &mut [u32]) -> usize
-    requires { DealSlices o draw.now server.old phone.old }
-    ensures { Wrote o draw.now server.old phone.old 0 (mask_at (params_for o) o.shape.n) server.new phone.new result }
-{
-    let mut next = 0;
-    let mut c = 0;
-    while c < o.shape.n as usize {
-        next = deal_coefficient(o, draw, server, phone, c, next);
-        c += 1;
+    // The vectors of r's five digits, r being the mask of coefficient c.
+    fn deal_vectors(&mut self, c: usize, r: Split)
+        requires { (c < self.old.shape.n) × At self.old (vector_at (params self.old) c 0)
+            × (r ≡ split_of (params self.old).scale (drawn (params self.old) width self.old.draw.now (mask_at (params self.old) c))) }
+        ensures { Wrote self.old (vector_at (params self.old) c 0) (sum_to 5 (base (params self.old).scale)) self.new }
+    {
+        for i in 0..5 {
+            let size = base_of(self.shape.set as usize, i) as usize;
+            self.deal_vector(vector_at(self.shape, c, i), size, r.digits[i]);
+        }
     }
-    next
-}
 
-// Both books.
-fn deal_books(o: DealContext, draw: &[u32], server: &mut [u32], phone: &mut [u32]) -> usize
-    requires { DealSlices o draw.now server.old phone.old }
-    ensures { Wrote o draw.now server.old phone.old 0 (shared_for o) server.new phone.new result }
-{
-    let shape = o.shape;
-    let next = deal_coefficients(o, draw, server, phone);
-    if shape.kind == 0 {
-        return next;
+    // Mask r of coefficient c, and the vectors of its digits.
+    fn deal_mask(&mut self, c: usize)
+        requires { (c < self.old.shape.n) × At self.old (mask_at (params self.old) c) }
+        ensures { Wrote self.old (mask_at (params self.old) c) (1 + sum_to 5 (base (params self.old).scale)) self.new }
+    {
+        let shape = self.shape;
+        let r = self.deal_drawn(mask_at(shape, c));
+        self.deal_vectors(c, split_number(shape.set as usize, r));
     }
-    deal_group(o, draw, server, phone, 0, next)
+
+    // Triple t of coefficient c: a, b and a × b.
+    fn deal_triple(&mut self, c: usize, t: usize)
+        requires { (c < self.old.shape.n) × (t < 8) × At self.old (triple_at (params self.old) c t) }
+        ensures { Wrote self.old (triple_at (params self.old) c t) 3 self.new }
+    {
+        let k = triple_at(self.shape, c, t);
+        let a = self.deal_drawn(k);
+        let b = self.deal_drawn(k + 1);
+        self.deal_place(k + 2, mul_mod(a, b));
+    }
+
+    // The eight triples of coefficient c.
+    fn deal_triples(&mut self, c: usize)
+        requires { (c < self.old.shape.n) × At self.old (triple_at (params self.old) c 0) }
+        ensures { Wrote self.old (triple_at (params self.old) c 0) 24 self.new }
+    {
+        for t in 0..8 {
+            self.deal_triple(c, t);
+        }
+    }
+
+    // Group g: ρ, and the vector of ρ divided by the gap.
+    fn deal_group(&mut self, g: usize)
+        requires { (g < groups (params self.old)) × At self.old (group_at (params self.old) g) }
+        ensures { Wrote self.old (group_at (params self.old) g) (group_k (params self.old) + 3) self.new }
+    {
+        let shape = self.shape;
+        let k = group_at(shape, g);
+        let rho = self.deal_drawn(k);
+        self.deal_vector(k + 1, group_k(shape) as usize + 2, rho / group_gap(shape));
+    }
+
+    // All places of coefficient c.
+    fn deal_coefficient(&mut self, c: usize)
+        requires { (c < self.old.shape.n) × At self.old (mask_at (params self.old) c) }
+        ensures { Wrote self.old (mask_at (params self.old) c) (stride (params self.old)) self.new }
+    {
+        let kind = self.shape.kind;
+        self.deal_mask(c);
+        self.deal_triples(c);
+        if kind == 0 {
+            self.deal_group(c);
+        }
+    }
+
+    // Both books.
+    fn deal_books(&mut self)
+        requires { At self.old 0 }
+        ensures { Wrote self.old 0 (shared (params self.old)) self.new }
+    {
+        let shape = self.shape;
+        for c in 0..shape.n as usize {
+            self.deal_coefficient(c);
+        }
+        if shape.kind != 0 {
+            self.deal_group(0);
+        }
+    }
 }
 
 // ---- The call
 
-// Question 4, of both sides' keys.
-fn all_keys_ok(keys0: [u32; KEYS], keys1: [u32; KEYS]) -> bool
-    ensures { result ≡ (keys_ok keys0 && keys_ok keys1) }
-{
-    if !keys_ok(keys0) {
-        return false;
-    }
-    keys_ok(keys1)
-}
-
-// Question 5: the draw, and the two lent books. (`deal_no` has asked 1 and 2.)
+// Question 5: the draw, and the two lent books. (`ask_deal` has asked 1 and 2.)
 fn lengths_ok(shape: Shape, draw: &[u32], server: &[u32], phone: &[u32]) -> bool
     requires { (shape.set < 2) × (shape.n ≤ 8) }
     ensures { result ≡ (eqb (length draw.now) (draw_length (params_of shape) width)
@@ -294,43 +194,34 @@ fn lengths_ok(shape: Shape, draw: &[u32], server: &[u32], phone: &[u32]) -> bool
         && eqb (length phone.now) (shared (params_of shape) * width)) }
 {
     let size = shared_of(shape) * WIDTH;
-    if draw.len() != draw_length(shape) {
-        return false;
-    }
-    if server.len() != size {
-        return false;
-    }
-    phone.len() == size
+    draw.len() == draw_length(shape) && server.len() == size && phone.len() == size
 }
 
-// The first no, or 0.
-fn deal_no(
+// The questions of a deal.
+fn ask_deal(
     shape: Shape,
     keys0: [u32; KEYS],
     keys1: [u32; KEYS],
     draw: &[u32],
     server: &[u32],
     phone: &[u32],
-) -> u32
-    ensures { result ≡ deal_no key_count shape keys0 keys1 draw.now server.now phone.now }
+) -> Result<(), Refusal>
+    ensures { refused result ≡ deal_no key_count shape keys0 keys1 draw.now server.now phone.now }
 {
-    let no = shape_no(shape);
-    if no != 0 {
-        return no;
-    }
-    if !all_keys_ok(keys0, keys1) {
-        return KEY;
+    ask_shape(shape)?;
+    if !keys_ok(keys0) || !keys_ok(keys1) {
+        return Err(Refusal::Key);
     }
     if !lengths_ok(shape, draw, server, phone) {
-        return LENGTH;
+        return Err(Refusal::Length);
     }
     if !all_below_q(draw) {
-        return NOT_BELOW_Q;
+        return Err(Refusal::NotBelowQ);
     }
-    0
+    Ok(())
 }
 
-// Both sides' books from a draw, or the number of the first no.
+// Both sides' books from a draw.
 pub fn deal(
     shape: Shape,
     keys0: [u32; KEYS],
@@ -338,15 +229,19 @@ pub fn deal(
     draw: &[u32],
     server: &mut [u32],
     phone: &mut [u32],
-) -> u32
-    ensures { record { refused = result; server = server.new; phone = phone.new }
+) -> Result<(), Refusal>
+    ensures { record { refused = refused result; server = server.new; phone = phone.new }
         ≡ deal_call key_count shape keys0 keys1 draw.now server.old phone.old }
 {
-    let no = deal_no(shape, keys0, keys1, draw, server, phone);
-    if no != 0 {
-        return no;
-    }
-    let factors = for_columns(1, keys0, keys1);
-    deal_books(DealContext { shape, factors }, draw, server, phone);
-    0
+    ask_deal(shape, keys0, keys1, draw, server, phone)?;
+    let mut dealing = Dealing {
+        shape,
+        factors: for_columns(1, keys0, keys1),
+        draw,
+        server,
+        phone,
+        next: 0,
+    };
+    dealing.deal_books();
+    Ok(())
 }
