@@ -1,6 +1,6 @@
 #!/usr/bin/env python3
 """compare_factors.py PROGRAM: the list that the program `factors` writes is the list of FIPS 204's appendix B as another implementation
-has it (fips204_zetas.txt beside this file, entries 1 to 255; entry 0 is 1), and stands line for line in crate ring as its constant FACTORS.
+has it (fips204_zetas.txt beside this file, entries 1 to 255; entry 0 is 1), and stands line for line in crate ring as FACTORS.
 Exit code 1 where anything differs."""
 import pathlib
 import re
@@ -42,10 +42,10 @@ def zetas():
 
 
 def in_source():
-    """The lines of the constant."""
-    found = re.findall(r'^const FACTORS: \[u32; 256\] = \[\n(.*?)^\];$', SOURCE.read_text(encoding='utf-8'), re.M | re.S)
+    """The lines of the list."""
+    found = re.findall(r'^static FACTORS: \[u32; 256\] = \[\n(.*?)^\];$', SOURCE.read_text(encoding='utf-8'), re.M | re.S)
     if len(found) != 1:
-        fail('%s has the constant FACTORS %d times' % (SOURCE, len(found)))
+        fail('%s has FACTORS %d times' % (SOURCE, len(found)))
     return found[0].splitlines()
 
 

@@ -8,11 +8,11 @@ use native.Mathlib.Decide.{dec_lt}
 use native.Mathlib.Nat.{mul-le-mul_left, mul-le-mul_right}
 use lib.ListN.{length, get_or, set}
 use Rattle.field.specs.Field.{q}
-use Rattle.lists.specs.Lists.{fill}
-use Rattle.lists.proofs.Fill.{front-more, front-behind, length-fill}
+use Rattle.lists.specs.Lists.{fill, list_to}
+use Rattle.lists.proofs.Fill.{fill_none, front-more, front-behind, whole_is}
 use Rattle.ring.specs.Ntt.{Rule, pair, block}
 use Rattle.ring.specs.Layers.{layer, forward_factor, inverse_factor, lazy_low, lazy_high, lazy_inverse_low, lazy_inverse_high, lazy_layer, lazy_inverse_layer, lazy_to, lazy_inverse_from}
-use Rattle.ring.proofs.Layers.{length-block, length-layer, sizes, block-other, layer-behind}
+use Rattle.ring.proofs.Layers.{length-layer, sizes, block-other, layer-behind}
 
 module _ (low high : Rule) (half : ℕ) where
   pub block_none : (z start : ℕ) (w : List ℕ) → w ≡ block low high half z start 0 w
@@ -22,9 +22,6 @@ module _ (low high : Rule) (half : ℕ) where
   pub block_turn : (z start n : ℕ) (w₀ w w' : List ℕ) → w ≡ block low high half z start n w₀ → w' ≡ pair low high half z (start + n) w → w' ≡ block low high half z start (n + 1) w₀
   unfolding block
   block_turn z start n w₀ w w' e t = rw add-one (t ∙ ap (pair low high half z (start + n)) e)
-
-  pub block_size : (z start n : ℕ) (w₀ w : List ℕ) → w ≡ block low high half z start n w₀ → length w ≡ length w₀
-  block_size z start n w₀ w e = ap length e ∙ length-block low high half z start n w₀
 
   -- the pairs that the loop has not reached: both numbers are those of the start
   pub block_ahead : (z start n i : ℕ) (w₀ w : List ℕ) → w ≡ block low high half z start n w₀ → n ≤ i → i < half
@@ -48,9 +45,6 @@ module _ (low high : Rule) (half : ℕ) where
   pub layer-size : (z : ℕ → ℕ) (n : ℕ) (w₀ w : List ℕ) → w ≡ layer low high half z n w₀ → length w ≡ length w₀
   layer-size z n w₀ w e = ap length e ∙ length-layer low high half z n w₀
 
-pub raised_by : (a b half z start n : ℕ) (w w' : List ℕ) → w' ≡ block lazy_inverse_low (lazy_inverse_high a) half z start n w → a ≡ b → w' ≡ block lazy_inverse_low (lazy_inverse_high b) half z start n w
-raised_by a b half z start n w w' t e = t ∙ ap (λ c. block lazy_inverse_low (lazy_inverse_high c) half z start n w) e
-
 -- ---- loops that write each number of a list from the first on
 
 fill_turn : (s : List ℕ) (n : ℕ) (f : ℕ → ℕ) (w : List ℕ) (x : ℕ) → w ≡ fill s 0 n f → x ≡ f n → set w n x ≡ fill s 0 (n + 1) f
@@ -64,8 +58,11 @@ module _ (g : ℕ → ℕ → ℕ) (s : List ℕ) where
   pub each_turn : (n : ℕ) (w : List ℕ) (x : ℕ) → w ≡ fill s 0 n each → x ≡ g n (get_or w n 0) → set w n x ≡ fill s 0 (n + 1) each
   each_turn n w x e h = fill_turn s n each w x e (h ∙ ap (g n) (ap (λ l. get_or l n 0) e ∙ front-behind s n each n (omega arith)))
 
-pub fill-size : (s : List ℕ) (n : ℕ) (f : ℕ → ℕ) (w : List ℕ) → w ≡ fill s 0 n f → length w ≡ length s
-fill-size s n f w e = ap length e ∙ length-fill s 0 n f
+  pub each_none : s ≡ fill s 0 0 each
+  each_none = sym (fill_none s 0 each)
+
+  pub each_whole : (n : ℕ) (w : List ℕ) → w ≡ fill s 0 n each → n ≡ 256 → length s ≡ 256 → w ≡ list_to 256 each
+  each_whole n w e h size = e ∙ ap (λ (m : ℕ). fill s 0 m each) h ∙ whole_is s 256 each size
 
 -- ---- loops over the layers: h and b are the sizes of layer n
 
@@ -114,13 +111,4 @@ room half blocks n e l = go (dec_lt 0 half)
         omega arith
     go (no p) =
         let z : half ≡ 0 = omega arith in
-        absurd (omega (arith, rw z at e))
-
-pub half_most : (half blocks : ℕ) → blocks * half ≡ 128 → half ≤ 128
-half_most half blocks e = go (dec_lt 0 blocks)
-  where
-    go : Dec (0 < blocks) → half ≤ 128
-    go (yes p) = (room half blocks 0 e p).halves
-    go (no p) =
-        let z : blocks ≡ 0 = omega arith in
         absurd (omega (arith, rw z at e))

@@ -1,17 +1,16 @@
 -- What the questions have shown where each was answered yes, and what the steps of a product leave.
-use mathlib.Core.Path.{◌≡◌, refl, sym, ap, ◌∙◌}
+use mathlib.Core.Path.{◌≡◌, refl, ap, ◌∙◌}
 use mathlib.Core.Bool.{true, ◌&&◌}
 use mathlib.Core.List.{List}
-use Prim.Native.Nat.{ℕ, ◌+◌, ◌*◌, ◌<◌}
+use Prim.Native.Nat.{ℕ, ◌*◌, ◌<◌}
 use native.Mathlib.Nat.{mod-lt}
 use native.Mathlib.Omega.{arith}
 use lib.Dec.{eqb}
 use lib.ListN.{length, get_or}
 use mathlib.Core.Logic.{◌≢◌}
 use borrow.Author.Tests.{eqb-true, ne_eqb}
-use Rattle.lists.specs.Lists.{all_below, fill, list_to}
-use Rattle.lists.proofs.Fill.{from_start, whole_is}
-use Rattle.lists.proofs.Lists.{length-list_from, get_d_list_to, list_to_get_d}
+use Rattle.lists.specs.Lists.{all_below}
+use Rattle.lists.proofs.Lists.{length-list_from, get_d_list_to}
 use Rattle.lists.proofs.Every.{below_at}
 use Rattle.lists.proofs.Questions.{passed, both_yes}
 use Rattle.field.specs.Field.{q, mul}
@@ -43,20 +42,12 @@ transform-ready public out e =
     let sizes = both_yes (eqb (length public) 256) (eqb (length out) 256) five.0 in
     (eqb-true _ _ sizes.0, eqb-true _ _ sizes.1, low public (passed (all_below q public) 5 _ five.1).0)
 
--- a row copied
-pub copied : (to s from : List ℕ) → length from ≡ 256 → length s ≡ 256 → to ≡ fill s 0 256 (λ (j : ℕ). get_or from (0 + j) 0) → to ≡ from
-copied to s from lf ls e =
-    e ∙ from_start s from 0 256 ∙ whole_is s 256 (λ k. get_or from k 0) ls ∙ ap (λ n. list_to n (λ k. get_or from k 0)) (sym lf) ∙ list_to_get_d from
-
-pub low_as : (w v : List ℕ) → w ≡ v → Low v → Low w
-low_as w v e h i = rw e (h i)
-
 -- two rows multiplied number by number
-pub pointwise-low : (w u v : List ℕ) → w ≡ pointwise u v → (length w ≡ 256) × Low w
+pub pointwise-low : (w u v : List ℕ) → w ≡ pointwise u v → Low w
 unfolding pointwise
 pointwise-low w u v e =
-    let size = ap length e ∙ length-list_from 0 256 entry in
-    (size, everywhere w q (omega arith) size (λ i l. rw (e, get_d_list_to 256 entry i 0 l) (mod-lt (get_or u i 0 * get_or v i 0) {m = q} (omega arith))))
+    everywhere w q (omega arith) (ap length e ∙ length-list_from 0 256 entry)
+    (λ i l. rw (e, get_d_list_to 256 entry i 0 l) (mod-lt (get_or u i 0 * get_or v i 0) {m = q} (omega arith)))
   where
     entry : ℕ → ℕ
     entry i = mul q (get_or u i 0) (get_or v i 0)

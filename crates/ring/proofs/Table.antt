@@ -6,10 +6,10 @@ use Prim.Native.Nat.{ℕ, ◌+◌, ◌*◌, ◌-◌, ◌%◌, ◌^◌, ◌<◌}
 use native.Mathlib.Nat.{mod-lt}
 use native.Mathlib.Omega.{arith}
 use lib.Dec.{eqb}
-use lib.ListN.{length, get_or}
+use lib.ListN.{get_or}
 use borrow.Author.Tests.{eqb-true}
 use Rattle.lists.specs.Lists.{all_to}
-use Rattle.lists.proofs.Lists.{length-list_from, get_d_list_to}
+use Rattle.lists.proofs.Lists.{get_d_list_to}
 use Rattle.lists.proofs.Every.{all_to-at}
 use Rattle.lists.proofs.Questions.{both_yes}
 use Rattle.field.specs.Field.{q}
@@ -17,7 +17,7 @@ use Rattle.field.specs.Congruence.{◌⊩◌≈◌}
 use Rattle.ring.specs.Factors.{reversed, factor, factor_list, root}
 use Rattle.ring.specs.Layers.{forward_factor, inverse_factor}
 
-factor-below : (i : ℕ) → factor i < q
+pub factor-below : (i : ℕ) → factor i < q
 unfolding factor
 factor-below i = mod-lt _ (omega arith)
 
@@ -27,10 +27,6 @@ unfolding factor_list
 entry list i e h =
     let at = ap (λ l. get_or l i 0) e ∙ get_d_list_to 256 factor i 0 h in
     (at, rw at (factor-below i))
-
-pub entries_in : (list : List ℕ) → list ≡ factor_list → length list ≡ 256
-unfolding factor_list
-entries_in list e = ap length e ∙ length-list_from 0 256 factor
 
 -- ---- X^256 is −1 at each root
 

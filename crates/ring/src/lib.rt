@@ -3,21 +3,20 @@
 // and doubles in each of the inverse, which stays below 2^31.
 #![tactic(auto)]
 
-ghost use Rattle.std.specs.Prelude.{◌≡◌, ℕ, ◌+◌, ◌*◌, ◌^◌, ◌<◌, ◌≤◌, length, get_or};
+ghost use Rattle.std.specs.Prelude.{◌≡◌, ℕ, ◌+◌, ◌-◌, ◌*◌, ◌^◌, ◌<◌, ◌≤◌, length, get_or};
 ghost use Rattle.field.specs.Field.{q};
 ghost use Rattle.ring.specs.Product.{product as product_of};
-ghost use Rattle.ring.specs.Factors.{factor_list};
-ghost use Rattle.ring.specs.Ntt.{pair, block, ntt, inverse_ntt, pointwise, scaled};
+ghost use Rattle.ring.specs.Factors.{factor as factor_of};
+ghost use Rattle.ring.specs.Ntt.{Rule, block, ntt, inverse_ntt, pointwise, scaled};
 ghost use Rattle.ring.specs.Calls.{ring_no, transform_no, ring_call, transform_call, transformed_call};
-ghost use Rattle.ring.specs.Layers.{layer, forward_factor, inverse_factor, lazy_low, lazy_high, lazy_inverse_low, lazy_inverse_high, lazy_to, lazy_inverse_from, reduced, limit};
+ghost use Rattle.ring.specs.Layers.{layer, forward_factor, inverse_factor, lazy_low, lazy_high, lazy_inverse_low, lazy_inverse_high, lazy_to, lazy_inverse_from, reduced, Below, limit};
 
 use field::{Q, all_below_q, mul_mod};
-use lists::copy_numbers;
 use settings::{LENGTH, NOT_BELOW_Q};
 
 // Entry i is 1,753 to the power of i with its eight bits reversed, modulo q. Program `factors` writes this list.
 #[rattlefmt::skip]
-const FACTORS: [u32; 256] = [
+static FACTORS: [u32; 256] = [
     1,
     4808194,
     3765607,
@@ -285,212 +284,205 @@ const LAYERS: usize = 8;
 // 1/256 modulo q.
 const SCALE: u32 = 8347681;
 
-// The factor list. A call writes it out once and lends it to every layer: the compiler writes a constant array out anew wherever an entry of it is
-// read.
-fn factors() -> [u32; 256]
-    ensures { result ≡ factor_list }
-{
-    FACTORS
-}
-
 // 2 to the power k.
 fn power(k: usize) -> usize
     requires { k < 8 }
-    ensures { result ≡ 2 ^ k }
+    ensures { (result ≡ 2 ^ k) × (result ≤ 128) }
 {
     1 << k
 }
 
-// ---- The transform
-
-// The numbers x and y at j and j + half become x + z y and x - z y, raised by q.
-fn forward_pair(w: &mut [u32], half: usize, z: u32, j: usize)
-    requires { (j + half < length w.old) × (get_or w.old j 0 < limit) }
-    ensures { w.new ≡ pair lazy_low lazy_high half z j w.old }
+// Entry i of the factor list.
+fn factor(i: usize) -> u32
+    requires { i < 256 }
+    ensures { result ≡ factor_of i }
 {
-    let x = w[j];
-    let t = mul_mod(z, w[j + half]);
-    w[j + half] = x + (Q - t);
-    w[j] = x + t;
+    FACTORS[i]
+}
+
+// ---- The layers of the transform and of its inverse
+
+// What becomes of the numbers x and y of a pair with the factor z, and which factor a block has.
+trait Direction {
+    ghost low: { Self → Rule };
+
+    ghost high: { Self → Rule };
+
+    // The numbers of a pair are below this.
+    ghost limit: { Self → ℕ };
+
+    ghost factor: { ℕ → ℕ → ℕ };
+
+    fn pair(&self, z: u32, x: u32, y: u32) -> (u32, u32)
+        requires { (x < limit self.now) × (y < limit self.now) }
+        ensures { (result.0 ≡ low self.now z x y) × (result.1 ≡ high self.now z x y) };
+
+    // The factor of block n in a layer of so many blocks.
+    fn factor(&self, blocks: usize, n: usize) -> u32
+        requires { (n < blocks) × (blocks ≤ 128) }
+        ensures { result ≡ factor blocks n };
+}
+
+// x + z y and x - z y, raised by q.
+#[derive(Clone, Copy)]
+struct Transform;
+
+impl Direction for Transform {
+    ghost low = { λ _. lazy_low };
+
+    ghost high = { λ _. lazy_high };
+
+    ghost limit = { λ _. limit };
+
+    ghost factor = { forward_factor };
+
+    fn pair(&self, z: u32, x: u32, y: u32) -> (u32, u32) {
+        let t = mul_mod(z, y);
+        (x + t, x + (Q - t))
+    }
+
+    fn factor(&self, blocks: usize, n: usize) -> u32 {
+        factor(blocks + n)
+    }
+}
+
+// x + y and z (x - y), raised by `above`, a multiple of q above both. The factors are those of the list backwards, negated.
+#[derive(Clone, Copy)]
+struct InverseTransform {
+    above: u32,
+    ghost doubled: { above + above ≤ 2 ^ 32 },
+}
+
+impl Direction for InverseTransform {
+    ghost low = { λ _. lazy_inverse_low };
+
+    ghost high = { λ d. lazy_inverse_high d.above };
+
+    ghost limit = { λ d. d.above };
+
+    ghost factor = { inverse_factor };
+
+    fn pair(&self, z: u32, x: u32, y: u32) -> (u32, u32) {
+        (x + y, mul_mod(z, x + (self.above - y)))
+    }
+
+    fn factor(&self, blocks: usize, n: usize) -> u32 {
+        Q - factor(blocks + (blocks - 1 - n))
+    }
 }
 
 // The pairs of the block that starts at a place.
-fn forward_block(w: &mut [u32], half: usize, z: u32, start: usize)
-    requires { (start + (half + half) ≤ length w.old) × ((i : ℕ) → start ≤ i → get_or w.old i 0 < limit) }
-    ensures { w.new ≡ block lazy_low lazy_high half z start half w.old }
+fn block<D: Direction>(d: &D, w: &mut [u32; SIZE], half: usize, z: u32, start: usize)
+    requires { (start + (half + half) ≤ 256) × ((i : ℕ) → start ≤ i → get_or w.old i 0 < D.limit d.now) }
+    ensures { w.new ≡ block (D.low d.now) (D.high d.now) half z start half w.old }
 {
-    let mut n = 0;
-    while n < half {
-        forward_pair(w, half, z, start + n);
-        n += 1;
+    for n in 0..half {
+        let (x, y) = d.pair(z, w[start + n], w[start + n + half]);
+        w[start + n + half] = y;
+        w[start + n] = x;
     }
 }
 
 // The blocks of a layer.
-fn forward_layer(w: &mut [u32], list: &[u32], half: usize, blocks: usize)
-    requires { (length w.old ≡ 256) × (list.now ≡ factor_list) × (blocks * half ≡ 128) × ((i : ℕ) → get_or w.old i 0 < limit) }
-    ensures { w.new ≡ layer lazy_low lazy_high half (forward_factor blocks) blocks w.old }
+fn layer<D: Direction>(d: &D, w: &mut [u32; SIZE], half: usize, blocks: usize)
+    requires { (blocks * half ≡ 128) × Below (D.limit d.now) w.old }
+    ensures { w.new ≡ layer (D.low d.now) (D.high d.now) half (D.factor blocks) blocks w.old }
 {
-    let mut n = 0;
-    while n < blocks {
-        forward_block(w, half, list[blocks + n], n * (2 * half));
-        n += 1;
+    for n in 0..blocks {
+        block(d, w, half, d.factor(blocks, n), n * (2 * half));
     }
 }
 
 // The transform of 256 numbers below q, in place, not reduced: the numbers are below 9 q.
-fn forward(w: &mut [u32], list: &[u32])
-    requires { (length w.old ≡ 256) × (list.now ≡ factor_list) × ((i : ℕ) → get_or w.old i 0 < q) }
+fn forward(w: &mut [u32; SIZE])
+    requires { Below q w.old }
     ensures { w.new ≡ lazy_to 8 w.old }
 {
-    let mut n = 0;
-    while n < LAYERS {
-        forward_layer(w, list, power(7 - n), power(n));
-        n += 1;
+    for n in 0..LAYERS {
+        layer(&Transform, w, power(7 - n), power(n));
     }
 }
 
-// ---- The inverse
-
-// The numbers x and y at j and j + half become x + y and z (x - y); `above` is a multiple of q above both.
-fn inverse_pair(w: &mut [u32], half: usize, z: u32, j: usize, above: u32)
-    requires { (j + half < length w.old) × (above < 2147483648) × (get_or w.old j 0 < above) × (get_or w.old (j + half) 0 < above) }
-    ensures { w.new ≡ pair lazy_inverse_low (lazy_inverse_high above) half z j w.old }
-{
-    let x = w[j];
-    let y = w[j + half];
-    w[j + half] = mul_mod(z, x + (above - y));
-    w[j] = x + y;
-}
-
-fn inverse_block(w: &mut [u32], half: usize, z: u32, start: usize, above: u32)
-    requires { (start + (half + half) ≤ length w.old) × (above < 2147483648) × ((i : ℕ) → start ≤ i → get_or w.old i 0 < above) }
-    ensures { w.new ≡ block lazy_inverse_low (lazy_inverse_high above) half z start half w.old }
-{
-    let mut n = 0;
-    while n < half {
-        inverse_pair(w, half, z, start + n, above);
-        n += 1;
-    }
-}
-
-// half × q.
-fn multiple(half: usize) -> u32
-    requires { half ≤ 128 }
-    ensures { result ≡ half * q }
-{
-    half as u32 * Q
-}
-
-// The blocks of a layer of the inverse. The numbers are below half × q.
-fn inverse_layer(w: &mut [u32], list: &[u32], half: usize, blocks: usize)
-    requires { (length w.old ≡ 256) × (list.now ≡ factor_list) × (blocks * half ≡ 128) × ((i : ℕ) → get_or w.old i 0 < half * q) }
-    ensures { w.new ≡ layer lazy_inverse_low (lazy_inverse_high (half * q)) half (inverse_factor blocks) blocks w.old }
-{
-    let above = multiple(half);
-    let mut n = 0;
-    while n < blocks {
-        inverse_block(
-            w,
-            half,
-            Q - list[blocks + (blocks - 1 - n)],
-            n * (2 * half),
-            above,
-        );
-        n += 1;
-    }
-}
-
-// The layers of the inverse, the last first, of 256 numbers below q.
-fn inverse_layers(w: &mut [u32], list: &[u32])
-    requires { (length w.old ≡ 256) × (list.now ≡ factor_list) × ((i : ℕ) → get_or w.old i 0 < q) }
+// The layers of the inverse, the last first, of 256 numbers below q. Before layer n the numbers are below half × q.
+fn inverse_layers(w: &mut [u32; SIZE])
+    requires { Below q w.old }
     ensures { w.new ≡ lazy_inverse_from 8 w.old }
 {
-    let mut n = LAYERS;
-    while 0 < n {
-        n -= 1;
-        inverse_layer(w, list, power(7 - n), power(n));
+    for n in (0..LAYERS).rev() {
+        let half = power(7 - n);
+        let above = half as u32 * Q;
+        layer(&InverseTransform { above }, w, half, power(n));
     }
 }
 
 // Every number times 1/256, reduced.
-fn scale(w: &mut [u32])
-    requires { length w.old ≡ 256 }
+fn scale(w: &mut [u32; SIZE])
     ensures { w.new ≡ scaled w.old }
 {
-    let mut n = 0;
-    while n < SIZE {
-        w[n] = mul_mod(SCALE, w[n]);
-        n += 1;
+    for x in w.iter_mut() {
+        *x = mul_mod(SCALE, *x);
     }
 }
 
 // The inverse transform of 256 numbers below q, in place.
-fn inverse(w: &mut [u32], list: &[u32])
-    requires { (length w.old ≡ 256) × (list.now ≡ factor_list) × ((i : ℕ) → get_or w.old i 0 < q) }
+fn inverse(w: &mut [u32; SIZE])
+    requires { Below q w.old }
     ensures { w.new ≡ inverse_ntt w.old }
 {
-    inverse_layers(w, list);
+    inverse_layers(w);
     scale(w);
 }
 
 // ---- Products
 
 // Number by number, into the second, reduced.
-fn multiply(u: &[u32], v: &mut [u32])
-    requires { (length u.now ≡ 256) × (length v.old ≡ 256) }
+fn multiply(u: &[u32; SIZE], v: &mut [u32; SIZE])
     ensures { v.new ≡ pointwise u.now v.old }
 {
-    let mut n = 0;
-    while n < SIZE {
-        v[n] = mul_mod(u[n], v[n]);
-        n += 1;
+    for (i, x) in v.iter_mut().enumerate() {
+        *x = mul_mod(u[i], *x);
     }
 }
 
-// The transform of a row, not reduced, into `out`.
-fn unreduced(row: &[u32], out: &mut [u32], list: &[u32])
-    requires { (length row.now ≡ 256) × (length out.old ≡ 256) × (list.now ≡ factor_list) × ((i : ℕ) → get_or row.now i 0 < q) }
-    ensures { out.new ≡ lazy_to 8 row.now }
-{
-    copy_numbers(out, 0, row, 0, SIZE);
-    forward(out, list);
-}
-
 // The product of a row and of what `left` is the transform of, reduced or not.
-fn product_with(left: &[u32], row: &[u32], out: &mut [u32], list: &[u32])
-    requires { (length left.now ≡ 256) × (length row.now ≡ 256) × (length out.old ≡ 256) × (list.now ≡ factor_list) × ((i : ℕ) → get_or row.now i 0 < q) }
+fn product_with(left: &[u32; SIZE], row: &[u32; SIZE], out: &mut [u32; SIZE])
+    requires { Below q row.now }
     ensures { out.new ≡ inverse_ntt (pointwise left.now (ntt row.now)) }
 {
-    unreduced(row, out, list);
+    *out = *row;
+    forward(out);
     multiply(left, out);
-    inverse(out, list);
+    inverse(out);
 }
 
 // The product of two rows of 256 numbers below q.
-fn product(public: &[u32], row: &[u32], out: &mut [u32])
-    requires { (length public.now ≡ 256) × (length row.now ≡ 256) × (length out.old ≡ 256) × ((i : ℕ) → get_or public.now i 0 < q) × ((i : ℕ) → get_or row.now i 0 < q) }
+fn product(public: &[u32; SIZE], row: &[u32; SIZE], out: &mut [u32; SIZE])
+    requires { Below q public.now × Below q row.now }
     ensures { out.new ≡ product_of public.now row.now }
 {
-    let list = factors();
-    let mut left = [0u32; 256];
-    unreduced(public, &mut left, &list);
-    product_with(&left, row, out, &list);
+    let mut left = *public;
+    forward(&mut left);
+    product_with(&left, row, out);
 }
 
 // Each number modulo q.
-fn reduce(w: &mut [u32])
-    requires { length w.old ≡ 256 }
+fn reduce(w: &mut [u32; SIZE])
     ensures { w.new ≡ reduced w.old }
 {
-    let mut n = 0;
-    while n < SIZE {
-        w[n] %= Q;
-        n += 1;
+    for x in w.iter_mut() {
+        *x %= Q;
     }
 }
 
 // ---- The calls
+
+// 256 numbers, whose length was asked.
+fn whole(numbers: &[u32]) -> &[u32; SIZE]
+    requires { length numbers.now ≡ 256 }
+    ensures { result.now ≡ numbers.now }
+{
+    numbers.try_into().unwrap()
+}
 
 // Questions 5 and 6 of both factors and the output: the first no, or 0.
 fn ring_no(public: &[u32], row: &[u32], out: &[u32]) -> u32
@@ -522,7 +514,7 @@ pub fn ring_product(public: &[u32], row: &[u32], out: &mut [u32]) -> u32
     if no != 0 {
         return no;
     }
-    product(public, row, out);
+    product(whole(public), whole(row), out.as_mut_array().unwrap());
     0
 }
 
@@ -550,8 +542,9 @@ pub fn ring_transform(public: &[u32], out: &mut [u32]) -> u32
     if no != 0 {
         return no;
     }
-    let list = factors();
-    unreduced(public, out, &list);
+    let out = out.as_mut_array().unwrap();
+    *out = *whole(public);
+    forward(out);
     reduce(out);
     0
 }
@@ -565,7 +558,6 @@ pub fn ring_product_transformed(transformed: &[u32], row: &[u32], out: &mut [u32
     if no != 0 {
         return no;
     }
-    let list = factors();
-    product_with(transformed, row, out, &list);
+    product_with(whole(transformed), whole(row), out.as_mut_array().unwrap());
     0
 }

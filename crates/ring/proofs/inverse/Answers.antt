@@ -2,8 +2,8 @@
 use Rattle.ring.proofs.Laws.{scaled-is}
 use Rattle.ring.specs.Ntt.{scaled}
 use mathlib.Core.Path.{ap, ◌∙◌}
+use native.Mathlib.Omega.{arith}
 use Rattle.ring.proofs.inverse.Goals as goal
 
 pub returns : goal.returns
-returns c =
-    c.scale.ensures ∙ ap scaled c.inverse_layers.ensures ∙ scaled-is _ c.requires.0 c.requires.2
+returns c = c.scale.ensures ∙ ap scaled c.inverse_layers.ensures ∙ scaled-is _ (omega arith) c.requires

@@ -1,30 +1,16 @@
 -- `ring::multiply` meets its contract. Assumes nothing.
-use mathlib.Core.List.{List}
-use Rattle.field.specs.Field.{q, mul}
 use Rattle.ring.specs.Ntt.{pointwise}
-use Rattle.ring.proofs.Loops.{each, each_turn, fill-size}
-use Rattle.lists.proofs.Fill.{fill_none, whole_is}
-use Rattle.lists.specs.Lists.{fill}
-use Prim.Native.Nat.{ℕ}
-use mathlib.Core.Path.{◌≡◌, refl, sym, ap, ◌∙◌}
+use Rattle.ring.proofs.Loops.{each_none, each_turn, each_whole}
+use Rattle.ring.proofs.multiply.Invariants.{times}
 use native.Mathlib.Omega.{arith}
-use lib.ListN.{get_or}
 use Rattle.ring.proofs.multiply.Goals as goal
 
-abbrev times : List ℕ → ℕ → ℕ → ℕ
-times u i y = mul q (get_or u i 0) y
+pub loop-i-init : goal.loop-i-init
+loop-i-init c = each_none (times c.args.u.now) _
 
-pub loop-n-init : goal.loop-n-init
-loop-n-init c = (omega arith, sym (fill_none _ _ _), refl)
-
-pub loop-n-preserved : goal.loop-n-preserved
-loop-n-preserved c =
-    let made = each_turn (times c.args.u.now) _ _ _ _ c.loop-n.invariant.1 c.mul_mod.ensures in
-    (omega arith, made, fill-size _ _ _ _ made)
+pub loop-i-preserved : goal.loop-i-preserved
+loop-i-preserved c = each_turn (times c.args.u.now) _ _ _ _ c.loop-i.invariant c.mul_mod.ensures
 
 pub returns : goal.returns
 unfolding pointwise
-returns c =
-    let start = c in
-    let e : c.loop-n.n ≡ 256 = omega arith in
-    c.loop-n.invariant.1 ∙ ap (λ (m : ℕ). fill start.args.v.now 0 m (each (times start.args.u.now) start.args.v.now)) e ∙ whole_is _ 256 _ start.requires.1
+returns c = each_whole (times c.args.u.now) _ _ _ c.loop-i.invariant (omega arith) (omega arith)
