@@ -6,12 +6,13 @@ use Rattle.settings.specs.declared.Shape.{Shape}
 use Rattle.settings.specs.Settings.{params_of}
 use Rattle.settings.specs.Questions.{ask_shape}
 use Rattle.settings.specs.Sizes.{width_of, draw_length}
-use Rattle.generator.specs.declared.Seeded.{Seeded}
+use Rattle.settings.specs.Refusals.{Outcome, Gives, No}
+use Rattle.generator.specs.declared.Generator.{Generator}
 use Rattle.generator.specs.Step.{stepped, outputs}
 
 -- "A 32-bit generator with a non-zero seed": "16, is the seed non-zero, asked first by the call that makes a generator"
-unfoldable pub seed_call : ℕ → Seeded
-seed_call seed = cond (ltb 0 seed) (Seeded.Ready (record { state = seed })) (Seeded.No 16)
+unfoldable pub seed_call : ℕ → Outcome Generator
+seed_call seed = cond (ltb 0 seed) (Gives (record { state = seed })) (No 16)
 
 -- "The draw's own questions are 1, 2 and 5", k keys a side; the lent draw is written, not read
 unfoldable pub draw_no : ℕ → Shape → List ℕ → ℕ
