@@ -1,4 +1,5 @@
 -- Laws of a side's calls.
+pub mod Questions
 pub mod Ready
 pub mod Sending
 pub mod Taking

@@ -16,8 +16,6 @@ use Rattle.state.specs.declared.Phase.TheVariants.{Stopped}
 use Rattle.state.specs.State.{send_due, take_due, under_way, in_phase, step_of, phase_after, at_step}
 use Rattle.opening.specs.Opening.{due_header, message, opened, passes}
 use Rattle.side.specs.declared.Run.{Run}
-use Rattle.side.specs.declared.Done.{Done}
-use Rattle.side.specs.declared.Sent.{Sent}
 
 -- ---- Begin
 
@@ -47,7 +45,12 @@ unfoldable pub begun_side : Run → Side
 begun_side r =
     record { number = r.number; settings = r.settings; keys = r.keys; serial = r.serial; round = round_after 0; phase = phase_after r.number 0; answer = replicate 8 0 }
 
--- a call's result, and the lent slice at exit
+-- what begin and take give: the number of the first no, or 0, and the side at exit
+pub record Done : Type 0 where
+  pub refused : ℕ
+  pub side : Side
+
+-- the same, and the lent slice at exit
 pub record After : Type 0 where
   pub done : Done
   pub work : List ℕ
@@ -77,6 +80,12 @@ send_no k s work out =
 -- one step more: the server then takes; the phone goes to the next round, or "finishes on sending round 7"
 unfoldable pub sent_side : Side → Side
 sent_side s = at_step s (suc (step_of s)) s.answer
+
+-- what send gives: also how many bytes it wrote
+pub record Sent : Type 0 where
+  pub refused : ℕ
+  pub length : ℕ
+  pub side : Side
 
 pub record AfterSend : Type 0 where
   pub sent : Sent

@@ -1,5 +1,5 @@
 -- Names for what the working functions of a side leave, between the calls' own definitions.
-use Rattle.std.specs.Prelude.{ℕ, List, eqb, length, get_or}
+use Rattle.std.specs.Prelude.{ℕ, Bool, List, eqb, length, get_or}
 use Rattle.lists.specs.Answers.{ask}
 use Rattle.lists.specs.Lists.{list_to, all_below}
 use Rattle.field.specs.Field.{q}
@@ -10,14 +10,20 @@ use Rattle.state.specs.declared.Side.{Side}
 use Rattle.opening.specs.Opening.{due_header}
 use Rattle.state.specs.State.{take_due}
 
+-- questions 8, 5 and 6, and then the rest
+abbrev pub ask_work : ℕ → Bool → List ℕ → ℕ → ℕ
+ask_work k due work rest =
+    ask due 8
+    (ask (eqb (length work) (work_length k)) 5
+    (ask (all_below q work) 6
+    rest))
+
 -- questions 8, 5, 6 and 10 to 12
 unfoldable pub take_door : ℕ → Side → List ℕ → List ℕ → ℕ
 take_door k s work msg =
-    ask (take_due s) 8
-    (ask (eqb (length work) (work_length k)) 5
-    (ask (all_below q work) 6
+    ask_work k (take_due s) work
     (ask_form k (due_header s) msg
-    0)))
+    0)
 
 -- the numbers of a round's openings that a list holds in front
 abbrev pub front_of : Side → List ℕ → List ℕ

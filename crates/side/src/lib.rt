@@ -1,24 +1,23 @@
-// The calls that move a run on: begin, send and take. A side goes in by value and comes back by value.
+// The calls that move a run on: begin, send and take. A refusal leaves the side as it was, but that a failed check stops it.
 #![tactic(auto)]
 
-ghost use Rattle.std.specs.Prelude.{◌≡◌, ◌≤◌, ◌<◌, length};
+ghost use Rattle.std.specs.Prelude.{◌≡◌, ◌≤◌, ◌<◌, length, OnOk};
 ghost use Rattle.settings.specs.Sizes.{key_count, most_openings, most_fields};
 ghost use Rattle.settings.specs.Questions.{Ready};
+ghost use Rattle.settings.specs.Refusals.{refused};
 ghost use Rattle.message.specs.Fields.{fields_read};
 ghost use Rattle.opening.specs.Opening.{due_header};
-ghost use Rattle.state.specs.State.{Whole};
-ghost use Rattle.side.specs.Work.{take_door, front_of};
+ghost use Rattle.state.specs.State.{Whole, written};
+ghost use Rattle.side.specs.Work.{ask_work, take_door, front_of};
 ghost use Rattle.side.specs.Side.{handed_no, begin_no, begun_side, begin_call, send_no, sent_side, send_call, answer_after, taken_side, take_call};
 
 use column::take_work;
 use field::all_below_q;
-use lists::copy_numbers;
-use message::{Header, form_no};
+use message::{Header, ask_form};
 use opening::{OWN_LENGTH, checks_pass, context_in, join_shares, prepare_columns, write_message};
 use settings::{
-    FAILED_CHECK, KEY, KEYS, LENGTH, MOST_FIELDS, MOST_OPENINGS, NO_ROOM, NOT_BELOW_Q, NOT_DUE,
-    ROUNDS, SERIAL, Settings, WIDTH, WORK_LENGTH, keys_ok, message_length, openings_in,
-    round_after, settings_no, shared_of,
+    KEYS, MOST_FIELDS, MOST_OPENINGS, ROUNDS, Refusal, Settings, WIDTH, WORK_LENGTH, ask_settings,
+    keys_ok, message_length, openings_in, round_after, shared_of,
 };
 use slice::{begin_work, weights_of};
 use state::{Phase, Side, at_step, in_phase, phase_after, send_due, step_of, take_due, under_way};
@@ -32,77 +31,87 @@ pub struct Run {
     pub serial: u32,
 }
 
-// What begin and take give back: the number of the first no, or 0, and the side.
-#[derive(Clone, Copy)]
-pub struct Done {
-    pub refused: u32,
-    pub side: Side,
-}
+// ---- Questions of send and of take
 
-// What send gives back: also how many bytes it wrote.
-#[derive(Clone, Copy)]
-pub struct Sent {
-    pub refused: u32,
-    pub length: usize,
-    pub side: Side,
+// Questions 8, 5 and 6.
+fn ask_work(due: bool, work: &[u32]) -> Result<(), Refusal>
+    ensures { refused result ≡ ask_work key_count due work.now 0 }
+{
+    if !due {
+        return Err(Refusal::NotDue);
+    }
+    if work.len() != WORK_LENGTH {
+        return Err(Refusal::Length);
+    }
+    if !all_below_q(work) {
+        return Err(Refusal::NotBelowQ);
+    }
+    Ok(())
 }
 
 // ---- Begin
 
-// Questions 4 to 7 of begin: the first no, or 0. (Begin has asked 1 to 3.)
-fn handed_no(side: Side, run: Run, inputs: &[u32], book: &[u32], work: &[u32]) -> u32
+// Questions 4 to 7 of begin. (Begin has asked 1 to 3.)
+fn ask_handed(
+    side: Side,
+    run: Run,
+    inputs: &[u32],
+    book: &[u32],
+    work: &[u32],
+) -> Result<(), Refusal>
     requires { Ready run.settings }
-    ensures { result ≡ handed_no key_count side run inputs.now book.now work.now }
+    ensures { refused result ≡ handed_no key_count side run inputs.now book.now work.now }
 {
-    let keys = run.keys;
-    if !keys_ok(keys) {
-        return KEY;
+    if !keys_ok(run.keys) {
+        return Err(Refusal::Key);
     }
     let shape = run.settings.shape;
     if inputs.len() != shape.n as usize * WIDTH {
-        return LENGTH;
+        return Err(Refusal::Length);
     }
     if book.len() != shared_of(shape) * WIDTH {
-        return LENGTH;
+        return Err(Refusal::Length);
     }
     if work.len() != WORK_LENGTH {
-        return LENGTH;
+        return Err(Refusal::Length);
     }
     if !all_below_q(inputs) {
-        return NOT_BELOW_Q;
+        return Err(Refusal::NotBelowQ);
     }
     if !all_below_q(book) {
-        return NOT_BELOW_Q;
+        return Err(Refusal::NotBelowQ);
     }
     if run.serial <= side.serial {
-        return SERIAL;
+        return Err(Refusal::Serial);
     }
-    0
+    Ok(())
 }
 
-// The first no of begin, or 0.
-fn begin_no(side: Side, run: Run, inputs: &[u32], book: &[u32], work: &[u32]) -> u32
-    ensures { result ≡ begin_no key_count side run inputs.now book.now work.now }
+// The questions of begin.
+fn ask_begin(
+    side: Side,
+    run: Run,
+    inputs: &[u32],
+    book: &[u32],
+    work: &[u32],
+) -> Result<(), Refusal>
+    ensures { refused result ≡ begin_no key_count side run inputs.now book.now work.now }
 {
     if under_way(side) {
-        return NOT_DUE;
+        return Err(Refusal::NotDue);
     }
-    let no = settings_no(run.number, run.settings);
-    if no != 0 {
-        return no;
-    }
-    handed_no(side, run, inputs, book, work)
+    ask_settings(run.number, run.settings)?;
+    ask_handed(side, run, inputs, book, work)
 }
 
 // A side that has just begun.
 fn begun(run: Run) -> Side
     ensures { result ≡ begun_side run }
 {
-    let settings = run.settings;
     let keys = run.keys;
     Side {
         number: run.number,
-        settings,
+        settings: run.settings,
         keys,
         serial: run.serial,
         round: round_after(0),
@@ -112,41 +121,33 @@ fn begun(run: Run) -> Side
 }
 
 // Begins a run.
-pub fn begin(side: Side, run: Run, inputs: &[u32], book: &[u32], work: &mut [u32]) -> Done
-    ensures { record { done = result; work = work.new }
-        ≡ begin_call key_count side run inputs.now book.now work.old }
+pub fn begin(
+    side: &mut Side,
+    run: Run,
+    inputs: &[u32],
+    book: &[u32],
+    work: &mut [u32],
+) -> Result<(), Refusal>
+    ensures { record { done = record { refused = refused result; side = side.new }; work = work.new }
+        ≡ begin_call key_count side.old run inputs.now book.now work.old }
 {
-    let refused = begin_no(side, run, inputs, book, work);
-    if refused != 0 {
-        return Done { refused, side };
-    }
-    let shape = run.settings.shape;
-    begin_work(work, shape, inputs, book);
-    Done {
-        refused: 0,
-        side: begun(run),
-    }
+    ask_begin(*side, run, inputs, book, work)?;
+    begin_work(work, run.settings.shape, inputs, book);
+    *side = begun(run);
+    Ok(())
 }
 
 // ---- Send
 
-// The first no of send, or 0.
-fn send_no(side: Side, work: &[u32], out: &[u8]) -> u32
-    ensures { result ≡ send_no key_count side work.now out.now }
+// The questions of send.
+fn ask_send(side: Side, work: &[u32], out: &[u8]) -> Result<(), Refusal>
+    ensures { refused result ≡ send_no key_count side work.now out.now }
 {
-    if !send_due(side) {
-        return NOT_DUE;
-    }
-    if work.len() != WORK_LENGTH {
-        return LENGTH;
-    }
-    if !all_below_q(work) {
-        return NOT_BELOW_Q;
-    }
+    ask_work(send_due(side), work)?;
     if out.len() < message_length(side.settings.shape, side.round) {
-        return NO_ROOM;
+        return Err(Refusal::NoRoom);
     }
-    0
+    Ok(())
 }
 
 // The side after it has sent: one step more. `send` has asked for whole fields.
@@ -154,33 +155,23 @@ fn sent_side(side: Side) -> Side
     requires { Whole side }
     ensures { result ≡ sent_side side }
 {
-    let answer = side.answer;
-    at_step(side, step_of(side) + 1, answer)
+    at_step(side, step_of(side) + 1, side.answer)
 }
 
-// Sends the round's message: writes it in front of `out`.
-pub fn send(side: Side, work: &[u32], out: &mut [u8]) -> Sent
-    ensures { record { sent = result; out = out.new } ≡ send_call key_count side work.now out.old }
+// Sends the round's message: writes it in front of `out`, and gives its length.
+pub fn send(side: &mut Side, work: &[u32], out: &mut [u8]) -> Result<usize, Refusal>
+    ensures { record { sent = record { refused = refused result; length = written result; side = side.new }; out = out.new }
+        ≡ send_call key_count side.old work.now out.old }
 {
-    let refused = send_no(side, work, out);
-    if refused != 0 {
-        return Sent {
-            refused,
-            length: 0,
-            side,
-        };
-    }
-    let length = write_message(side, work, out);
-    Sent {
-        refused: 0,
-        length,
-        side: sent_side(side),
-    }
+    ask_send(*side, work, out)?;
+    let length = write_message(*side, work, out);
+    *side = sent_side(*side);
+    Ok(length)
 }
 
 // ---- Take
 
-// The header that the other side's message must have. `take_no` has asked whether a take is due.
+// The header that the other side's message must have. `ask_take` has asked whether a take is due.
 fn due_header(side: Side) -> Header
     requires { side.number < 2 }
     ensures { result ≡ due_header side }
@@ -188,22 +179,14 @@ fn due_header(side: Side) -> Header
     Header::new(1 - side.number, side.settings, side.round, side.serial)
 }
 
-// Questions 8, 5, 6 and 10 to 12 of take: the first no, or 0. A message that passes leaves its fields in `fields`, which `take` lends.
-fn take_no(side: Side, work: &[u32], message: &[u8], fields: &mut [u32]) -> u32
+// Questions 8, 5, 6 and 10 to 12 of take. A message that passes leaves its fields in `fields`, which `take` lends.
+fn ask_take(side: Side, work: &[u32], message: &[u8], fields: &mut [u32]) -> Result<(), Refusal>
     requires { length fields.old ≡ most_fields key_count }
-    ensures { (result ≡ take_door key_count side work.now message.now)
-        × (result ≡ 0 → fields.new ≡ fields_read key_count (due_header side) message.now fields.old) }
+    ensures { (refused result ≡ take_door key_count side work.now message.now)
+        × OnOk result (fields.new ≡ fields_read key_count (due_header side) message.now fields.old) }
 {
-    if !take_due(side) {
-        return NOT_DUE;
-    }
-    if work.len() != WORK_LENGTH {
-        return LENGTH;
-    }
-    if !all_below_q(work) {
-        return NOT_BELOW_Q;
-    }
-    form_no(due_header(side), message, fields)
+    ask_work(take_due(side), work)?;
+    ask_form(due_header(side), message, fields)
 }
 
 // The answer that a side keeps: the last round opens it.
@@ -215,7 +198,7 @@ fn kept_answer(side: Side, opened: &[u32]) -> [u32; 8]
     let mut answer = side.answer;
     if side.round == ROUNDS {
         let count = openings_in(side.settings.shape, side.round) as usize;
-        copy_numbers(&mut answer, 0, opened, 0, count);
+        answer[..count].copy_from_slice(&opened[..count]);
     }
     answer
 }
@@ -231,30 +214,23 @@ fn taken_side(side: Side, opened: &[u32]) -> Side
 }
 
 // Takes the other side's message of the round. Only a failed check stops the run.
-pub fn take(side: Side, work: &mut [u32], message: &[u8]) -> Done
-    ensures { record { done = result; work = work.new } ≡ take_call key_count side work.old message.now }
+pub fn take(side: &mut Side, work: &mut [u32], message: &[u8]) -> Result<(), Refusal>
+    ensures { record { done = record { refused = refused result; side = side.new }; work = work.new }
+        ≡ take_call key_count side.old work.old message.now }
 {
     let mut fields = [0u32; MOST_FIELDS];
-    let refused = take_no(side, work, message, &mut fields);
-    if refused != 0 {
-        return Done { refused, side };
-    }
+    ask_take(*side, work, message, &mut fields)?;
     let mut own = [0u32; OWN_LENGTH];
-    let known = context_in(side, work);
-    prepare_columns(&mut own, work, side, known);
+    let known = context_in(*side, work);
+    prepare_columns(&mut own, work, *side, known);
     let mut opened = [0u32; MOST_OPENINGS];
-    join_shares(&mut opened, &own, side, &fields);
-    if !checks_pass(&opened, &own, side, &fields) {
-        return Done {
-            refused: FAILED_CHECK,
-            side: in_phase(side, Phase::Stopped),
-        };
+    join_shares(&mut opened, &own, *side, &fields);
+    if !checks_pass(&opened, &own, *side, &fields) {
+        *side = in_phase(*side, Phase::Stopped);
+        return Err(Refusal::FailedCheck);
     }
-    let keys = side.keys;
-    let weights = weights_of(side.number, keys);
+    let weights = weights_of(side.number, side.keys);
     take_work(work, known, &opened, &own, &weights);
-    Done {
-        refused: 0,
-        side: taken_side(side, &opened),
-    }
+    *side = taken_side(*side, &opened);
+    Ok(())
 }

@@ -7,7 +7,7 @@ use Prim.Native.Nat.{ℕ, zero, suc, ◌≤◌}
 use native.Mathlib.Omega.{arith}
 use lib.Dec.{leb, eqb}
 use lib.ListN.{length, get_or, take, drop}
-use Rattle.lists.specs.Lists.{in_front}
+use Rattle.lists.specs.Lists.{list_to, in_front}
 use Rattle.lists.proofs.Lists.{front-taken, length-list_from}
 use borrow.Author.Tests.{ne_eqb, eqb-true, leb-true}
 use Rattle.lists.specs.Answers.{ask}
@@ -18,7 +18,7 @@ use Rattle.settings.specs.Settings.{params_in}
 use Rattle.settings.proofs.Ready.{settings-ready, settings-pass, settings_refuse, settings_rest}
 use Rattle.settings.specs.Schedule.{rounds, steps, round_ok, steps_in}
 use Rattle.state.specs.declared.Side.{Side}
-use Rattle.state.specs.State.{is_sending, is_taking, is_finished, whole, send_due, take_due, finished, Whole, step_of, places_of, held_answer, in_range, answer_no}
+use Rattle.state.specs.State.{is_sending, is_taking, is_finished, whole, send_due, take_due, finished, Whole, step_of, places_of, in_range, answer_no}
 
 -- questions 1 to 3 of the kept settings
 abbrev pub kept_no : Side → ℕ
@@ -101,8 +101,8 @@ answer-ready s out e =
     let nine = passed (leb (places_of s) (length out)) 8 0 fifteen.1 in
     (places-most s (finished-whole s eight.0), leb-true (places_of s) (length out) nine.0)
 
--- the first numbers of the kept answer, in front of a buffer
-pub answer_written : (s : Side) (t out : List ℕ) (n : ℕ) → n ≡ places_of s → n ≤ length s.answer → t ≡ take n s.answer → t ++ drop n out ≡ in_front (held_answer s) out
-answer_written s t out n count room front =
-    let held : ℕ → ℕ = λ j. get_or s.answer j 0 in
-    rw (front, front-taken n s.answer room, ← count, length-list_from 0 n held)
+-- the first n numbers of a list, copied in front of another
+pub front_written : (held t out : List ℕ) (n m : ℕ) → n ≡ m → n ≤ length held → t ≡ take n held → t ++ drop n out ≡ in_front (list_to m (λ (j : ℕ). get_or held j 0)) out
+front_written held t out n m count room front =
+    let at : ℕ → ℕ = λ j. get_or held j 0 in
+    rw (front, front-taken n held room, ← count, length-list_from 0 n at)

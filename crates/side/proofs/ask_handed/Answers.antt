@@ -1,7 +1,7 @@
--- `side::handed_no` meets its contract: one question after the other.
+-- `side::ask_handed` meets its contract: one question after the other.
 use Rattle.lists.proofs.Questions.{walk}
 use Rattle.side.specs.Side.{handed_no}
-use Rattle.side.proofs.handed_no.Goals as goal
+use Rattle.side.proofs.ask_handed.Goals as goal
 
 pub returns-then-not-keys_ok : goal.returns-then-not-keys_ok
 unfolding handed_no

@@ -6,7 +6,7 @@ use lib.Seq.{length-take-le}
 use Rattle.settings.specs.Refusals.{number_of}
 use Rattle.settings.proofs.Refused.{number_nonzero}
 use Rattle.state.specs.State.{after_answer, answer_call}
-use Rattle.state.proofs.States.{answer-ready, answer_written}
+use Rattle.state.proofs.States.{answer-ready, front_written}
 use Rattle.state.proofs.answer.Goals as goal
 
 pub returns-in_err-ask_answer : goal.returns-in_err-ask_answer
@@ -43,4 +43,4 @@ returns c =
     let eight : length side.answer ≡ 8 = search rules in
     let count = c.places_of-count.ensures in
     rw (← c.in_ok-ask_answer.ensures)
-    (ap₂ (after_answer 0) count (answer_written side _ c.args.out.now _ count (omega (arith, ready.0)) c.copy_from_slice.ensures.after))
+    (ap₂ (after_answer 0) count (front_written side.answer _ c.args.out.now _ _ count (omega (arith, ready.0)) c.copy_from_slice.ensures.after))
