@@ -1,9 +1,9 @@
 -- A whole line: beyond the last serial, malformed, or run; its answer, and the generator's state.
 use Prim.Native.Nat.{ℕ, ◌≤◌, ◌<◌}
 use mathlib.Core.Path.{◌≡◌, refl, sym}
-use mathlib.Core.Bool.{true, false, not}
+use Rattle.std.proofs.Common.{Some, None}
 use mathlib.Core.List.{List}
-use borrow.Author.Tests.{le-leb, lt-leb, not-true, not-false}
+use borrow.Author.Tests.{le-leb, lt-leb}
 use Rattle.text.specs.Decimal.{too_large}
 use Rattle.syntax.specs.declared.Request.{Request}
 use Rattle.syntax.specs.Line.{line_of}
@@ -16,26 +16,26 @@ pub line_beyond : (number : ℕ) (line : List ℕ) → too_large ≤ number → 
 unfolding line_answer
 line_beyond number line h = rw (le-leb too_large number h)
 
-pub line_malformed : (number : ℕ) (line : List ℕ) (o : Request) → number < too_large → o ≡ line_of line → not o.good ≡ true
+pub line_malformed : (number : ℕ) (line : List ℕ) → number < too_large → None ≡ line_of line
     → line_answer number line ≡ malformed_answer number
 unfolding line_answer
-line_malformed number line o h e g = rw (lt-leb too_large number h, ← e, not-true o.good g)
+line_malformed number line h e = rw (lt-leb too_large number h, ← e)
 
-pub line_run : (number : ℕ) (line : List ℕ) (o : Request) (r : LineResult) → number < too_large → o ≡ line_of line → not o.good ≡ false → r ≡ result_for number o
+pub line_run : (number : ℕ) (line : List ℕ) (o : Request) (r : LineResult) → number < too_large → Some o ≡ line_of line → r ≡ result_for number o
     → line_answer number line ≡ result_answer number r
 unfolding line_answer
-line_run number line o r h e g f = rw (lt-leb too_large number h, ← e, ← f, not-false o.good g)
+line_run number line o r h e f = rw (lt-leb too_large number h, ← e, ← f)
 
 pub state_beyond : (number : ℕ) (line : List ℕ) (state : ℕ) → too_large ≤ number → state ≡ line_state number line state
 unfolding line_state line_draws
 state_beyond number line state h = rw (le-leb too_large number h) (sym (stepped-none state))
 
-pub state-malformed : (number : ℕ) (line : List ℕ) (state : ℕ) (o : Request) → number < too_large → o ≡ line_of line → not o.good ≡ true
+pub state-malformed : (number : ℕ) (line : List ℕ) (state : ℕ) → number < too_large → None ≡ line_of line
     → state ≡ line_state number line state
 unfolding line_state line_draws
-state-malformed number line state o h e g = rw (lt-leb too_large number h, ← e, not-true o.good g) (sym (stepped-none state))
+state-malformed number line state h e = rw (lt-leb too_large number h, ← e) (sym (stepped-none state))
 
-pub state-run : (number : ℕ) (line : List ℕ) (state : ℕ) (o : Request) → number < too_large → o ≡ line_of line → not o.good ≡ false
+pub state-run : (number : ℕ) (line : List ℕ) (state : ℕ) (o : Request) → number < too_large → Some o ≡ line_of line
     → stepped (request_draws number o) state ≡ line_state number line state
 unfolding line_state line_draws
-state-run number line state o h e g = rw (lt-leb too_large number h, ← e, not-false o.good g) refl
+state-run number line state o h e = rw (lt-leb too_large number h, ← e) refl

@@ -1,5 +1,6 @@
 -- What a line gives: its refusal, or the answer by the plain meaning; and the state that it leaves a generator in.
 use Rattle.std.specs.Prelude.{ℕ, cond, List, [], eqb, leb, ltb, length, take, replicate}
+use Rattle.std.specs.Option.{option_map_or}
 use Rattle.lists.specs.Answers.{ask}
 use Rattle.lists.specs.Lists.{all_below, in_front}
 use Rattle.field.specs.Field.{q}
@@ -54,9 +55,8 @@ result_answer number r = answer_text number r.refused (take r.length r.numbers)
 -- 2^32 − 1, so that no line beyond has a run
 unfoldable pub line_answer : ℕ → List ℕ → List ℕ
 line_answer number line =
-    let request = line_of line in
     cond (leb too_large number) (malformed_answer number)
-    (cond request.good (result_answer number (result_for number request)) (malformed_answer number))
+    (option_map_or (λ (request : Request). result_answer number (result_for number request)) (line_of line) (malformed_answer number))
 
 -- ---- The generator
 
@@ -70,10 +70,7 @@ request_draws serial request = cond (eqb (request_no serial request) 0) (drawn_f
 
 -- how many a line draws: none where it asks for no run
 unfoldable pub line_draws : ℕ → List ℕ → ℕ
-line_draws number line =
-    let request = line_of line in
-    cond (leb too_large number) 0
-    (cond request.good (request_draws number request) 0)
+line_draws number line = cond (leb too_large number) 0 (option_map_or (request_draws number) (line_of line) 0)
 
 -- "one generator": the state that a line leaves it in
 unfoldable pub line_state : ℕ → List ℕ → ℕ → ℕ

@@ -327,11 +327,10 @@ pub fn answer_line(
         let at = put_malformed(out, at, number);
         return LineEnd { at, state };
     }
-    let request = read_line(line);
-    if !request.good {
+    let Some(request) = read_line(line) else {
         let at = put_malformed(out, at, number);
         return LineEnd { at, state };
-    }
+    };
     let serial = number as u32;
     let result = line_result(
         state, serial, request, numbers, book0, book1, work0, work1, messages,
