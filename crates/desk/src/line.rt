@@ -3,10 +3,13 @@ ghost use Rattle.std.specs.Prelude.{◌≡◌, ◌≤◌, length};
 ghost use Rattle.text.specs.Text.{text_at, puts};
 ghost use Rattle.desk.specs.Desk.{line_result, desk_answer, most_numbers, longest_result, longest_answer};
 
-use crate::calls::{put_call, put_malformed};
+use crate::calls::{MOST_DRAW, put_call, put_malformed};
 use crate::words::{call_named, read_numbers};
 use lists::length_before;
 use text::put_byte;
+
+// No output line is longer: a draw and a state, ten digits and a blank for each number, and the line end.
+pub const LONGEST_ANSWER: usize = 11 * (MOST_DRAW + 1) + 1;
 
 // The most bytes of a line, without its line end.
 const LONGEST_LINE: usize = 1 << 20;
@@ -34,8 +37,7 @@ fn put_result(out: &mut [u8], at: usize, line: &[u8], numbers: &mut [u32]) -> us
     put_call(out, at, call, &numbers[..count])
 }
 
-// The output line for an input line without its line end, put at a place of `out`; the place behind it. `answer_some` and `put_last` hand on
-// main's slice of numbers.
+// The output line for an input line without its line end, put at a place of `out`; the place behind it. `Desk` lends the numbers.
 pub fn answer_line(out: &mut [u8], at: usize, line: &[u8], numbers: &mut [u32]) -> usize
     requires { most_numbers ≤ length numbers.old }
     ensures result_after { text_at out.new result ≡ puts (text_at out.old at) (desk_answer line.now) }

@@ -2,12 +2,12 @@
 use Prim.Native.Nat.{ℕ, ◌≤◌, ◌<◌}
 use mathlib.Core.Path.{◌≡◌, refl}
 use mathlib.Core.Logic.{◌≢◌}
-use mathlib.Core.List.{List, [], ◌∷◌, ◌++◌}
+use mathlib.Core.List.{[], ◌∷◌, ◌++◌}
 use native.Mathlib.Omega.{arith}
 use borrow.Author.Tests.{ne_eqb}
 use lib.ListN.{length, length-append}
 use Rattle.text.specs.Decimal.{too_large}
-use Rattle.text.specs.Text.{Text, text_at, puts, decimal}
+use Rattle.text.specs.Text.{Text, puts, decimal}
 use Rattle.text.proofs.Decimals.{length_decimal_32}
 use Rattle.text.proofs.Puts.{put_then}
 use Rattle.line_input.specs.Answers.{state_line}

@@ -7,7 +7,9 @@
 #![tactic(auto)]
 
 ghost use Rattle.lines.specs.Run.{LentToLine};
-ghost use Rattle.line_input.specs.Answers.{kept_length, line_handler, state_line};
+ghost use Rattle.line_input.specs.Answers.{line_handler, state_line};
+ghost use Rattle.line_input.specs.Kept.{looks_at_kept};
+ghost use Rattle.std.proofs.Common.{rules};
 
 use execution::{BOOK_LENGTH, RUN_BYTES};
 use lines::{RUN_NUMBERS, answer_line};
@@ -36,7 +38,7 @@ struct LineInput {
     ghost lent: { LentToLine numbers book0 book1 work0 work1 messages },
 }
 
-impl LineAnswerer for LineInput {
+impl LineAnswerer<KEPT, OUT> for LineInput {
     type Carried = u32;
 
     ghost handler = { line_handler };
@@ -45,13 +47,13 @@ impl LineAnswerer for LineInput {
 
     ghost last_line = { state_line };
 
-    ghost KEPT = { kept_length };
-
     ghost LONGEST_ANSWER = { 112 };
 
     ghost LONGEST_LAST = { 11 };
 
-    const KEPT: usize = KEPT;
+    ghost looks_at = { looks_at_kept };
+
+    ghost has_room = { Prim.search rules };
 
     const LONGEST_ANSWER: usize = 112;
 
@@ -95,8 +97,6 @@ pub fn answer_inputs<R: Env + Files + Input + Print + Eprint>(
     rt: &R,
     state: u32,
 ) -> io::Result<()> {
-    let mut kept = [0u8; KEPT];
-    let mut out = [0u8; OUT];
     let mut lines = LineInput {
         state,
         numbers: [0; RUN_NUMBERS],
@@ -106,5 +106,5 @@ pub fn answer_inputs<R: Env + Files + Input + Print + Eprint>(
         work1: [0; WORK_LENGTH],
         messages: [0; RUN_BYTES],
     };
-    stream::answer_inputs(rt, &mut lines, state, &mut kept, &mut out)
+    stream::answer_inputs::<KEPT, OUT, R, LineInput>(rt, &mut lines, state)
 }

@@ -1,14 +1,14 @@
 // Answers to the lines of a part, put one behind another into a slice that waits to be written.
 ghost use Rattle.std.specs.Prelude.{◌≡◌, ℕ, List, [], ◌+◌, ◌≤◌, ◌<◌, length, take, drop};
 ghost use Rattle.stream.specs.Stream.{next_line};
-ghost use Rattle.stream.specs.Theorems.{Handler, after_call, after_end};
+ghost use Rattle.stream.specs.Theorems.{Handler, LooksAt, after_call, after_end};
 ghost use Rattle.stream.specs.Waiting.{standing, all_calls, closed_by};
 ghost use Rattle.text.specs.Text.{text_at, puts};
 
 use crate::{Stream, is_left, next_line};
 
-// What a program does with the lines of an input.
-pub trait LineAnswerer {
+// What a program does with the lines of an input, by the first KEPT bytes of each at most; answers wait in OUT bytes.
+pub trait LineAnswerer<const KEPT: usize, const OUT: usize> {
     // What it carries from each line to the next.
     type Carried: Copy;
 
@@ -18,14 +18,9 @@ pub trait LineAnswerer {
 
     ghost last_line: { Self.Carried → List ℕ };
 
-    ghost KEPT: { ℕ };
-
     ghost LONGEST_ANSWER: { ℕ };
 
     ghost LONGEST_LAST: { ℕ };
-
-    // How many bytes of a line are kept.
-    const KEPT: usize;
 
     // No output line is longer.
     const LONGEST_ANSWER: usize;
@@ -47,6 +42,10 @@ pub trait LineAnswerer {
     fn put_last_line(&self, out: &mut [u8], at: usize) -> usize
         ensures result_after { text_at out.new result ≡ puts (text_at out.old at) (last_line (carried self.now)) }
         ensures last_len_bound { length (last_line (carried self.now)) ≤ LONGEST_LAST };
+
+    ghost looks_at: { LooksAt Self.Carried KEPT handler };
+
+    ghost has_room: { LONGEST_ANSWER + LONGEST_LAST ≤ OUT };
 }
 
 // How many bytes of a part have been used, where the input stands after them, and how many bytes wait to be written.
@@ -58,19 +57,19 @@ pub struct Answered {
 }
 
 // One call of next_line. A line that has ended is answered behind the bytes that wait.
-fn answer_call<A: LineAnswerer>(
+fn answer_call<const KEPT: usize, const OUT: usize, A: LineAnswerer<KEPT, OUT>>(
     answerer: &mut A,
     stream: Stream,
     kept: &mut [u8],
     bytes: &[u8],
-    out: &mut [u8],
+    out: &mut [u8; OUT],
     waiting: usize,
 ) -> Answered
-    requires waiting_in_bounds { waiting + A.LONGEST_ANSWER ≤ length out.old }
+    requires { waiting + A.LONGEST_ANSWER ≤ OUT }
     ensures state_after { standing result.stream kept.new out.new result.waiting (A.carried answerer.new)
         ≡ after_call A.handler (standing stream kept.old out.old waiting (A.carried answerer.old)) bytes.now }
     ensures used_value { result.used ≡ (next_line stream kept.old bytes.now).used }
-    ensures waiting_in_bounds_2 { result.waiting ≤ length out.old }
+    ensures waiting_in_bounds { result.waiting ≤ OUT }
 {
     let step = next_line(stream, kept, bytes);
     let here = step.stream;
@@ -90,21 +89,20 @@ fn answer_call<A: LineAnswerer>(
 }
 
 // Answers the lines that end in a part until it is used up or the slice may lack room for one more.
-pub fn answer_some<A: LineAnswerer>(
+pub fn answer_some<const KEPT: usize, const OUT: usize, A: LineAnswerer<KEPT, OUT>>(
     answerer: &mut A,
     stream: Stream,
     kept: &mut [u8],
     bytes: &[u8],
-    out: &mut [u8],
+    out: &mut [u8; OUT],
 ) -> Answered
-    requires in_bounds { A.LONGEST_ANSWER ≤ length out.old }
     ensures bytes_after { all_calls A.handler (standing result.stream kept.new out.new result.waiting (A.carried answerer.new)) (drop result.used bytes.now)
         ≡ all_calls A.handler (standing stream kept.old out.old 0 (A.carried answerer.old)) bytes.now }
     ensures used_in_bounds { result.used ≤ length bytes.now }
     ensures used_nonzero { 0 < length bytes.now → 0 < result.used }
-    ensures waiting_in_bounds { result.waiting ≤ length out.old }
+    ensures waiting_in_bounds { result.waiting ≤ OUT }
 {
-    let most = out.len() - A::LONGEST_ANSWER;
+    let most = OUT - A::LONGEST_ANSWER;
     let mut used = 0;
     let mut here = stream;
     let mut waiting = 0;
@@ -124,13 +122,12 @@ pub fn answer_some<A: LineAnswerer>(
 // ---- The end of an input
 
 // The answer to the last line, if that lacks its line end. How many bytes wait to be written.
-fn answer_left<A: LineAnswerer>(
+fn answer_left<const KEPT: usize, const OUT: usize, A: LineAnswerer<KEPT, OUT>>(
     answerer: &mut A,
     stream: Stream,
     kept: &[u8],
-    out: &mut [u8],
+    out: &mut [u8; OUT],
 ) -> usize
-    requires in_bounds { A.LONGEST_ANSWER ≤ length out.old }
     ensures state_after { record { written = take result out.new; carried = A.carried answerer.new } ≡ after_end A.handler (standing stream kept.now [] 0 (A.carried answerer.old)) }
     ensures at_bound { result ≤ A.LONGEST_ANSWER }
 {
@@ -143,15 +140,14 @@ fn answer_left<A: LineAnswerer>(
 
 // When the input has ended: the answer to its last line, if that lacks its line end; and what stands behind the answers. How many bytes
 // wait to be written.
-pub fn put_last<A: LineAnswerer>(
+pub fn put_last<const KEPT: usize, const OUT: usize, A: LineAnswerer<KEPT, OUT>>(
     answerer: &mut A,
     stream: Stream,
     kept: &[u8],
-    out: &mut [u8],
+    out: &mut [u8; OUT],
 ) -> usize
-    requires in_bounds { A.LONGEST_ANSWER + A.LONGEST_LAST ≤ length out.old }
     ensures out_after { take result out.new ≡ closed_by A.last_line (after_end A.handler (standing stream kept.now [] 0 (A.carried answerer.old))) }
-    ensures upper_bound { result ≤ length out.old }
+    ensures upper_bound { result ≤ OUT }
 {
     let end = answer_left(answerer, stream, kept, out);
     answerer.put_last_line(out, end)

@@ -6,12 +6,12 @@ mod reading;
 
 ghost use Rattle.std.specs.Prelude.{◌≡◌, length};
 ghost use Rattle.lists.specs.Lists.{in_front};
-ghost use Rattle.stream.specs.Stream.{at_start, number_after, at_line, with_bytes, kept_after, next_line, is_left};
+ghost use Rattle.stream.specs.Stream.{at_start, at_line, with_bytes, kept_after, next_line, is_left};
 
 pub use answers::LineAnswerer;
 pub use reading::answer_inputs;
 
-use lists::{copy_bytes, least, length_before_by_blocks};
+use lists::{copy_bytes, length_before_by_blocks};
 
 // Where an input stands: the number of the line that is being read, from 1; how many of its bytes are held; whether it has ended.
 #[derive(Clone, Copy)]
@@ -41,23 +41,13 @@ pub fn start_stream() -> Stream
     }
 }
 
-// The next line's number. The count stops at the largest number.
-fn number_after(number: u64) -> u64
-    ensures { result ≡ number_after number }
-{
-    if number < u64::MAX {
-        return number + 1;
-    }
-    number
-}
-
 // The line to be read: the next one, if the last has ended.
 fn at_line(stream: Stream) -> Stream
     ensures { result ≡ at_line stream }
 {
     if stream.ended {
         return Stream {
-            number: number_after(stream.number),
+            number: stream.number.saturating_add(1),
             held: 0,
             ended: false,
         };
@@ -70,8 +60,8 @@ pub fn hold(kept: &mut [u8], held: usize, bytes: &[u8]) -> usize
     ensures value { result ≡ length (with_bytes kept.old held bytes.now) }
     ensures kept_after { kept.new ≡ in_front (with_bytes kept.old held bytes.now) kept.old }
 {
-    let from = least(held, kept.len());
-    let n = least(kept.len() - from, bytes.len());
+    let from = held.min(kept.len());
+    let n = bytes.len().min(kept.len() - from);
     copy_bytes(kept, from, bytes, n);
     from + n
 }

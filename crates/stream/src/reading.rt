@@ -1,6 +1,6 @@
 // Whole inputs, read part by part and answered: a part that has been read is answered before the next is read, and memory does not grow
 // with the input.
-ghost use Rattle.std.specs.Prelude.{◌≡◌, [], ◌+◌, ◌≤◌, length, IfOk};
+ghost use Rattle.std.specs.Prelude.{◌≡◌, [], ◌<◌, ◌^◌, IfOk};
 ghost use Rattle.stream.specs.Waiting.{standing, flushed, all_calls};
 
 use crate::answers::{LineAnswerer, answer_some, put_last};
@@ -14,16 +14,14 @@ use std::rt::{Env, Files};
 const PART: usize = 65536;
 
 // Answers the lines that end in a part, and writes the answers, until a write fails.
-fn answer_part<W: Write, A: LineAnswerer>(
+fn answer_part<const KEPT: usize, const OUT: usize, W: Write, A: LineAnswerer<KEPT, OUT>>(
     output: &mut W,
     answerer: &mut A,
     stream: Stream,
-    kept: &mut [u8],
+    kept: &mut [u8; KEPT],
     bytes: &[u8],
-    out: &mut [u8],
+    out: &mut [u8; OUT],
 ) -> io::Result<Stream>
-    requires kept_len { length kept.old ≡ A.KEPT }
-    requires in_bounds { A.LONGEST_ANSWER ≤ length out.old }
     ensures { IfOk result (λ here. standing here kept.new [] 0 (A.carried answerer.new) ≡ flushed (all_calls A.handler (standing stream kept.old [] 0 (A.carried answerer.old)) bytes.now)) }
 {
     let mut here = stream;
@@ -38,16 +36,14 @@ fn answer_part<W: Write, A: LineAnswerer>(
 }
 
 // Reads all parts, and answers their lines. Nothing says that an input ends, so the reads are counted, up to a number that no run uses up.
-fn read_parts<R: Read, W: Write, A: LineAnswerer>(
+fn read_parts<const KEPT: usize, const OUT: usize, R: Read, W: Write, A: LineAnswerer<KEPT, OUT>>(
     input: &mut R,
     output: &mut W,
     answerer: &mut A,
-    kept: &mut [u8],
-    part: &mut [u8],
-    out: &mut [u8],
+    kept: &mut [u8; KEPT],
+    part: &mut [u8; PART],
+    out: &mut [u8; OUT],
 ) -> io::Result<Stream>
-    requires kept_len { length kept.old ≡ A.KEPT }
-    requires in_bounds { A.LONGEST_ANSWER ≤ length out.old }
 {
     let mut here = start_stream();
     for _ in 0..u64::MAX {
@@ -61,17 +57,15 @@ fn read_parts<R: Read, W: Write, A: LineAnswerer>(
 }
 
 // Answers an input, until a read or a write fails.
-fn answer_input<R: Read, W: Write, A: LineAnswerer>(
+fn answer_input<const KEPT: usize, const OUT: usize, R: Read, W: Write, A: LineAnswerer<KEPT, OUT>>(
     input: &mut R,
     output: &mut W,
     answerer: &mut A,
     from: A::Carried,
-    kept: &mut [u8],
-    part: &mut [u8],
-    out: &mut [u8],
+    kept: &mut [u8; KEPT],
+    part: &mut [u8; PART],
+    out: &mut [u8; OUT],
 ) -> io::Result<()>
-    requires kept_len { length kept.old ≡ A.KEPT }
-    requires in_bounds { A.LONGEST_ANSWER + A.LONGEST_LAST ≤ length out.old }
 {
     answerer.start(from);
     let end = read_parts(input, output, answerer, kept, part, out)?;
@@ -81,16 +75,14 @@ fn answer_input<R: Read, W: Write, A: LineAnswerer>(
 
 // The inputs in the files that the arguments name, one after another, until a read or a write fails. A file that cannot be opened is
 // passed over.
-fn answer_files<R: Env + Files + Print + Eprint, A: LineAnswerer>(
+fn answer_files<const KEPT: usize, const OUT: usize, R: Env + Files + Print + Eprint, A: LineAnswerer<KEPT, OUT>>(
     rt: &R,
     answerer: &mut A,
     from: A::Carried,
-    kept: &mut [u8],
-    part: &mut [u8],
-    out: &mut [u8],
+    kept: &mut [u8; KEPT],
+    part: &mut [u8; PART],
+    out: &mut [u8; OUT],
 ) -> io::Result<()>
-    requires kept_len { length kept.old ≡ A.KEPT }
-    requires in_bounds { A.LONGEST_ANSWER + A.LONGEST_LAST ≤ length out.old }
 {
     for i in 1..usize::MAX {
         let Some(opened) = open_argument(rt, i) else {
@@ -105,28 +97,28 @@ fn answer_files<R: Env + Files + Print + Eprint, A: LineAnswerer>(
 }
 
 // Answers standard input, or, where there are arguments, the files that they name, each an input of its own to whose first line `from` is
-// carried. Lent are the slices for a line's bytes and for the answers that wait, which are made once.
-pub fn answer_inputs<R: Env + Files + Input + Print + Eprint, A: LineAnswerer>(
+// carried. The slices for an input are made here once; no slice is longer than the system allows.
+pub fn answer_inputs<const KEPT: usize, const OUT: usize, R: Env + Files + Input + Print + Eprint, A: LineAnswerer<KEPT, OUT>>(
     rt: &R,
     answerer: &mut A,
     from: A::Carried,
-    kept: &mut [u8],
-    out: &mut [u8],
 ) -> io::Result<()>
-    requires kept_len { length kept.old ≡ A.KEPT }
-    requires in_bounds { A.LONGEST_ANSWER + A.LONGEST_LAST ≤ length out.old }
+    requires kept_fits { KEPT < 2 ^ 63 }
+    requires out_fits { OUT < 2 ^ 63 }
 {
+    let mut kept = [0u8; KEPT];
     let mut part = [0u8; PART];
+    let mut out = [0u8; OUT];
     if has_argument(rt, 1) {
-        return answer_files(rt, answerer, from, kept, &mut part, out);
+        return answer_files(rt, answerer, from, &mut kept, &mut part, &mut out);
     }
     answer_input(
         &mut rt.reader(),
         &mut io::writer(rt),
         answerer,
         from,
-        kept,
+        &mut kept,
         &mut part,
-        out,
+        &mut out,
     )
 }

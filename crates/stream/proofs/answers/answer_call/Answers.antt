@@ -12,14 +12,14 @@ returns-then-not-here-clause-state_after g c =
     let step = c.next_line-step in
     called_open a.stream a.kept.now a.bytes.now step.result step.ensures.value h.handler a.out.now _ a.waiting (h.carried a.answerer.now) step.ensures.kept_after c.if-not-here.true
 
-pub slice_bounds-answer_line-end : goal.slice_bounds-answer_line-end
-slice_bounds-answer_line-end g c =
+pub slice_bounds-answer_line-end-2 : goal.slice_bounds-answer_line-end-2
+slice_bounds-answer_line-end-2 g c =
     let a = c.args in
     let step = c.next_line-step in
     omega (arith, held_in a.stream a.kept.now a.bytes.now step.result step.ensures.value)
 
-pub slice_bounds-answer_line-end-2 : goal.slice_bounds-answer_line-end-2
-slice_bounds-answer_line-end-2 g c =
+pub slice_bounds-answer_line-end-3 : goal.slice_bounds-answer_line-end-3
+slice_bounds-answer_line-end-3 g c =
     let a = c.before.before.before.before.before.before.args in
     let step = c.before.before.before.before.next_line-step in
     sym (length-take-le _ _ (omega (arith, held_in a.stream a.kept.now a.bytes.now step.result step.ensures.value)))
@@ -35,8 +35,8 @@ returns-clause-state_after g c =
     (front-put a.out.now a.waiting _ _ line.result line.ensures.result_after (omega (arith, line.ensures.answer_len_bound, c.requires)))
     line.ensures.carried_after
 
-pub returns-clause-waiting_in_bounds_2 : goal.returns-clause-waiting_in_bounds_2
-returns-clause-waiting_in_bounds_2 g c =
+pub returns-clause-waiting_in_bounds : goal.returns-clause-waiting_in_bounds
+returns-clause-waiting_in_bounds g c =
     let a = c.args in
     let line = c.answer_line-end in
     omega (

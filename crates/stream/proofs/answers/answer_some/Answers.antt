@@ -24,7 +24,7 @@ loop-used-preserved g c =
     let more = more_used loop.here loop.kept bytes loop.used call.result.used (omega (arith, c.loop-used-test.true)) call.ensures.used_value in
     record {
       in_range = used_in loop.here loop.kept bytes loop.used call.result.used (omega (arith, c.loop-used-test.true)) call.ensures.used_value;
-      waits = omega (arith, call.ensures.waiting_in_bounds_2);
+      waits = omega (arith, call.ensures.waiting_in_bounds);
       some = omega (arith, more);
       room = loop.invariant.room;
       same = calls_on loop.here loop.kept bytes loop.used call.result.used (omega (arith, c.loop-used-test.true)) call.ensures.used_value h.handler loop.out

@@ -8,9 +8,9 @@ invariant-loop-used g l =
     let h = g.A.LineAnswerer in
     record {
       in_range : l.used ≤ length l.bytes;
-      waits : l.waiting ≤ length l.initial.out;
+      waits : l.waiting ≤ g.row.OUT;
       some : min l.waiting 1 ≤ l.used;
-      room : l.most + h.LONGEST_ANSWER ≡ length l.initial.out;
+      room : l.most + h.LONGEST_ANSWER ≡ g.row.OUT;
       same : all_calls h.handler (standing l.here l.kept l.out l.waiting (h.carried l.answerer)) (drop l.used l.bytes)
           ≡ all_calls h.handler (standing l.initial.here l.initial.kept l.initial.out 0 (h.carried l.initial.answerer)) l.bytes;
     }

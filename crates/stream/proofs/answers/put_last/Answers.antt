@@ -9,7 +9,7 @@ returns-clause-out_after g c =
     let left = c.answer_left-end in
     let put = c.put_last_line in
     closed-is h.last_line _ _ _ left.result (h.carried left.new.answerer) _ left.ensures.state_after put.ensures.result_after
-    (omega (arith, left.ensures.at_bound, put.ensures.last_len_bound, left.auto.out, c.requires))
+    (omega (arith, left.ensures.at_bound, put.ensures.last_len_bound, g.met.A.LineAnswerer.has_room))
 
 pub returns-clause-upper_bound : goal.returns-clause-upper_bound
 returns-clause-upper_bound g c =
@@ -18,7 +18,6 @@ returns-clause-upper_bound g c =
     let put = c.put_last_line in
     omega (
       arith,
-      left.auto.out,
       closed-within h.last_line _ _ _ left.result (h.carried left.new.answerer) _ left.ensures.state_after put.ensures.result_after
-          (omega (arith, left.ensures.at_bound, put.ensures.last_len_bound, left.auto.out, c.requires)),
+          (omega (arith, left.ensures.at_bound, put.ensures.last_len_bound, g.met.A.LineAnswerer.has_room)),
     )

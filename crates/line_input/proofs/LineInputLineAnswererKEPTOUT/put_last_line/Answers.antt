@@ -2,7 +2,7 @@
 use Rattle.std.proofs.Common.{◌<◌, arith}
 use Rattle.text.specs.Decimal.{too_large}
 use Rattle.line_input.proofs.Last.{no_state, some-state}
-use Rattle.line_input.proofs.LineInputLineAnswerer.put_last_line.Goals as goal
+use Rattle.line_input.proofs.LineInputLineAnswererKEPTOUT.put_last_line.Goals as goal
 
 pub returns-then-self-eq0 : goal.returns-then-self-eq0
 returns-then-self-eq0 c =
