@@ -5,6 +5,5 @@ pub mod Numbers
 pub mod Lines
 pub mod Draws
 pub mod Lengths
-pub mod Cut
 pub mod Program
 pub mod Samples
