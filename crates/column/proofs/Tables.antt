@@ -12,7 +12,8 @@ use lib.ListN.{length, get_or}
 use borrow.Author.Tests.{eq-eqb, ne_eqb}
 use Rattle.lists.specs.Lists.{fill_by}
 use Rattle.lists.proofs.Strides.{stride-at, stride-other}
-use Rattle.column.specs.Held.{column_at, slot}
+use Rattle.column.specs.Choice.{column_at}
+use Rattle.column.specs.Held.{slot}
 
 -- ---- A choice of columns
 

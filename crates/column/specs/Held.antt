@@ -10,7 +10,9 @@ use Rattle.steps.specs.Work.{opening_on, running_on}
 use Rattle.steps.specs.declared.Context.{Context}
 use Rattle.steps.specs.Context.{split_place, split_in}
 use Rattle.steps.specs.Gates.{gate_at, open_u, open_v}
-use Rattle.column.specs.declared.ColumnChoice.{ColumnChoice}
+use Rattle.column.specs.declared.choice.ColumnChoice.{ColumnChoice}
+use Rattle.column.specs.declared.choice.ChosenColumns.{ChosenColumns}
+use Rattle.column.specs.Choice.{column_at}
 
 -- ---- One number in each column
 
@@ -19,10 +21,6 @@ abbrev pub Gives : (ℕ → ℕ → Type 0) → ℕ → (ℕ → ℕ) → Type 0
 Gives post count numbers = (f x : ℕ) → f < count → post f x → x ≡ numbers f
 
 -- ---- Openings
-
--- the column at place f of a choice of columns: the share's first, then those of parts from column 1 + skip on
-unfoldable pub column_at : ℕ → ℕ → ℕ
-column_at skip f = cond (eqb f 0) 0 (f + skip)
 
 -- opening o in column c; κs are the columns' weights
 abbrev pub opening_in : Public → ℕ → List ℕ → List ℕ → ℕ → ℕ → ℕ
@@ -38,12 +36,9 @@ abbrev pub HeldAll : Public → ℕ → List ℕ → List ℕ → List ℕ → T
 HeldAll w round κs work own =
     (c : ℕ) → c < length κs → (o : ℕ) → o < openings w.params round → get_or own (most_openings * c + o) 0 ≡ opening_in w round κs work c o
 
--- the slices have room for the choice of columns
-pub record Room (columns : ColumnChoice) (κs work out : List ℕ) : Type 0 where
-  pub chosen : columns.count + columns.skip ≤ length κs
-  pub columns_long : length work ≡ length κs * places
-  pub out_long : most_openings * columns.count ≤ length out
-  pub few : length κs ≤ 4294967296
+-- the same of lent columns
+abbrev pub Prepared : Public → ℕ → ChosenColumns → ℕ → List ℕ → Type 0
+Prepared w round columns count out = Holds w round columns.weights.now columns.work.now columns.choice count out
 
 -- ---- Registers: 16 places for each column, the first registers of eight coefficients and then the second
 

@@ -1,5 +1,6 @@
 -- A plain run, what the functions hold, and the theorems of columns.
 pub mod Run
 pub mod Clear
+pub mod Choice
 pub mod Held
 pub mod Theorems

@@ -6,7 +6,7 @@ ghost use Rattle.std.specs.Prelude.{◌≡◌, true, ◌≢◌, List, [], ℕ, �
 ghost use Rattle.lists.specs.Lists.{fill, fill_by, all_below};
 ghost use Rattle.field.specs.Field.{q};
 ghost use Rattle.field.specs.Forms.{value};
-ghost use Rattle.settings.specs.Sets.{top_digits};
+ghost use Rattle.settings.specs.Sets.{scale_of, top_digits};
 ghost use Rattle.settings.specs.Settings.{params_of, terms_of};
 ghost use Rattle.settings.specs.Sizes.{openings, most_openings, places, width};
 ghost use Rattle.settings.specs.Questions.{Ready};
@@ -15,8 +15,11 @@ ghost use Rattle.slice.specs.Layout.{own_at, running_at, column, masked_in};
 ghost use Rattle.steps.specs.Work.{opening_on, running_on, taken_columns, taken_work};
 ghost use Rattle.steps.specs.Context.{public_by, ContextOf, SplitsBelow};
 ghost use Rattle.steps.specs.Gates.{GateFits, TermsFit, Listed, sum_form, open_u, open_v, result_form};
-ghost use Rattle.column.specs.Held.{column_at, Holds, HeldAll, Room, RegistersHeld, GatesHeld, sums_top, RoundList, masked_after, Gives};
+ghost use Rattle.column.specs.Held.{Prepared, HeldAll, RegistersHeld, GatesHeld, sums_top, RoundList, masked_after, Gives};
 
+mod choice;
+
+pub use choice::{ChosenColumns, ColumnChoice};
 use lists::copy_numbers;
 use settings::{MOST_OPENINGS, PLACES, Settings, WIDTH, openings_in, top_digits_0, top_digits_1};
 use slice::{FIRST, MASKED, OWN, SECOND, Weighted, register, rises_into};
@@ -24,13 +27,6 @@ use steps::{
     Column, Context, Factors, Gate, after_check, context_of, gate_of, gate_value, insides_value,
     open_check, open_input, open_u, open_v, split_place, sum_value, terms_of,
 };
-
-// Columns of a working slice: the share's, and behind it those of parts from column 1 + skip on; `count` in all.
-#[derive(Clone, Copy)]
-pub struct ColumnChoice {
-    pub count: usize,
-    pub skip: usize,
-}
 
 // ---- One number in each column
 
@@ -53,29 +49,6 @@ fn into_columns<F: Fn(usize) -> u32>(
 
 // ---- A side's numbers for the openings of a round
 
-// The column at place f.
-fn column_at(columns: ColumnChoice, f: usize) -> usize
-    requires { (f < columns.count) × (columns.count + columns.skip ≤ 4294967296) }
-    ensures { (result ≡ column_at columns.skip f) × (result < columns.count + columns.skip) }
-{
-    if f == 0 {
-        return 0;
-    }
-    f + columns.skip
-}
-
-// The same with its weight.
-fn column_in(weights: &[u32], columns: ColumnChoice, f: usize) -> Column
-    requires { (f < columns.count) × (columns.count + columns.skip ≤ length weights.now) × (length weights.now ≤ 4294967296) }
-    ensures { (result.index ≡ column_at columns.skip f) × (result.weight ≡ get_or weights.now result.index 0) × (result.index < columns.count + columns.skip) }
-{
-    let index = column_at(columns, f);
-    Column {
-        index,
-        weight: weights[index],
-    }
-}
-
 // Opening o of round 1, of round 6 of HIGH, or of round 7: no digit is looked at.
 fn plain_opening(work: &[u32], col: Column, settings: Settings, round: u32, o: usize) -> u32
     requires ready { Ready settings }
@@ -94,73 +67,58 @@ fn plain_opening(work: &[u32], col: Column, settings: Settings, round: u32, o: u
 }
 
 // Opening by opening, each in all columns.
-fn prepare_plain(
-    out: &mut [u32],
-    work: &[u32],
-    weights: &[u32],
-    columns: ColumnChoice,
-    settings: Settings,
-    round: u32,
-)
-    requires ready { Ready settings }
-    requires room { Room columns weights.now work.now out.old }
-    requires lt_round { (round ≢ 1 → 5 < round) × (round ≡ 6 → settings.shape.kind ≡ 0) }
-    ensures { (masked : ℕ → ℕ) → Holds (public_by settings masked) round weights.now work.now columns (openings (params_of settings.shape) round) out.new }
+fn prepare_plain(out: &mut [u32], columns: ChosenColumns, known: Context)
+    requires ready { Ready known.settings }
+    requires out_long { most_openings * columns.choice.count ≤ length out.old }
+    requires round { (known.round ≢ 1 → 5 < known.round) × (known.round ≡ 6 → known.settings.shape.kind ≡ 0) }
+    ensures { (masked : ℕ → ℕ) → Prepared (public_by known.settings masked) known.round columns.entry (openings (params_of known.settings.shape) known.round) out.new }
 {
+    let settings = known.settings;
+    let round = known.round;
+    let work = columns.work;
     let count = openings_in(settings.shape, round) as usize;
     for o in 0..count {
-        into_columns(out, o, MOST_OPENINGS, columns.count, |f| {
-            plain_opening(work, column_in(weights, columns, f), settings, round, o)
+        into_columns(out, o, MOST_OPENINGS, columns.choice.count, |f| {
+            plain_opening(work, columns.at(f), settings, round, o)
         });
     }
 }
 
 // Round 6 of BOUND: the one opening.
-fn prepare_insides(
-    out: &mut [u32],
-    work: &[u32],
-    weights: &[u32],
-    columns: ColumnChoice,
-    known: Context,
-)
+fn prepare_insides(out: &mut [u32], columns: ChosenColumns, known: Context)
     requires ready { Ready known.settings }
-    requires room { Room columns weights.now work.now out.old }
-    requires kind_nonzero { (known.settings.shape.kind ≢ 0) × (known.round ≡ 6) }
+    requires out_long { most_openings * columns.choice.count ≤ length out.old }
+    requires round { (known.settings.shape.kind ≢ 0) × (known.round ≡ 6) }
     ensures { (masked : ℕ → ℕ) → ContextOf known.settings known.round masked known
-        → Holds (public_by known.settings masked) known.round weights.now work.now columns 1 out.new }
+        → Prepared (public_by known.settings masked) known.round columns.entry 1 out.new }
 {
     let shape = known.settings.shape;
-    into_columns(out, 0, MOST_OPENINGS, columns.count, |f| {
-        let col = column_in(weights, columns, f);
+    let work = columns.work;
+    into_columns(out, 0, MOST_OPENINGS, columns.choice.count, |f| {
+        let col = columns.at(f);
         open_check(work, col, shape, 0, insides_value(work, col, known))
     });
 }
 
 // Rounds 2 to 5: gate by gate, each made once for all columns, with the round's list for F' − F.
-fn prepare_gates(
-    out: &mut [u32],
-    work: &[u32],
-    columns: ColumnChoice,
-    known: Context,
-    rises: &[u32],
-)
+fn prepare_gates(out: &mut [u32], columns: ChosenColumns, known: Context, rises: &[u32])
     requires ready { Ready known.settings × SplitsBelow known × RoundList top_rises known rises.now }
-    requires le_round { (2 ≤ known.round) × (known.round ≤ 5) }
-    requires count_in_bounds { (most_openings * columns.count ≤ length out.old) × ((columns.count + columns.skip) * places ≤ length work.now) × (columns.count + columns.skip ≤ 4294967296) }
-    ensures { (masked : ℕ → ℕ) (κs : List ℕ) → ContextOf known.settings known.round masked known
-        → Holds (public_by known.settings masked) known.round κs work.now columns (4 * known.settings.shape.n) out.new }
+    requires out_long { most_openings * columns.choice.count ≤ length out.old }
+    requires round { (2 ≤ known.round) × (known.round ≤ 5) }
+    ensures { (masked : ℕ → ℕ) → ContextOf known.settings known.round masked known
+        → Prepared (public_by known.settings masked) known.round columns.entry (4 * known.settings.shape.n) out.new }
 {
     let shape = known.settings.shape;
     let i = (known.round - 1) as usize;
+    let work = columns.work;
+    let count = columns.choice.count;
     for g in 0..2 * shape.n as usize {
         let x = split_place(shape.kind, g);
         let split = known.splits[x];
         let gate = gate_of(shape, split, g, i);
-        into_columns(out, 2 * g, MOST_OPENINGS, columns.count, |f| {
-            open_u(work, column_at(columns, f), gate)
-        });
-        into_columns(out, 2 * g + 1, MOST_OPENINGS, columns.count, |f| {
-            open_v(work, column_at(columns, f), gate, rises)
+        into_columns(out, 2 * g, MOST_OPENINGS, count, |f| open_u(work, columns.at(f).index, gate));
+        into_columns(out, 2 * g + 1, MOST_OPENINGS, count, |f| {
+            open_v(work, columns.at(f).index, gate, rises)
         });
     }
 }
@@ -175,67 +133,71 @@ fn sums_top(kind: u32, round: u32) -> bool
     round == 5
 }
 
-// The same, with the list of the set where the round reads one. It is taken once for all gates: 90 or 34 entries, of which all but the last
-// grow to the next.
-fn prepare_digits(out: &mut [u32], work: &[u32], columns: ColumnChoice, known: Context)
+// The same in a round that sums F' − F, with the set's list for F: all its entries but the last grow to the next.
+fn prepare_last<const N: usize>(
+    out: &mut [u32],
+    columns: ChosenColumns,
+    known: Context,
+    tops: &[u32],
+)
+    requires ready { Ready known.settings × SplitsBelow known × (tops.now ≡ top_digits (scale_of known.settings.shape.set).parts) × (length tops.now ≡ N + 1) }
+    requires out_long { most_openings * columns.choice.count ≤ length out.old }
+    requires round { (2 ≤ known.round) × (known.round ≤ 5) }
+    ensures { (masked : ℕ → ℕ) → ContextOf known.settings known.round masked known
+        → Prepared (public_by known.settings masked) known.round columns.entry (4 * known.settings.shape.n) out.new }
+{
+    let mut rises = [0u32; N];
+    rises_into(&mut rises, tops);
+    prepare_gates(out, columns, known, &rises);
+}
+
+// The same, with the list of the set where the round reads one. It is taken once for all gates.
+fn prepare_digits(out: &mut [u32], columns: ChosenColumns, known: Context)
     requires ready { Ready known.settings × SplitsBelow known }
-    requires le_round { (2 ≤ known.round) × (known.round ≤ 5) }
-    requires count_in_bounds { (most_openings * columns.count ≤ length out.old) × ((columns.count + columns.skip) * places ≤ length work.now) × (columns.count + columns.skip ≤ 4294967296) }
-    ensures { (masked : ℕ → ℕ) (κs : List ℕ) → ContextOf known.settings known.round masked known
-        → Holds (public_by known.settings masked) known.round κs work.now columns (4 * known.settings.shape.n) out.new }
+    requires out_long { most_openings * columns.choice.count ≤ length out.old }
+    requires round { (2 ≤ known.round) × (known.round ≤ 5) }
+    ensures { (masked : ℕ → ℕ) → ContextOf known.settings known.round masked known
+        → Prepared (public_by known.settings masked) known.round columns.entry (4 * known.settings.shape.n) out.new }
 {
     let shape = known.settings.shape;
     if !sums_top(shape.kind, known.round) {
-        prepare_gates(out, work, columns, known, &[]);
+        prepare_gates(out, columns, known, &[]);
         return;
     }
     if shape.set == 0 {
-        let mut rises = [0u32; 89];
-        rises_into(&mut rises, &top_digits_0());
-        prepare_gates(out, work, columns, known, &rises);
+        prepare_last::<89>(out, columns, known, &top_digits_0());
         return;
     }
-    let mut rises = [0u32; 33];
-    rises_into(&mut rises, &top_digits_1());
-    prepare_gates(out, work, columns, known, &rises);
+    prepare_last::<33>(out, columns, known, &top_digits_1());
 }
 
 // A side's numbers for the openings of a round, in a choice of columns: 32 places of `out` for each. Crate opening asks for round 1 to 7,
 // with the context of the masked numbers that the slice holds.
-pub fn prepare(
-    out: &mut [u32],
-    work: &[u32],
-    weights: &[u32],
-    columns: ColumnChoice,
-    known: Context,
-)
+pub fn prepare(out: &mut [u32], columns: ChosenColumns, known: Context)
     requires ready { Ready known.settings }
-    requires room { Room columns weights.now work.now out.old }
-    requires le_round { (1 ≤ known.round) × (1 ≤ length weights.now) × (all_below q work.now ≡ true) }
-    requires context_of { ContextOf known.settings known.round (masked_in work.now) known }
-    ensures { Holds (public_by known.settings (masked_in work.now)) known.round weights.now work.now columns
-        (openings (params_of known.settings.shape) known.round) out.new }
+    requires out_long { most_openings * columns.choice.count ≤ length out.old }
+    requires round { (1 ≤ known.round) × (all_below q columns.work.now ≡ true) }
+    requires context_of { ContextOf known.settings known.round (masked_in columns.work.now) known }
+    ensures { Prepared (public_by known.settings (masked_in columns.entry.work.now)) known.round columns.entry (openings (params_of known.settings.shape) known.round) out.new }
 {
-    let settings = known.settings;
     let round = known.round;
     if round == 1 {
-        prepare_plain(out, work, weights, columns, settings, round);
+        prepare_plain(out, columns, known);
         return;
     }
     if round <= 5 {
-        prepare_digits(out, work, columns, known);
+        prepare_digits(out, columns, known);
         return;
     }
-    let kind = settings.shape.kind;
-    if kind == 0 {
-        prepare_plain(out, work, weights, columns, settings, round);
+    if known.settings.shape.kind == 0 {
+        prepare_plain(out, columns, known);
         return;
     }
     if round == 6 {
-        prepare_insides(out, work, weights, columns, known);
+        prepare_insides(out, columns, known);
         return;
     }
-    prepare_plain(out, work, weights, columns, settings, round);
+    prepare_plain(out, columns, known);
 }
 
 // ---- The running registers after a round: 16 places of `next` for each column

@@ -24,7 +24,8 @@ use Rattle.steps.specs.Steps.{public_of, opening}
 use Rattle.state.specs.declared.Side.{Side}
 use Rattle.state.specs.State.{Whole}
 use Rattle.opening.specs.Opening.{own_header, prepared, outgoing, part_column, message}
-use Rattle.column.specs.Held.{column_at, Holds}
+use Rattle.column.specs.Choice.{column_at}
+use Rattle.column.specs.Held.{Holds}
 use Rattle.settings.proofs.Sizes.{openings-most}
 use native.Mathlib.Decide.{dec_lt}
 use Rattle.opening.specs.Work.{columns_to, field_column, OutgoingHeld, outgoing_field, in_turn}

@@ -14,7 +14,7 @@ ghost use Rattle.steps.specs.Context.{ContextOf};
 ghost use Rattle.opening.specs.Work.{columns_to, PreparedHeld, OutgoingHeld, outgoing_field, in_turn, joined_at, part_at, checked_at};
 ghost use Rattle.opening.specs.Opening.{message};
 
-use column::{ColumnChoice, prepare};
+use column::{ChosenColumns, ColumnChoice, prepare};
 use field::{add_mod, mul_mod};
 use message::{Header, put_message};
 use settings::{FIELDS_PER_OPENING, KEYS, MOST_FIELDS, MOST_OPENINGS, WIDTH, openings_in};
@@ -65,11 +65,16 @@ fn outgoing_columns(sent: &mut [u32], work: &[u32], side: Side)
     if side.number == 0 {
         let keys = side.keys;
         let weights = weights_of(side.number, keys);
-        let columns = ColumnChoice {
+        let choice = ColumnChoice {
             count: FIELDS_PER_OPENING,
             skip: KEYS,
         };
-        prepare(sent, work, &weights, columns, context_in(side, work));
+        let columns = ChosenColumns {
+            work,
+            weights: &weights,
+            choice,
+        };
+        prepare(sent, columns, context_in(side, work));
     } else {
         let count = openings_in(side.settings.shape, side.round) as usize;
         kept_columns(sent, work, count);
@@ -122,11 +127,16 @@ pub fn prepare_columns(own: &mut [u32], work: &[u32], side: Side, known: Context
 {
     let keys = side.keys;
     let weights = weights_of(side.number, keys);
-    let columns = ColumnChoice {
+    let choice = ColumnChoice {
         count: WIDTH,
         skip: 0,
     };
-    prepare(own, work, &weights, columns, known);
+    let columns = ChosenColumns {
+        work,
+        weights: &weights,
+        choice,
+    };
+    prepare(own, columns, known);
 }
 
 // Joins the side's shares with the message's, the first of each opening's fields, in front of `opened`.

@@ -13,9 +13,9 @@ prepare_digits-requires c =
     let a = c.args in
     let known = a.known in
     record {
-      ready = (p.ready, held_below a.work.now p.le_round.2 known.settings known.round known p.ready.shape.sets (omega (arith, if1.false, p.le_round)) c.if-round-le5.true p.context_of);
-      le_round = (omega (arith, if1.false, p.le_round), c.if-round-le5.true);
-      count_in_bounds = omega (arith, p.room.out_long, p.room.chosen, p.room.columns_long, p.room.few);
+      ready = (p.ready, held_below a.columns.work.now p.round.1 known.settings known.round known p.ready.shape.sets (omega (arith, if1.false, p.round)) c.if-round-le5.true p.context_of);
+      out_long = p.out_long;
+      round = (omega (arith, if1.false, p.round), c.if-round-le5.true);
     }
 
 pub returns-then-round-le5 : goal.returns-then-round-le5
@@ -26,16 +26,16 @@ returns-then-round-le5 c =
     let p = c.requires in
     let a = c.args in
     let known = a.known in
-    rw (open_middle (params_of known.settings.shape) known.round if1.false if2.true) (prepare-digits.ensures (masked_in a.work.now) a.weights.now p.context_of)
+    rw (open_middle (params_of known.settings.shape) known.round if1.false if2.true) (prepare-digits.ensures (masked_in a.columns.work.now) p.context_of)
 
 pub returns-then-round-eq6 : goal.returns-then-round-eq6
 returns-then-round-eq6 c =
     let if1 = c.if-round-eq1 in
     let if4 = c.if-round-eq6 in
-    let if3 = c.if-kind-eq0 in
+    let if3 = c.if-known-eq0 in
     let prepare-insides = c.prepare_insides in
     let p = c.requires in
     let a = c.args in
     let known = a.known in
     rw (open_one (params_of known.settings.shape) known.round if1.false (omega (arith, if4.true)) if3.false)
-    (prepare-insides.ensures (masked_in a.work.now) p.context_of)
+    (prepare-insides.ensures (masked_in a.columns.work.now) p.context_of)

@@ -7,7 +7,8 @@ use Rattle.field.specs.Field.{q}
 use Rattle.steps.proofs.Contexts.{place_in, count_most}
 use Rattle.steps.proofs.Gates.{listed}
 use Rattle.slice.specs.Weights.{top_rises}
-use Rattle.column.specs.Held.{column_at, opening_in}
+use Rattle.column.specs.Choice.{column_at}
+use Rattle.column.specs.Held.{opening_in}
 use Rattle.steps.specs.Context.{public_by}
 use Prim.Native.Nat.{ℕ, ◌≤◌, ◌-◌, ◌+◌, ◌*◌}
 use mathlib.Core.Path.{◌≡◌, refl, ap, ◌∙◌}
@@ -49,7 +50,7 @@ into_columns-requires-in-loop-g-clause-takes c =
     let gate-of = c.gate_of-gate in
     let p = c.requires in
     let known = c.args.known in
-    let fifth : 4 ≤ known.round - 1 → known.round ≡ 5 = λ last. omega (arith, last, p.le_round) in
+    let fifth : 4 ≤ known.round - 1 → known.round ≡ 5 = λ last. omega (arith, last, p.round) in
     let list : Listed top_rises gate-of.result.terms c.args.rises.now = rw gate-of.ensures.0 (listed top_rises known.settings.shape _ (known.round - 1) _ (λ kind last. p.ready.2 (rw (eq-eqb _ _ kind, eq-eqb _ _ (fifth last)) refl))) in
     λ f h. search rules
 
@@ -62,24 +63,24 @@ loop-g-preserved c =
     let a = c.args in
     let known = a.known in
     let g = at.g in
-    let later : 2 ≤ known.round = p.le_round.0 in
-    let skip = a.columns.skip in
-    λ masked κs made.
+    let later : 2 ≤ known.round = p.round.0 in
+    let skip = a.columns.choice.skip in
+    λ masked made.
     let w = public_by known.settings masked in
-    let F : ℕ → ℕ → ℕ = λ d o. opening_in w known.round κs a.work.now (column_at skip d) o in
-    let u = gate_u known masked made g split-place.result (omega arith) split-place.ensures later p.le_round.1 gate-of.result gate-of.ensures.0 in
-    let v = gate_v known masked made g split-place.result (omega arith) split-place.ensures later p.le_round.1 gate-of.result gate-of.ensures.0 in
-    let one = openings_more F at.out a.columns.count (2 * g) _
-    (omega (arith, p.ready.0.shape.most)) (omega (arith, p.count_in_bounds, at.auto.out))
+    let F : ℕ → ℕ → ℕ = λ d o. opening_in w known.round a.columns.weights.now a.columns.work.now (column_at skip d) o in
+    let u = gate_u known masked made g split-place.result (omega arith) split-place.ensures later p.round.1 gate-of.result gate-of.ensures.0 in
+    let v = gate_v known masked made g split-place.result (omega arith) split-place.ensures later p.round.1 gate-of.result gate-of.ensures.0 in
+    let one = openings_more F at.out a.columns.choice.count (2 * g) _
+    (omega (arith, p.ready.0.shape.most)) (omega (arith, p.out_long, at.auto.out))
     (c.into_columns.ensures (λ f. F f (2 * g)) (λ f x h post.
-    let is : x ≡ value q (get_or κs (column_at skip f) 0) (column a.work.now (column_at skip f)) (open_u gate-of.result) = search rules in
-    is ∙ ap (value q (get_or κs (column_at skip f) 0) (column a.work.now (column_at skip f))) u)) (at.invariant masked κs made) in
-    let two = openings_more F c.into_columns.new.out a.columns.count (2 * g + 1) _
-    (omega (arith, p.ready.0.shape.most)) (omega (arith, p.count_in_bounds, at.auto.out, c.into_columns.auto.out))
+    let is : x ≡ value q (get_or a.columns.weights.now (column_at skip f) 0) (column a.columns.work.now (column_at skip f)) (open_u gate-of.result) = search rules in
+    is ∙ ap (value q (get_or a.columns.weights.now (column_at skip f) 0) (column a.columns.work.now (column_at skip f))) u)) (at.invariant masked made) in
+    let two = openings_more F c.into_columns.new.out a.columns.choice.count (2 * g + 1) _
+    (omega (arith, p.ready.0.shape.most)) (omega (arith, p.out_long, at.auto.out, c.into_columns.auto.out))
     (c.into_columns-in-loop-g.ensures (λ f. F f (2 * g + 1)) (λ f x h post.
-    let is : x ≡ value q (get_or κs (column_at skip f) 0) (column a.work.now (column_at skip f)) (open_v gate-of.result) = search rules in
-    is ∙ ap (value q (get_or κs (column_at skip f) 0) (column a.work.now (column_at skip f))) v)) one in
+    let is : x ≡ value q (get_or a.columns.weights.now (column_at skip f) 0) (column a.columns.work.now (column_at skip f)) (open_v gate-of.result) = search rules in
+    is ∙ ap (value q (get_or a.columns.weights.now (column_at skip f) 0) (column a.columns.work.now (column_at skip f))) v)) one in
     λ d o h l. two d o h (omega arith)
 
 pub returns : goal.returns
-returns c = λ masked κs made d o h l. c.loop-g.invariant masked κs made d o h (omega arith)
+returns c = λ masked made d o h l. c.loop-g.invariant masked made d o h (omega arith)

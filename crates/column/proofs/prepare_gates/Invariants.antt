@@ -6,5 +6,5 @@ use Prim.Native.Nat.{ℕ, ◌*◌}
 use Rattle.column.proofs.prepare_gates.Given as goal
 
 abbrev pub invariant-loop-g : goal.invariant-loop-g
-invariant-loop-g l = (masked : ℕ → ℕ) (κs : List ℕ) → ContextOf l.known.settings l.known.round masked l.known → Holds
-    (public_by l.known.settings masked) l.known.round κs l.work l.columns (2 * l.g) l.out
+invariant-loop-g l = (masked : ℕ → ℕ) → ContextOf l.known.settings l.known.round masked l.known
+    → Holds (public_by l.known.settings masked) l.known.round l.columns.weights.now l.columns.work.now l.columns.choice (2 * l.g) l.out

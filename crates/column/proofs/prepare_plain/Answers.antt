@@ -1,6 +1,7 @@
 -- `column::prepare_plain` meets its contract. Assumes nothing.
 use Rattle.column.proofs.Tables.{openings_more}
-use Rattle.column.specs.Held.{column_at, opening_in}
+use Rattle.column.specs.Choice.{column_at}
+use Rattle.column.specs.Held.{opening_in}
 use Rattle.steps.specs.Context.{public_by}
 use Rattle.settings.proofs.Sizes.{openings-most}
 use Rattle.settings.specs.Settings.{params_of}
@@ -15,7 +16,7 @@ loop-o-preserved c =
     let a = c.args in
     let p = c.requires in
     λ masked.
-    let F : ℕ → ℕ → ℕ = λ d k. opening_in (public_by a.settings masked) a.round a.weights.now a.work.now (column_at a.columns.skip d) k in
-    openings_more F at.out a.columns.count at.o-counter _
-    (omega (arith, openings-most (params_of a.settings.shape) a.round p.ready.shape.most, c.openings_in-count.ensures)) (omega (arith, p.room.out_long, at.auto.out))
+    let F : ℕ → ℕ → ℕ = λ d k. opening_in (public_by a.known.settings masked) a.known.round a.columns.weights.now a.columns.work.now (column_at a.columns.choice.skip d) k in
+    openings_more F at.out a.columns.choice.count at.o-counter _
+    (omega (arith, openings-most (params_of a.known.settings.shape) a.known.round p.ready.shape.most, c.openings_in-count.ensures)) (omega (arith, p.out_long, at.auto.out))
     (c.into_columns.ensures (λ f. F f at.o-counter) (λ f x h post. search rules)) (at.invariant masked)

@@ -5,4 +5,4 @@ use Prim.Native.Nat.{ℕ}
 use Rattle.column.proofs.prepare_plain.Given as goal
 
 abbrev pub invariant-loop-o : goal.invariant-loop-o
-invariant-loop-o l = (masked : ℕ → ℕ) → Holds (public_by l.settings masked) l.round l.weights l.work l.columns l.o-counter l.out
+invariant-loop-o l = (masked : ℕ → ℕ) → Holds (public_by l.fn.known.settings masked) l.fn.known.round l.columns.weights.now l.columns.work.now l.columns.choice l.o-counter l.out
