@@ -20,9 +20,12 @@ use Rattle.settings.proofs.Ready.{shape_ok_lem, ok_ready}
 use Rattle.execution.specs.declared.RunTerms.{RunTerms}
 use Rattle.execution.specs.declared.Execution.{Execution}
 use Rattle.execution.specs.Execution.{draw_in, books_given, server_given, phone_given, dealt_run, given_run, executed}
-use Rattle.execution.specs.Held.{start_of, Executes, RunsFrom}
+use Rattle.execution.specs.declared.RefusedCall.{RefusedCall}
+use Rattle.execution.specs.declared.WorkSpace.{WorkSpace}
+use Rattle.std.specs.Prelude.{Option}
+use Rattle.execution.specs.Held.{run_bytes, before_begin, Plays, EndsAs}
 use Rattle.execution.specs.Theorems.{DrawIsDealt}
-use Rattle.execution.proofs.Whole.{draw-drop}
+use Rattle.execution.proofs.Whole.{draw-drop, run_ends}
 
 -- ---- The test
 
@@ -69,12 +72,13 @@ module _ (a : Shape) (numbers : List ℕ) (phone from : ℕ) (e : phone ≡ min 
 
 -- ---- The run
 
-module _ (t : RunTerms) (numbers work0 work1 : List ℕ) where
-  pub given-run : (r : Execution) (before after : List ℕ)
-      → RunsFrom (start_of 0) t numbers (server_given t numbers).book (phone_given t numbers).book work0 work1 r before after
-      → Executes (given_run t numbers work0 work1) r before after
-  given-run r before after p = p.is (server_given t numbers) (phone_given t numbers) refl refl (λ z. refl) refl refl (λ z. refl)
+pub given-run : (t : RunTerms) (numbers : List ℕ) (w : WorkSpace) (refused : Option RefusedCall) (x : Execution) (u : WorkSpace)
+    → run_bytes ≤ length w.messages → Plays t numbers (server_given t numbers).book (phone_given t numbers).book before_begin w refused x u
+    → EndsAs (given_run t numbers w.server w.phone) refused x w.messages u.messages
+given-run t numbers w refused x u room p =
+    run_ends t numbers _ _ w refused x u (server_given t numbers) (phone_given t numbers) room p refl refl refl refl refl refl
 
+module _ (t : RunTerms) (numbers work0 work1 : List ℕ) where
   pub runs-given : books_given t.settings.shape numbers ≡ true → executed t numbers work0 work1 ≡ given_run t numbers work0 work1
   unfolding executed
   runs-given e = rw e

@@ -1,5 +1,6 @@
 -- An honest run is refused nowhere: each of its calls moves a count, for there are as many calls as the counts come to.
 use Prim.Native.Nat.{ℕ, zero, suc, ◌+◌, ◌-◌, ◌≤◌, ◌<◌}
+use Rattle.std.specs.Prelude.{None}
 use mathlib.Core.Path.{◌≡◌, refl, sym, subst, ◌∙◌}
 use mathlib.Core.Bool.{true, true≢false}
 use mathlib.Core.List.{List, [], ◌∷◌, ◌++◌}
@@ -27,13 +28,13 @@ use Rattle.runs.proofs.Both.{HonestSide, keeps_pace, start_pace, own-call, other
 use Rattle.runs.proofs.Carried.{next_near, carried}
 use Rattle.runs.proofs.Whole.{honest-pair, allowed}
 use Rattle.runs.proofs.Theorem.{honest, progress, every_run_ends}
-use Rattle.execution.specs.Execution.{Carried, no_refusal, refusal_of, refusal_in, message_in, message_room, round_calls, run_calls, outcome_at, carry, carry_all}
+use Rattle.execution.specs.Execution.{Carried, played_by, refused_call, refused_in, message_in, message_room, round_calls, run_calls, outcome_at, carry, carry_all}
 use Rattle.execution.specs.Theorems.{HonestRunGoesThrough}
 
 -- ---- A call that was accepted
 
-refusal-none : (party : ℕ) (e : Observation) → accepted e ≡ true → refusal_in party e ≡ no_refusal
-unfolding refusal_of
+refusal-none : (party : Party) (e : Observation) → accepted e ≡ true → refused_in (played_by party) e ≡ None
+unfolding refused_call
 refusal-none party (began r) a = rw a
 refusal-none party (sent r m) a = rw a
 refusal-none party (took r m) a = rw a
@@ -77,7 +78,7 @@ module _ (s : Settings) (serial : ℕ) (numbers : ℕ → List ℕ) (h o : Party
   at c = joint_at key_count s serial numbers h o w c
 
   abbrev reached : Counts → List ℕ → Carried
-  reached c bytes = record { refusal = no_refusal; parties = at c; messages = bytes }
+  reached c bytes = record { refused = None; parties = at c; messages = bytes }
 
   one_call : (party : Party) (call : Call) (c : Counts) → Pace h.number c.observer c.peer
       → count_of party c < count_of party (step_counts key_count s h.number c party call) → (bytes : List ℕ)
@@ -85,13 +86,13 @@ module _ (s : Settings) (serial : ℕ) (numbers : ℕ → List ℕ) (h o : Party
       ≡ reached (step_counts key_count s h.number c party call) (bytes ++ message_in (outcome_at s serial h o (at c) party call).observation)
   unfolding carry outcome_at
   one_call observer call c p l bytes =
-      rw (refusal-none 0 _ ((own-call key_count s serial numbers h o faces y z w i c p call).went_is ∙ lt-ltb _ _ l), step_counts_lem key_count s serial numbers h o faces y z w i c p observer call)
+      rw (refusal-none observer _ ((own-call key_count s serial numbers h o faces y z w i c p call).went_is ∙ lt-ltb _ _ l), step_counts_lem key_count s serial numbers h o faces y z w i c p observer call)
   one_call peer call c p l bytes =
-      rw (refusal-none 1 _ ((other-call key_count s serial numbers h o faces y z w i c p call).went_is ∙ lt-ltb _ _ l), step_counts_lem key_count s serial numbers h o faces y z w i c p peer call)
+      rw (refusal-none peer _ ((other-call key_count s serial numbers h o faces y z w i c p call).went_is ∙ lt-ltb _ _ l), step_counts_lem key_count s serial numbers h o faces y z w i c p peer call)
 
   pub goes_through : (ms : List ScheduledCall) (c : Counts) → Pace h.number c.observer c.peer
       → total c + length ms ≤ total (counts_after key_count s h.number c ms) → (bytes : List ℕ)
-      → ((carry_all s serial h o (reached c bytes) ms).refusal ≡ no_refusal)
+      → ((carry_all s serial h o (reached c bytes) ms).refused ≡ None)
       × ((carry_all s serial h o (reached c bytes) ms).parties ≡ at (counts_after key_count s h.number c ms))
   unfolding carry_all counts_after
   goes_through [] c p l bytes = (refl, refl)
@@ -100,7 +101,7 @@ module _ (s : Settings) (serial : ℕ) (numbers : ℕ → List ℕ) (h o : Party
       let next = step_counts key_count s h.number c m.party m.call in
       let adds = step-adds key_count s h.number c m.party m.call in
       let moves = adds.1 (omega (arith, l, all-add key_count s h.number ms next)) in
-      subst (λ (x : Carried). ((carry_all s serial h o x ms).refusal ≡ no_refusal) × ((carry_all s serial h o x ms).parties ≡ at (counts_after key_count s h.number next ms)))
+      subst (λ (x : Carried). ((carry_all s serial h o x ms).refused ≡ None) × ((carry_all s serial h o x ms).parties ≡ at (counts_after key_count s h.number next ms)))
       (sym (one_call m.party m.call c p moves bytes))
       (goes_through ms next (keeps_pace key_count s h.number u c p m.party m.call) (omega (arith, l, adds.0)) _)
 
@@ -139,6 +140,6 @@ honest_run_goes_through s serial keys0 keys1 f secret inputs draw x y d w i =
     let ends = carried key_count s run_calls through in
     let a = goes_through s serial numbers h o refl z.0 z.1 w i run_calls none (start_pace 0) (rw ends (omega arith)) [] in
     let e = every_run_ends key_count s serial keys0 keys1 f secret inputs draw x y d w i run_calls through in
-    let same : (carry_all s serial h o (record { refusal = no_refusal; parties = w; messages = [] }) run_calls).parties ≡ joint_after key_count s serial h o w run_calls =
+    let same : (carry_all s serial h o (record { refused = None; parties = w; messages = [] }) run_calls).parties ≡ joint_after key_count s serial h o w run_calls =
     a.1 ∙ sym (progress key_count s serial keys0 keys1 f 0 (omega arith) secret inputs draw x y d w i run_calls) in
     record { accepted = a.0; server = rw same e.0; phone = rw same e.1 }

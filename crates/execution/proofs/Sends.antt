@@ -24,8 +24,13 @@ use Rattle.side.specs.Side.{AfterSend, send_no, sent_side, after_send, send_call
 use Rattle.side.proofs.Sending.{send-ready}
 use Rattle.runs.proofs.Laws.{message-sized}
 use Rattle.execution.specs.declared.Endpoint.{Endpoint}
-use Rattle.execution.specs.Execution.{message_room}
+use Rattle.std.specs.Prelude.{Option, None, Some}
+use Rattle.execution.specs.declared.Party.{Party}
+use Rattle.execution.specs.declared.RefusedCall.{RefusedCall}
+use Rattle.execution.specs.declared.CallKind.TheVariants.{Send}
+use Rattle.execution.specs.Execution.{message_room, refused_call}
 use Rattle.execution.specs.Held.{party_of, Stands, send_of, message_sent, sent_party, SendsAt}
+use Rattle.execution.proofs.Calls.{no-number, some-number}
 use Rattle.execution.proofs.Messages.{front_stays, message-behind, message-stands, message-end}
 
 -- every message fits
@@ -79,7 +84,7 @@ module _ (s : Side) (work out : List ℕ) where
       by true e = sym (eqb-true _ 0 e)
       by false e = refl
 
-module _ (e : Endpoint) (work before : List ℕ) (at : ℕ) (stands : Stands e.from e.to at) (room : at + most_bytes key_count ≤ length before)
+module _ (party : Party) (e : Endpoint) (work before : List ℕ) (at : ℕ) (stands : Stands e.from e.to at) (room : at + most_bytes key_count ≤ length before)
     (r : Sent) (out : List ℕ)
     (call : ◌≡◌ {A = AfterSend} (record { sent = r; out = out }) (send_call key_count e.side work (mid_of at (length before - at) before))) where
   abbrev part : List ℕ
@@ -119,9 +124,11 @@ module _ (e : Endpoint) (work before : List ℕ) (at : ℕ) (stands : Stands e.f
       let z : (send_of e.side work).sent.refused ≡ send_no key_count e.side work message_room = ap (λ (a : AfterSend). a.sent.refused) f in
       rw (ne_eqb (send_of e.side work).sent.refused 0 (λ x. n (sym z ∙ x)))
 
-  pub sends_at : r.refused ≡ 0
-      → SendsAt e work before at (record { refused = 0; endpoint = record { side = r.side; from = at; to = at + r.length }; length = at + r.length }) after
-  sends_at z =
+  pub sends_at : None ≡ refused_call Send party r.refused
+      → SendsAt party e work before at None (record { side = r.side; from = at; to = at + r.length }) (at + r.length) after
+  unfolding refused_call
+  sends_at accepted =
+      let z : r.refused ≡ 0 = no-number Send party r.refused accepted in
       let no : send_no key_count e.side work message_room ≡ 0 = sym no_is ∙ z in
       let here : send_no key_count e.side work part ≡ 0 = same_no e.side work part part_long ∙ no in
       let is = call ∙ sent-call e.side work part here in
@@ -151,9 +158,10 @@ module _ (e : Endpoint) (work before : List ℕ) (at : ℕ) (stands : Stands e.f
         most = omega (arith, length_is, fits);
       }
 
-  pub refuses_at : (r.refused ≡ 0 → ⊥)
-      → SendsAt e work before at (record { refused = r.refused; endpoint = record { side = r.side; from = e.from; to = e.to }; length = at }) after
-  refuses_at z =
+  pub refuses_at : (refused : RefusedCall) → Some refused ≡ refused_call Send party r.refused
+      → SendsAt party e work before at (Some refused) (record { side = r.side; from = e.from; to = e.to }) at after
+  refuses_at refused f =
+      let z : r.refused ≡ 0 → ⊥ = some-number Send party r.refused refused f in
       let no : send_no key_count e.side work message_room ≡ 0 → ⊥ = λ f. z (no_is ∙ f) in
       let here : send_no key_count e.side work part ≡ 0 → ⊥ = λ f. no (sym (same_no e.side work part part_long) ∙ f) in
       let is = call ∙ refused-call e.side work part here in
@@ -162,7 +170,7 @@ module _ (e : Endpoint) (work before : List ℕ) (at : ℕ) (stands : Stands e.f
       let out-is : out ≡ part = ap (λ (a : AfterSend). a.out) is in
       let after_is : after ≡ before = rw out-is (put_same at (length before - at) before) in
       record {
-        refused_is = no_is ∙ sym (refused_no e.side work message_room);
+        refused_is = f ∙ ap (refused_call Send party) (no_is ∙ sym (refused_no e.side work message_room));
         party_is = ap₂ (λ (s : Side) (l : List ℕ). record { side = s; work = work; latest = l })
             (side-is ∙ sym (ap (λ (a : AfterSend). a.sent.side) there))
             (rw after_is refl ∙ sym (latest_stays there no));
@@ -176,5 +184,5 @@ module _ (e : Endpoint) (work before : List ℕ) (at : ℕ) (stands : Stands e.f
       }
 
   -- a message that was sent is in the output
-  pub sent-most : r.refused ≡ 0 → at + r.length ≤ length before
-  sent-most z = omega (arith, room, (sends_at z).most)
+  pub sent-most : None ≡ refused_call Send party r.refused → at + r.length ≤ length before
+  sent-most accepted = omega (arith, room, (sends_at accepted).most)

@@ -1,14 +1,15 @@
 -- The whole run: from the deal, both begins and the rounds.
-use Prim.Native.Nat.{ℕ, zero, suc, ◌+◌, ◌*◌, ◌-◌, ◌≤◌, min}
+use Prim.Native.Nat.{ℕ, ◌+◌, ◌*◌, ◌-◌, ◌≤◌, min}
 use mathlib.Core.Path.{◌≡◌, refl, sym, ap, ap₂, ◌∙◌}
 use mathlib.Core.Bool.{Bool, true, false, cond, ◌&&◌}
-use mathlib.Core.List.{List, ◌++◌}
+use mathlib.Core.List.{List, [], ◌∷◌, ◌++◌}
 use native.Mathlib.Omega.{arith}
 use lib.Dec.{eqb, leb}
 use lib.ListN.{length, take, drop, replicate, length-replicate, length-drop, take-append-drop}
 use lib.Seq.{take_all, drop-drop, length-take-le}
-use borrow.Author.Tests.{ne_eqb, eqb-true, ltb-true, leb-true}
+use borrow.Author.Tests.{eqb-true, ltb-true, leb-true}
 use borrow.Rule.Slice.PartMut.{mid_of}
+use Rattle.std.specs.Prelude.{Option, None, Some}
 use Rattle.lists.proofs.Lists.{take_min, drop_min}
 use Rattle.lists.proofs.Questions.{both_yes}
 use Rattle.settings.specs.declared.Shape.{Shape}
@@ -18,14 +19,21 @@ use Rattle.settings.specs.Sizes.{key_count, width_of, shared, book_size, input_s
 use Rattle.settings.proofs.Sizes.{shared-most}
 use Rattle.settings.specs.Schedule.{rounds}
 use Rattle.dealer.specs.Deal.{Dealt, deal_no, deal_call}
-use Rattle.runs.specs.Records.{PartyInput, run_of}
+use Rattle.side.specs.Side.{begin_call}
+use Rattle.runs.specs.Records.{PartyInput, run_of, book_of}
 use Rattle.runs.specs.Records.Party.{observer, peer}
 use Rattle.runs.specs.Records.Call.{begin}
+use Rattle.runs.specs.Demands.{scheduled}
 use Rattle.execution.specs.declared.RunTerms.{RunTerms}
+use Rattle.execution.specs.declared.Party.TheVariants.{Server, Phone}
+use Rattle.execution.specs.declared.CallKind.TheVariants.{Deal, Begin}
+use Rattle.execution.specs.declared.RefusedCall.{RefusedCall}
+use Rattle.execution.specs.declared.Endpoint.{Endpoint}
 use Rattle.execution.specs.declared.Execution.{Execution}
-use Rattle.execution.specs.Execution.{refusal_of, Carried, carry, carry_all, round_calls, run_calls, server_inputs, phone_inputs, draw_in, server_input, phone_input, with_book, deal_no_of, dealt_run}
-use Rattle.execution.specs.Held.{carried_of, Fits, run_bytes, book_length, run_at, start_of, ServerBegins, PhoneBegins, RoundsRun, Executes, RunsFrom}
-use Rattle.execution.proofs.Calls.{stopped}
+use Rattle.execution.specs.declared.WorkSpace.{WorkSpace}
+use Rattle.execution.specs.Execution.{refused_call, Carried, round_calls, run_calls, server_inputs, phone_inputs, draw_in, server_input, phone_input, deal_no_of, run_after, dealt_run}
+use Rattle.execution.specs.Held.{carried_of, Fits, run_bytes, book_length, run_at, before_begin, LeftBy, RoundsRun, Carries, Plays, Deals, EndsAs}
+use Rattle.execution.proofs.Calls.{no-number, stays, stopped_all, then, ended, server-begins, phone-begins}
 
 -- ---- The parts of the numbers, as far as there are so many
 
@@ -59,83 +67,111 @@ module _ (a : Shape) (numbers : List ℕ) (first second : ℕ) (e : first ≡ mi
 
 -- ---- The begins and the rounds
 
--- a number is 0 or is not
-is_zero : (n : ℕ) → Dec (n ≡ 0)
-is_zero zero = yes refl
-is_zero (suc n) = no (λ e. absurd (omega (arith, e)))
+module _ (t : RunTerms) (numbers book0 book1 : List ℕ) (x : Execution) (w : WorkSpace) (refused : Option RefusedCall) (one : Endpoint) (work0 : List ℕ)
+    (begins : LeftBy Begin Server (begin_call key_count x.server.side (run_at t Server) (server_inputs t.settings.shape numbers) book0 w.server) x.server refused one work0) where
+  abbrev x₁ : Execution
+  x₁ = record x { server = one }
 
-module _ (x : Execution) (t : RunTerms) (numbers book0 book1 work0 work1 bytes : List ℕ) (one both : Execution) (w0 w1 : List ℕ)
-    (begins : ServerBegins x (run_at t 0) (server_inputs t.settings.shape numbers) book0 work0 one w0)
-    (begins' : PhoneBegins one (run_at t 1) (phone_inputs t.settings.shape numbers) book1 work1 both w1)
-    (fit : Fits x bytes (2 * rounds)) where
-  abbrev x₀ : Carried
-  x₀ = carried_of x work0 work1 bytes
+  abbrev w₁ : WorkSpace
+  w₁ = record w { server = work0 }
 
-  pub both_fit : Fits both bytes (2 * rounds)
-  both_fit = begins'.fits bytes (2 * rounds) (begins.fits bytes (2 * rounds) fit)
+  module _ (h o : PartyInput) (hr : run_of t.settings t.serial h ≡ run_at t Server) (hi : h.inputs ≡ server_inputs t.settings.shape numbers) (hb : h.book ≡ book0) where
+    first-begun : Carries t.settings t.serial h o (scheduled observer begin ∷ []) 0 x w refused x₁ w₁
+    first-begun = server-begins t.settings t.serial h o x w refused one work0 (rw (hr, hi, hb) begins)
 
-  module _ (h o : PartyInput)
-      (hr : run_of t.settings t.serial h ≡ run_at t 0) (hi : h.inputs ≡ server_inputs t.settings.shape numbers) (hb : x.refusal.number ≡ 0 → h.book ≡ book0)
-      (or : run_of t.settings t.serial o ≡ run_at t 1) (oi : o.inputs ≡ phone_inputs t.settings.shape numbers) (ob : x.refusal.number ≡ 0 → o.book ≡ book1) where
-    abbrev go : Carried → Carried
-    go y = carry t.settings t.serial h o y observer begin
+  -- the server's begin is refused
+  pub first_refused : (refusal : RefusedCall) → refused ≡ Some refusal → Plays t numbers book0 book1 x w refused x₁ w₁
+  first_refused refusal e =
+      record {
+        carries = λ h o hr hi hb or oi ob.
+            rw e (ended t.settings t.serial h o (scheduled observer begin ∷ []) (scheduled peer begin ∷ round_calls rounds) 0 (2 * rounds) x x₁ w w₁ refusal (rw e at (first-begun h o hr hi hb)));
+      }
 
-    server-begun : carried_of one w0 work1 bytes ≡ go x₀
-    server-begun = by (is_zero x.refusal.number)
-      where
-        by : Dec (x.refusal.number ≡ 0) → carried_of one w0 work1 bytes ≡ go x₀
-        by (yes z) = begins.is h o hr hi (hb z) work1 bytes
-        by (no z) =
-            begins.is (with_book h book0) o hr hi refl work1 bytes
-            ∙ sym (stopped t.settings t.serial (with_book h book0) o x₀ observer begin z)
-            ∙ stopped t.settings t.serial h o x₀ observer begin z
+  module _ (accepted : refused ≡ None) (refused' : Option RefusedCall) (two : Endpoint) (work1 : List ℕ)
+      (begins' : LeftBy Begin Phone (begin_call key_count x.phone.side (run_at t Phone) (phone_inputs t.settings.shape numbers) book1 w.phone) x.phone refused' two work1) where
+    abbrev x₂ : Execution
+    x₂ = record x₁ { phone = two }
 
-    -- an earlier refusal is the first still
-    still : (x.refusal.number ≡ 0 → ⊥) → one.refusal.number ≡ 0 → ⊥
-    still z =
-        let e : one.refusal ≡ x.refusal = ap (λ (y : Carried). y.refusal) (server-begun ∙ sym (stopped t.settings t.serial h o x₀ observer begin z)) in
-        rw e z
+    abbrev w₂ : WorkSpace
+    w₂ = record w₁ { phone = work1 }
 
-    both_begun : carried_of both w0 w1 bytes ≡ carry t.settings t.serial h o (go x₀) peer begin
-    both_begun = by (is_zero x.refusal.number) ∙ ap (λ (y : Carried). carry t.settings t.serial h o y peer begin) server-begun
-      where
-        by : Dec (x.refusal.number ≡ 0) → carried_of both w0 w1 bytes ≡ carry t.settings t.serial h o (carried_of one w0 work1 bytes) peer begin
-        by (yes z) = begins'.is h o or oi (ob z) w0 bytes
-        by (no z) =
-            begins'.is h (with_book o book1) or oi refl w0 bytes
-            ∙ sym (stopped t.settings t.serial h (with_book o book1) (carried_of one w0 work1 bytes) peer begin (still z))
-            ∙ stopped t.settings t.serial h o (carried_of one w0 work1 bytes) peer begin (still z)
+    module _ (h o : PartyInput) (hr : run_of t.settings t.serial h ≡ run_at t Server) (hi : h.inputs ≡ server_inputs t.settings.shape numbers) (hb : h.book ≡ book0)
+        (or : run_of t.settings t.serial o ≡ run_at t Phone) (oi : o.inputs ≡ phone_inputs t.settings.shape numbers) (ob : o.book ≡ book1) where
+      both-begun : Carries t.settings t.serial h o (scheduled observer begin ∷ scheduled peer begin ∷ []) 0 x w refused' x₂ w₂
+      both-begun =
+          then t.settings t.serial h o (scheduled observer begin ∷ []) (scheduled peer begin ∷ []) 0 0 x x₁ x₂ w w₁ w₂ refused'
+          (rw accepted at (first-begun h o hr hi hb))
+          (phone-begins t.settings t.serial h o x₁ w₁ refused' two work1 (rw (or, oi, ob) begins'))
 
-    module _ (r : Execution) (w0' w1' after : List ℕ) (ran : RoundsRun rounds both w0 w1 bytes r w0' w1' after) where
-      abbrev end : Carried
-      end = carry_all t.settings t.serial h o x₀ run_calls
+    -- the phone's begin is refused
+    pub second_refused : (refusal : RefusedCall) → refused' ≡ Some refusal → Plays t numbers book0 book1 x w refused' x₂ w₂
+    second_refused refusal e =
+        record {
+          carries = λ h o hr hi hb or oi ob.
+              rw e
+              (ended t.settings t.serial h o (scheduled observer begin ∷ scheduled peer begin ∷ []) (round_calls rounds) 0 (2 * rounds) x x₂ w w₂ refusal
+              (rw e at (both-begun h o hr hi hb or oi ob)));
+        }
 
-      carried : carried_of r w0' w1' after ≡ end
-      unfolding carry_all
-      carried =
-          ran.is t.settings t.serial h o
-          ∙ ap (λ (y : Carried). carry_all t.settings t.serial h o y (round_calls rounds)) both_begun
+    pub plays : (last : Option RefusedCall) (z : Execution) (u : WorkSpace) → refused' ≡ None → RoundsRun rounds x₂ w₂ last z u → Plays t numbers book0 book1 x w last z u
+    plays last z u e ran =
+        record {
+          carries = λ h o hr hi hb or oi ob.
+              then t.settings t.serial h o (scheduled observer begin ∷ scheduled peer begin ∷ []) (round_calls rounds) 0 (2 * rounds) x x₂ z w w₂ u last
+              (rw e at (both-begun h o hr hi hb or oi ob)) (ran.carries t.settings t.serial h o);
+        }
 
-      long : r.length ≤ length after
-      long = omega (arith, (ran.fits 0 both_fit).room)
+    pub both_fit : Fits x w.messages (2 * rounds) → Fits x₂ w₂.messages (2 * rounds)
+    both_fit f = record { server = stays _ x.server one x.length f.server begins.endpoint_is; phone = stays _ x.phone two x.length f.phone begins'.endpoint_is; room = f.room }
 
-      executes : Executes end r bytes after
-      executes =
-          let messages = ap (λ (y : Carried). y.messages) carried in
-          let size : r.length ≡ length end.messages = sym (length-take-le r.length after long) ∙ ap length messages in
-          record {
-            refusal_is = ap (λ (y : Carried). y.refusal) carried;
-            server_is = ap (λ (y : Carried). y.parties.observer.side) carried;
-            phone_is = ap (λ (y : Carried). y.parties.peer.side) carried;
-            server_latest = ap (λ (y : Carried). y.parties.observer.latest) carried;
-            phone_latest = ap (λ (y : Carried). y.parties.peer.latest) carried;
-            length_is = size;
-            messages_are = sym (take-append-drop r.length after) ∙ ap₂ (λ (y z : List ℕ). y ++ z) messages (ran.behind ∙ ap (λ (n : ℕ). drop n bytes) size);
-            fits = omega (arith, long, size, ran.size);
-          }
+-- ---- The end
 
-  pub runs_from : (r : Execution) (w0' w1' after : List ℕ) → RoundsRun rounds both w0 w1 bytes r w0' w1' after → RunsFrom x t numbers book0 book1 work0 work1 r bytes after
-  runs_from r w0' w1' after ran = record { is = λ h o a b c d e f. executes h o a b c d e f r w0' w1' after ran }
+pub ends : (c : Carried) (refused : Option RefusedCall) (x : Execution) (w : WorkSpace) (before : List ℕ) → carried_of refused x w ≡ c → x.length ≤ length w.messages
+    → length w.messages ≡ length before → drop x.length w.messages ≡ drop x.length before → EndsAs c refused x before w.messages
+ends c refused x w before e long same behind =
+    let messages = ap (λ (y : Carried). y.messages) e in
+    let size : x.length ≡ length c.messages = sym (length-take-le x.length w.messages long) ∙ ap length messages in
+    record {
+      refused_is = ap (λ (y : Carried). y.refused) e;
+      server_is = ap (λ (y : Carried). y.parties.observer.side) e;
+      phone_is = ap (λ (y : Carried). y.parties.peer.side) e;
+      server_latest = ap (λ (y : Carried). y.parties.observer.latest) e;
+      phone_latest = ap (λ (y : Carried). y.parties.peer.latest) e;
+      length_is = size;
+      messages_are = sym (take-append-drop x.length w.messages) ∙ ap₂ (λ (y z : List ℕ). y ++ z) messages (behind ∙ ap (λ (n : ℕ). drop n before) size);
+      fits = omega (arith, long, size, same);
+    }
+
+-- the first refusal may be noted in the execution
+pub ends-noted : (c : Carried) (refused : Option RefusedCall) (x : Execution) (before after : List ℕ) → EndsAs c refused x before after
+    → EndsAs c refused (record x { refused = refused }) before after
+ends-noted c refused x before after e =
+    record {
+      refused_is = e.refused_is;
+      server_is = e.server_is;
+      phone_is = e.phone_is;
+      server_latest = e.server_latest;
+      phone_latest = e.phone_latest;
+      length_is = e.length_is;
+      messages_are = e.messages_are;
+      fits = e.fits;
+    }
+
+pub start_fits : (bytes : List ℕ) → run_bytes ≤ length bytes → Fits before_begin bytes (2 * rounds)
+start_fits bytes room =
+    record { server = record { begins = omega arith; ends = omega arith }; phone = record { begins = omega arith; ends = omega arith }; room = omega (arith, room) }
+
+-- a run with any books, from the first begin
+pub run_ends : (t : RunTerms) (numbers book0 book1 : List ℕ) (w : WorkSpace) (refused : Option RefusedCall) (x : Execution) (u : WorkSpace) (h o : PartyInput)
+    → run_bytes ≤ length w.messages → Plays t numbers book0 book1 before_begin w refused x u
+    → run_of t.settings t.serial h ≡ run_at t Server → h.inputs ≡ server_inputs t.settings.shape numbers → h.book ≡ book0
+    → run_of t.settings t.serial o ≡ run_at t Phone → o.inputs ≡ phone_inputs t.settings.shape numbers → o.book ≡ book1
+    → EndsAs (run_after t 0 h o w.server w.phone) refused x w.messages u.messages
+unfolding refused_call
+run_ends t numbers book0 book1 w refused x u h o room p hr hi hb or oi ob =
+    let c = p.carries h o hr hi hb or oi ob in
+    let f = c.fits 0 (start_fits w.messages room) in
+    ends (run_after t 0 h o w.server w.phone) refused x u w.messages c.is (omega (arith, f.room)) c.size c.behind
 
 -- ---- The deal
 
@@ -145,48 +181,59 @@ same_books : (a : Shape) (keys0 keys1 draw b0 b1 : List ℕ) → length b0 ≡ b
 unfolding deal_no
 same_books a keys0 keys1 draw b0 b1 e f = rw (e, f, length-replicate {A = ℕ} (book_size a) 0)
 
-module _ (t : RunTerms) (numbers b0 b1 : List ℕ) (e0 : length b0 ≡ book_size t.settings.shape) (e1 : length b1 ≡ book_size t.settings.shape)
-    (refused : ℕ) (book0 book1 : List ℕ)
-    (deal : ◌≡◌ {A = Dealt} (record { refused = refused; server = book0; phone = book1 })
-    (deal_call key_count t.settings.shape t.keys0 t.keys1 (draw_in t.settings.shape numbers) b0 b1)) where
+module _ (t : RunTerms) (draw b0 b1 : List ℕ) (e0 : length b0 ≡ book_size t.settings.shape) (e1 : length b1 ≡ book_size t.settings.shape)
+    (number : ℕ) (book0 book1 : List ℕ)
+    (deal : ◌≡◌ {A = Dealt} (record { refused = number; server = book0; phone = book1 })
+    (deal_call key_count t.settings.shape t.keys0 t.keys1 draw b0 b1)) where
   abbrev asked : ℕ
-  asked = deal_no key_count t.settings.shape t.keys0 t.keys1 (draw_in t.settings.shape numbers) b0 b1
+  asked = deal_no key_count t.settings.shape t.keys0 t.keys1 draw b0 b1
 
-  refused_is : refused ≡ asked
+  number-is : number ≡ asked
   unfolding deal_call
-  refused_is = ap (λ (d : Dealt). d.refused) deal ∙ by asked (eqb asked 0) refl _ _ _ _
+  number-is = ap (λ (d : Dealt). d.refused) deal ∙ by asked (eqb asked 0) refl _ _ _ _
     where
       by : (n : ℕ) (b : Bool) → eqb n 0 ≡ b → (x y z w : List ℕ) → (cond {A = Dealt} b (record { refused = 0; server = x; phone = y }) (record { refused = n; server = z; phone = w })).refused ≡ n
       by n true e x y z w = sym (eqb-true n 0 e)
       by n false e x y z w = refl
 
-  no_is : refused ≡ deal_no_of t numbers
-  no_is = refused_is ∙ same_books t.settings.shape t.keys0 t.keys1 (draw_in t.settings.shape numbers) b0 b1 e0 e1
+  module _ (refused : Option RefusedCall) (answer : refused ≡ refused_call Deal Server number) where
+    none-asked : refused ≡ None → asked ≡ 0
+    none-asked e = sym number-is ∙ no-number Deal Server number (sym e ∙ answer)
 
-  started : (start_of refused).refusal.number ≡ 0 → asked ≡ 0
-  unfolding refusal_of
-  started z = by (is_zero asked)
-    where
-      by : Dec (asked ≡ 0) → asked ≡ 0
-      by (yes e) = e
-      by (no e) = absurd (e (rw (ne_eqb refused 0 (λ f. e (sym refused_is ∙ f)), refused_is) at z))
+    server-book : refused ≡ None → book0 ≡ book_of key_count t.settings 0 t.keys0 t.keys1 draw
+    unfolding deal_call
+    server-book e = ap (λ (x : Dealt). x.server) (rw (none-asked e) at deal)
 
-  server_book : (start_of refused).refusal.number ≡ 0 → (server_input t numbers).book ≡ book0
-  unfolding deal_call
-  server_book z = sym (ap (λ (x : Dealt). x.server) (rw (started z) at deal))
+    phone-book : refused ≡ None → book1 ≡ book_of key_count t.settings 1 t.keys0 t.keys1 draw
+    unfolding deal_call
+    phone-book e = ap (λ (x : Dealt). x.phone) (rw (none-asked e) at deal)
 
-  phone_book : (start_of refused).refusal.number ≡ 0 → (phone_input t numbers).book ≡ book1
-  unfolding deal_call
-  phone_book z = sym (ap (λ (x : Dealt). x.phone) (rw (started z) at deal))
+    -- the books stand in front of two arrays
+    pub deals : (all0 all1 : List ℕ) → take (book_size t.settings.shape) all0 ≡ book0 → take (book_size t.settings.shape) all1 ≡ book1 → Deals t draw refused all0 all1
+    deals all0 all1 f g =
+        record {
+          refused_is = answer ∙ ap (refused_call Deal Server) (number-is ∙ same_books t.settings.shape t.keys0 t.keys1 draw b0 b1 e0 e1);
+          server_is = λ e. f ∙ server-book e;
+          phone_is = λ e. g ∙ phone-book e;
+        }
 
-  pub whole_run : (work0 work1 : List ℕ) (r : Execution) (before after : List ℕ) → RunsFrom (start_of refused) t numbers book0 book1 work0 work1 r before after
-      → Executes (dealt_run t numbers work0 work1) r before after
-  whole_run work0 work1 r before after p =
-      rw (← no_is) (p.is (server_input t numbers) (phone_input t numbers) refl refl server_book refl refl phone_book)
+-- a deal that is refused
+pub deal-refused : (t : RunTerms) (numbers book0 book1 : List ℕ) (refusal : RefusedCall) (w : WorkSpace) → Deals t (draw_in t.settings.shape numbers) (Some refusal) book0 book1
+    → EndsAs (dealt_run t numbers w.server w.phone) (Some refusal) before_begin w.messages w.messages
+deal-refused t numbers book0 book1 refusal w d =
+    ends (dealt_run t numbers w.server w.phone) (Some refusal) before_begin w w.messages
+    (rw (← d.refused_is)
+    (sym (stopped_all t.settings t.serial (server_input t numbers) (phone_input t numbers) refusal (carried_of (Some refusal) before_begin w) run_calls refl)))
+    (omega arith) refl refl
 
-pub start_fits : (refused : ℕ) (bytes : List ℕ) → run_bytes ≤ length bytes → Fits (start_of refused) bytes (2 * rounds)
-start_fits refused bytes room =
-    record { server = record { begins = omega arith; ends = omega arith }; phone = record { begins = omega arith; ends = omega arith }; room = omega (arith, room) }
+pub dealt_ends : (t : RunTerms) (numbers book0 book1 : List ℕ) (w : WorkSpace) (refused : Option RefusedCall) (x : Execution) (u : WorkSpace)
+    → run_bytes ≤ length w.messages → Deals t (draw_in t.settings.shape numbers) None book0 book1
+    → Plays t numbers (take (book_size t.settings.shape) book0) (take (book_size t.settings.shape) book1) before_begin w refused x u
+    → EndsAs (dealt_run t numbers w.server w.phone) refused x w.messages u.messages
+dealt_ends t numbers book0 book1 w refused x u room d p =
+    let zero : deal_no_of t numbers ≡ 0 = no-number Deal Server (deal_no_of t numbers) d.refused_is in
+    rw zero
+    (run_ends t numbers _ _ w refused x u (server_input t numbers) (phone_input t numbers) room p refl refl (sym (d.server_is refl)) refl refl (sym (d.phone_is refl)))
 
 -- ---- Sizes
 

@@ -1,5 +1,6 @@
 -- A run carried through in order, up to the first refusal: the deal, or books in its place, both begins, and the seven rounds.
-use Rattle.std.specs.Prelude.{ℕ, zero, suc, ◌*◌, Bool, cond, ◌&&◌, List, [], ◌∷◌, ◌++◌, eqb, length, take, drop, replicate}
+use Rattle.std.specs.Prelude.{ℕ, zero, suc, ◌*◌, Bool, cond, ◌&&◌, Option, None, Some, List, [], ◌∷◌, ◌++◌, eqb, length, take, drop, replicate}
+use Rattle.std.specs.Option.{is_some}
 use Rattle.settings.specs.declared.Shape.{Shape}
 use Rattle.settings.specs.declared.Settings.{Settings}
 use Rattle.settings.specs.Questions.{shape_ok}
@@ -7,13 +8,15 @@ use Rattle.settings.specs.Sizes.{key_count, most_bytes, book_size, input_size}
 use Rattle.settings.specs.Schedule.{rounds}
 use Rattle.dealer.specs.Deal.{deal_no}
 use Rattle.state.specs.State.{fresh_side}
-use Rattle.runs.specs.Records.{PartyInput, PartyState, JointState, Party, Call, ScheduledCall, Observation, Outcome, party_input, outcome, step}
+use Rattle.runs.specs.Records.{PartyInput, PartyState, JointState, Party as Role, Call, ScheduledCall, Observation, Outcome, party_input, outcome, step}
 use Rattle.runs.specs.Records.Party.{observer, peer}
 use Rattle.runs.specs.Records.Call.{begin, send, take_latest}
 use Rattle.runs.specs.Records.Observation.{began, sent, took, answered, counted}
-use Rattle.runs.specs.Demands.{scheduled, party_number}
+use Rattle.runs.specs.Demands.{scheduled}
 use Rattle.execution.specs.declared.RunTerms.{RunTerms}
-use Rattle.execution.specs.declared.Refusal.{Refusal}
+use Rattle.execution.specs.declared.RefusedCall.{RefusedCall}
+use Rattle.execution.specs.declared.Party.{Party}
+use Rattle.execution.specs.declared.Party.TheVariants.{Server, Phone}
 use Rattle.execution.specs.declared.CallKind.{CallKind}
 use Rattle.execution.specs.declared.CallKind.TheVariants.{Deal, Begin, Send, Take, Answer}
 
@@ -36,22 +39,29 @@ round_calls (suc n) =
 abbrev pub run_calls : List ScheduledCall
 run_calls = scheduled observer begin ∷ scheduled peer begin ∷ round_calls rounds
 
--- ---- Refusals
+-- ---- Parties and refusals
 
--- the call, the party (0 server or dealer, 1 phone) and the number of the first no; number 0: no refusal
-abbrev pub no_refusal : Refusal
-no_refusal = record { call = Deal; party = 0; number = 0 }
+-- how the sides are numbered
+abbrev pub number_of : Party → ℕ
+number_of Server = 0
+number_of Phone = 1
 
-unfoldable pub refusal_of : CallKind → ℕ → ℕ → Refusal
-refusal_of call party number = cond (eqb number 0) no_refusal (record { call = call; party = party; number = number })
+-- the observer is the server, the peer the phone
+abbrev pub played_by : Role → Party
+played_by observer = Server
+played_by peer = Phone
+
+-- the call, the party (the server for the dealer) and the number of the first no; number 0: no refusal
+unfoldable pub refused_call : CallKind → Party → ℕ → Option RefusedCall
+refused_call call party number = cond (eqb number 0) None (Some (record { call = call; party = party; number = number }))
 
 -- what a party's call adds to its record, as a refusal, and as a message sent
-abbrev pub refusal_in : ℕ → Observation → Refusal
-refusal_in party (began r) = refusal_of Begin party r
-refusal_in party (sent r m) = refusal_of Send party r
-refusal_in party (took r m) = refusal_of Take party r
-refusal_in party (answered r ns) = refusal_of Answer party r
-refusal_in party (counted n) = no_refusal
+abbrev pub refused_in : Party → Observation → Option RefusedCall
+refused_in party (began r) = refused_call Begin party r
+refused_in party (sent r m) = refused_call Send party r
+refused_in party (took r m) = refused_call Take party r
+refused_in party (answered r ns) = refused_call Answer party r
+refused_in party (counted n) = None
 
 abbrev pub message_in : Observation → List ℕ
 message_in (began r) = []
@@ -64,28 +74,28 @@ message_in (counted n) = []
 
 -- the first refusal, both parties, and all messages sent, one behind the other
 pub record Carried : Type 0 where
-  pub refusal : Refusal
+  pub refused : Option RefusedCall
   pub parties : JointState
   pub messages : List ℕ
 
 -- own: what the server's begin is handed; other: the phone's
 module _ (s : Settings) (serial : ℕ) (own other : PartyInput) where
   -- what a call gives at its party
-  unfoldable pub outcome_at : JointState → Party → Call → Outcome
+  unfoldable pub outcome_at : JointState → Role → Call → Outcome
   outcome_at w observer call = outcome key_count s serial own w.peer.latest w.observer call
   outcome_at w peer call = outcome key_count s serial other w.observer.latest w.peer call
 
   -- one call more, unless one was refused
-  unfoldable pub carry : Carried → Party → Call → Carried
-  carry x party call =
-      let event = (outcome_at x.parties party call).observation in
-      cond (eqb x.refusal.number 0)
+  unfoldable pub carry : Carried → Role → Call → Carried
+  carry x role call =
+      let event = (outcome_at x.parties role call).observation in
+      cond (is_some x.refused)
+      x
       (record {
-        refusal = refusal_in (party_number party) event;
-        parties = step key_count s serial own other x.parties party call;
+        refused = refused_in (played_by role) event;
+        parties = step key_count s serial own other x.parties role call;
         messages = x.messages ++ message_in event;
       })
-      x
 
   unfoldable pub carry_all : Carried → List ScheduledCall → Carried
   carry_all x [] = x
@@ -136,9 +146,9 @@ abbrev pub fresh_party : List ℕ → PartyState
 fresh_party work = record { side = fresh_side; work = work; latest = [] }
 
 -- after a deal, before the first begin, with the server's working slice and the phone's
-abbrev pub not_begun : Refusal → List ℕ → List ℕ → Carried
-not_begun refusal work0 work1 =
-    record { refusal = refusal; parties = record { observer = fresh_party work0; peer = fresh_party work1 }; messages = [] }
+abbrev pub not_begun : Option RefusedCall → List ℕ → List ℕ → Carried
+not_begun refused work0 work1 =
+    record { refused = refused; parties = record { observer = fresh_party work0; peer = fresh_party work1 }; messages = [] }
 
 -- the first no of the deal, whose lent books have the size that the shape asks for
 abbrev pub deal_no_of : RunTerms → List ℕ → ℕ
@@ -149,7 +159,7 @@ deal_no_of terms numbers =
 -- begun by both, the server first, and carried from round to round, after a deal that gave this answer
 abbrev pub run_after : RunTerms → ℕ → PartyInput → PartyInput → List ℕ → List ℕ → Carried
 run_after terms dealt own other work0 work1 =
-    carry_all terms.settings terms.serial own other (not_begun (refusal_of Deal 0 dealt) work0 work1) run_calls
+    carry_all terms.settings terms.serial own other (not_begun (refused_call Deal Server dealt) work0 work1) run_calls
 
 abbrev pub dealt_run : RunTerms → List ℕ → List ℕ → List ℕ → Carried
 dealt_run terms numbers work0 work1 =

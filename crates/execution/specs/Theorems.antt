@@ -1,15 +1,15 @@
 -- What is proved of a run carried through, as a type.
-use Rattle.std.specs.Prelude.{ℕ, ◌≡◌, List, [], length}
+use Rattle.std.specs.Prelude.{ℕ, ◌≡◌, None, List, [], length}
 use Rattle.settings.specs.declared.Settings.{Settings}
 use Rattle.settings.specs.Sizes.{key_count, draw_size}
 use Rattle.runs.specs.Records.{JointState}
 use Rattle.runs.specs.Demands.{Fixed, Secret, Shares, Possible, Start, observer_input, peer_input, Ended}
 use Rattle.execution.specs.declared.RunTerms.{RunTerms}
-use Rattle.execution.specs.Execution.{Carried, no_refusal, run_calls, carry_all, draw_in, dealt_run, executed}
+use Rattle.execution.specs.Execution.{Carried, run_calls, carry_all, draw_in, dealt_run, executed}
 
 -- an honest run is refused nowhere, and ends at both sides with the answer by the plain meaning
 pub record GoesThrough (s : Settings) (secret : List ℕ) (x : Carried) : Type 0 where
-  pub accepted : x.refusal ≡ no_refusal
+  pub accepted : x.refused ≡ None
   pub server : Ended s secret x.parties.observer
   pub phone : Ended s secret x.parties.peer
 
@@ -25,7 +25,7 @@ HonestRunGoesThrough =
     → Start key_count serial w
     → GoesThrough s secret
     (carry_all s serial (observer_input key_count s 0 keys0 keys1 inputs draw) (peer_input key_count s 0 keys0 keys1 inputs secret draw)
-    (record { refusal = no_refusal; parties = w; messages = [] }) run_calls)
+    (record { refused = None; parties = w; messages = [] }) run_calls)
 
 -- a draw of the asked length is never taken for books
 abbrev pub DrawIsDealt : Type 0

@@ -2,16 +2,16 @@
 // refusal. It gives back every message, both sides and the refusal.
 #![tactic(auto)]
 
-ghost use Rattle.std.specs.Prelude.{◌≡◌, ◌+◌, ◌*◌, ◌≤◌, length};
+ghost use Rattle.std.specs.Prelude.{◌≡◌, ◌+◌, ◌*◌, ◌≤◌, length, slice_range};
+ghost use Rattle.std.specs.Result.{result_err};
 ghost use Rattle.settings.specs.Sizes.{key_count, most_bytes, book_size};
 ghost use Rattle.settings.specs.Schedule.{rounds};
-ghost use Rattle.execution.specs.Execution.{no_refusal, refusal_of, draw_in, books_given, dealt_run, given_run, executed};
-ghost use Rattle.execution.specs.Held.{Stands, Fits, run_at, silent_endpoint, start_of, ServerBegins, PhoneBegins, SendsAt, ServerSends, PhoneSends, PhoneTakes};
-ghost use Rattle.execution.specs.Held.{ServerTakes, RoundsRun, run_bytes, book_length, CutsAt, Executes, RunsFrom};
+ghost use Rattle.side.specs.Side.{begin_call, take_call};
+ghost use Rattle.execution.specs.Execution.{number_of, refused_call, draw_in, books_given, dealt_run, given_run, executed};
+ghost use Rattle.execution.specs.Held.{Stands, Fits, run_at, before_begin, LeftBy, SendsAt, RoundsRun, Plays, book_length, CutsAt, Deals, EndsAs, Executes};
 
 use dealer::deal;
-use lists::least;
-use settings::{KEYS, MOST_BYTES, ROUNDS, Settings, Shape, WIDTH, book_size, input_size, shape_no};
+use settings::{KEYS, MOST_BYTES, ROUNDS, Settings, Shape, WIDTH, WORK_LENGTH, book_size, input_size, shape_no};
 use side::{Run, begin, send, take};
 use state::{Side, fresh};
 
@@ -30,7 +30,7 @@ pub struct RunTerms {
 }
 
 // The calls that can refuse.
-#[derive(Clone, Copy)]
+#[derive(Clone, Copy, Debug, PartialEq, Eq)]
 pub enum CallKind {
     Deal,
     Begin,
@@ -39,11 +39,18 @@ pub enum CallKind {
     Answer,
 }
 
-// The call that refused, its party (0 server or dealer, 1 phone), and the number of the first no; number 0: no call has refused.
-#[derive(Clone, Copy)]
-pub struct Refusal {
+// The server, which stands for the dealer too, and the phone.
+#[derive(Clone, Copy, Debug, PartialEq, Eq)]
+pub enum Party {
+    Server,
+    Phone,
+}
+
+// A call that refused, its party, and the number of its first no.
+#[derive(Clone, Copy, Debug, PartialEq, Eq)]
+pub struct RefusedCall {
     pub call: CallKind,
-    pub party: u32,
+    pub party: Party,
     pub number: u32,
 }
 
@@ -55,291 +62,154 @@ pub struct Endpoint {
     pub to: usize,
 }
 
-// How far a run has come: the first refusal, both sides, and how many bytes all messages have so far.
+// How far a run has come: both sides, and how many bytes all messages have so far; at its end, the first refusal.
 #[derive(Clone, Copy)]
 pub struct Execution {
-    pub refusal: Refusal,
+    pub refused: Option<RefusedCall>,
     pub server: Endpoint,
     pub phone: Endpoint,
     pub length: usize,
 }
 
-// ---- Refusals
+// ---- What is lent to a run
 
-fn no_refusal() -> Refusal
-    ensures { result ≡ no_refusal }
-{
-    Refusal {
-        call: CallKind::Deal,
-        party: 0,
-        number: 0,
+// The two books of a deal, each in front of its array.
+#[derive(Drop)]
+pub struct Books {
+    pub server: [u32; BOOK_LENGTH],
+    pub phone: [u32; BOOK_LENGTH],
+}
+
+// What each side works in, and all messages, one behind the other.
+#[derive(Drop)]
+pub struct WorkSpace {
+    pub server: [u32; WORK_LENGTH],
+    pub phone: [u32; WORK_LENGTH],
+    pub messages: [u8; RUN_BYTES],
+}
+
+// Both. It may hold anything before a run: what a run reads of it it has written. So a caller makes one and lends it to one run after another;
+// of what books and working slices hold afterwards it is told nothing.
+#[derive(Drop)]
+pub struct RunSpace {
+    pub books: Books,
+    pub work: WorkSpace,
+}
+
+impl RunSpace {
+    pub fn new() -> RunSpace {
+        RunSpace {
+            books: Books {
+                server: [0; BOOK_LENGTH],
+                phone: [0; BOOK_LENGTH],
+            },
+            work: WorkSpace {
+                server: [0; WORK_LENGTH],
+                phone: [0; WORK_LENGTH],
+                messages: [0; RUN_BYTES],
+            },
+        }
     }
 }
 
-// A call's answer as a refusal.
-fn refusal_of(call: CallKind, party: u32, number: u32) -> Refusal
-    ensures { result ≡ refusal_of call party number }
+// ---- Parties and refusals
+
+impl Party {
+    // As the sides are numbered.
+    pub fn number(self) -> u32
+        ensures { result ≡ number_of self }
+    {
+        match self {
+            Party::Server => 0,
+            Party::Phone => 1,
+        }
+    }
+}
+
+// A call's answer, from the number of its first no, or 0.
+#[tactic(auto, unfolding(crate::specs::Execution::refused_call))]
+fn answer_of(call: CallKind, party: Party, number: u32) -> Result<(), RefusedCall>
+    ensures { result_err result ≡ refused_call call party number }
 {
     if number == 0 {
-        return no_refusal();
+        return Ok(());
     }
-    Refusal {
+    Err(RefusedCall {
         call,
         party,
         number,
-    }
+    })
 }
 
-// ---- Begin
+// ---- The calls of one side
 
-// The run that a side begins.
-fn run_at(terms: RunTerms, number: u32) -> Run
-    ensures { result ≡ run_at terms number }
+// The run that a party begins.
+fn run_at(terms: RunTerms, party: Party) -> Run
+    ensures { result ≡ run_at terms party }
 {
-    let settings = terms.settings;
-    let mut keys = terms.keys0;
-    if number != 0 {
-        keys = terms.keys1;
-    }
+    let keys = match party {
+        Party::Server => terms.keys0,
+        Party::Phone => terms.keys1,
+    };
     Run {
-        number,
-        settings,
+        number: party.number(),
+        settings: terms.settings,
         keys,
         serial: terms.serial,
     }
 }
 
-// A side that has sent nothing.
-fn silent(side: Side) -> Endpoint
-    ensures { result ≡ silent_endpoint side }
+// A party's side begins.
+fn begin_at(
+    e: &mut Endpoint,
+    party: Party,
+    run: Run,
+    inputs: &[u32],
+    book: &[u32],
+    work: &mut [u32],
+) -> Result<(), RefusedCall>
+    ensures { LeftBy CallKind.Begin party (begin_call key_count e.old.side run inputs.now book.now work.old) e.old (result_err result) e.new work.new }
 {
-    Endpoint {
-        side,
-        from: 0,
-        to: 0,
-    }
+    let done = begin(e.side, run, inputs, book, work);
+    e.side = done.side;
+    answer_of(CallKind::Begin, party, done.refused)
 }
 
-// Before the first begin, after a deal that gave this answer.
-fn start(refused: u32) -> Execution
-    ensures { result ≡ start_of refused }
+// It sends, behind the messages so far, of which there are `total` bytes.
+fn send_at(
+    e: &mut Endpoint,
+    party: Party,
+    work: &[u32],
+    messages: &mut [u8],
+    total: &mut usize,
+) -> Result<(), RefusedCall>
+    requires { Stands e.old.from e.old.to total.old × (total.old + most_bytes key_count ≤ length messages.old) }
+    ensures { SendsAt party e.old work.now messages.old total.old (result_err result) e.new total.new messages.new }
 {
-    let server = silent(fresh());
-    let phone = silent(fresh());
-    Execution {
-        refusal: refusal_of(CallKind::Deal, 0, refused),
-        server,
-        phone,
-        length: 0,
-    }
+    let at = *total;
+    let sent = send(e.side, work, &mut messages[at..]);
+    e.side = sent.side;
+    answer_of(CallKind::Send, party, sent.refused)?;
+    e.from = at;
+    e.to = at + sent.length;
+    *total = at + sent.length;
+    Ok(())
 }
 
-// The server begins.
-fn begin_server(x: Execution, run: Run, inputs: &[u32], book: &[u32], work: &mut [u32]) -> Execution
-    ensures { ServerBegins x run inputs.now book.now work.old result work.new }
+// It takes the latest message of the other party.
+fn take_at(
+    e: &mut Endpoint,
+    party: Party,
+    work: &mut [u32],
+    heard: Endpoint,
+    messages: &[u8],
+) -> Result<(), RefusedCall>
+    requires { Stands heard.from heard.to (length messages.now) }
+    ensures { LeftBy CallKind.Take party (take_call key_count e.old.side work.old (slice_range messages.now heard.from heard.to)) e.old (result_err result) e.new work.new }
 {
-    if x.refusal.number != 0 {
-        return x;
-    }
-    let phone = x.phone;
-    let before = x.server;
-    let side = before.side;
-    let done = begin(side, run, inputs, book, work);
-    let begun = done.side;
-    Execution {
-        refusal: refusal_of(CallKind::Begin, 0, done.refused),
-        server: Endpoint {
-            side: begun,
-            from: before.from,
-            to: before.to,
-        },
-        phone,
-        length: x.length,
-    }
-}
-
-// The phone begins.
-fn begin_phone(x: Execution, run: Run, inputs: &[u32], book: &[u32], work: &mut [u32]) -> Execution
-    ensures { PhoneBegins x run inputs.now book.now work.old result work.new }
-{
-    if x.refusal.number != 0 {
-        return x;
-    }
-    let server = x.server;
-    let before = x.phone;
-    let side = before.side;
-    let done = begin(side, run, inputs, book, work);
-    let begun = done.side;
-    Execution {
-        refusal: refusal_of(CallKind::Begin, 1, done.refused),
-        server,
-        phone: Endpoint {
-            side: begun,
-            from: before.from,
-            to: before.to,
-        },
-        length: x.length,
-    }
-}
-
-// ---- The rounds
-
-// What a send leaves: its refusal, the endpoint, and how many bytes all messages have.
-#[derive(Clone, Copy)]
-struct SendStep {
-    refused: u32,
-    endpoint: Endpoint,
-    length: usize,
-}
-
-// One side sends, behind the first `at` bytes of the messages.
-fn send_at(e: Endpoint, work: &[u32], messages: &mut [u8], at: usize) -> SendStep
-    requires { Stands e.from e.to at × (at + most_bytes key_count ≤ length messages.old) }
-    ensures { SendsAt e work.now messages.old at result messages.new }
-{
-    let before = e.side;
-    let sent = send(before, work, &mut messages[at..]);
-    let side = sent.side;
-    if sent.refused != 0 {
-        return SendStep {
-            refused: sent.refused,
-            endpoint: Endpoint {
-                side,
-                from: e.from,
-                to: e.to,
-            },
-            length: at,
-        };
-    }
-    let end = at + sent.length;
-    SendStep {
-        refused: 0,
-        endpoint: Endpoint {
-            side,
-            from: at,
-            to: end,
-        },
-        length: end,
-    }
-}
-
-// The server sends.
-fn server_send(x: Execution, work: &[u32], messages: &mut [u8]) -> Execution
-    requires { Fits x messages.old 1 }
-    ensures { ServerSends x work.now messages.old result messages.new }
-{
-    if x.refusal.number != 0 {
-        return x;
-    }
-    let before = x.server;
-    let phone = x.phone;
-    let step = send_at(before, work, messages, x.length);
-    let server = step.endpoint;
-    Execution {
-        refusal: refusal_of(CallKind::Send, 0, step.refused),
-        server,
-        phone,
-        length: step.length,
-    }
-}
-
-// The phone sends.
-fn phone_send(x: Execution, work: &[u32], messages: &mut [u8]) -> Execution
-    requires { Fits x messages.old 1 }
-    ensures { PhoneSends x work.now messages.old result messages.new }
-{
-    if x.refusal.number != 0 {
-        return x;
-    }
-    let before = x.phone;
-    let server = x.server;
-    let step = send_at(before, work, messages, x.length);
-    let phone = step.endpoint;
-    Execution {
-        refusal: refusal_of(CallKind::Send, 1, step.refused),
-        server,
-        phone,
-        length: step.length,
-    }
-}
-
-// The phone takes the server's latest message.
-fn phone_take(x: Execution, work: &mut [u32], messages: &[u8]) -> Execution
-    requires { Fits x messages.now 0 }
-    ensures { PhoneTakes x work.old messages.now result work.new }
-{
-    if x.refusal.number != 0 {
-        return x;
-    }
-    let server = x.server;
-    let from = server.from;
-    let to = server.to;
-    let before = x.phone;
-    let side = before.side;
-    let done = take(side, work, &messages[from..to]);
-    let taken = done.side;
-    Execution {
-        refusal: refusal_of(CallKind::Take, 1, done.refused),
-        server,
-        phone: Endpoint {
-            side: taken,
-            from: before.from,
-            to: before.to,
-        },
-        length: x.length,
-    }
-}
-
-// The server takes the phone's latest message.
-fn server_take(x: Execution, work: &mut [u32], messages: &[u8]) -> Execution
-    requires { Fits x messages.now 0 }
-    ensures { ServerTakes x work.old messages.now result work.new }
-{
-    if x.refusal.number != 0 {
-        return x;
-    }
-    let phone = x.phone;
-    let from = phone.from;
-    let to = phone.to;
-    let before = x.server;
-    let side = before.side;
-    let done = take(side, work, &messages[from..to]);
-    let taken = done.side;
-    Execution {
-        refusal: refusal_of(CallKind::Take, 0, done.refused),
-        server: Endpoint {
-            side: taken,
-            from: before.from,
-            to: before.to,
-        },
-        phone,
-        length: x.length,
-    }
-}
-
-// One round: the server sends and the phone takes, then the phone sends and the server takes.
-fn run_round(x: Execution, server: &mut [u32], phone: &mut [u32], messages: &mut [u8]) -> Execution
-    requires { Fits x messages.old 2 }
-    ensures { RoundsRun 1 x server.old phone.old messages.old result server.new phone.new messages.new }
-{
-    let sent = server_send(x, server, messages);
-    let taken = phone_take(sent, phone, messages);
-    let answered = phone_send(taken, phone, messages);
-    server_take(answered, server, messages)
-}
-
-// The seven rounds.
-fn run_rounds(x: Execution, server: &mut [u32], phone: &mut [u32], messages: &mut [u8]) -> Execution
-    requires { Fits x messages.old (2 * rounds) }
-    ensures { RoundsRun rounds x server.old phone.old messages.old result server.new phone.new messages.new }
-{
-    let mut at = x;
-    let mut round: u32 = 0;
-    while round < ROUNDS {
-        at = run_round(at, server, phone, messages);
-        round += 1;
-    }
-    at
+    let done = take(e.side, work, &messages[heard.from..heard.to]);
+    e.side = done.side;
+    answer_of(CallKind::Take, party, done.refused)
 }
 
 // ---- The whole run
@@ -356,83 +226,163 @@ fn cuts_of(shape: Shape, count: usize) -> Cuts
     ensures { CutsAt shape count result }
 {
     let size = input_size(shape);
-    let phone = least(size, count);
+    let phone = size.min(count);
     Cuts {
         phone,
-        draw: phone + least(size, count - phone),
+        draw: phone + size.min(count - phone),
     }
 }
 
-// Both sides begin with their parts of the numbers and their books, unless the deal was refused, and go through the rounds.
-fn begin_and_run(
-    dealt: Execution,
-    terms: RunTerms,
-    numbers: &[u32],
-    book0: &[u32],
-    book1: &[u32],
-    work0: &mut [u32],
-    work1: &mut [u32],
-    messages: &mut [u8],
-) -> Execution
-    requires { Fits dealt messages.old (2 * rounds) }
-    ensures { RunsFrom dealt terms numbers.now book0.now book1.now work0.old work1.old result messages.old messages.new }
-{
-    let cuts = cuts_of(terms.settings.shape, numbers.len());
-    let first = cuts.phone;
-    let second = cuts.draw;
-    let run0 = run_at(terms, 0);
-    let run1 = run_at(terms, 1);
-    let one = begin_server(dealt, run0, &numbers[..first], book0, work0);
-    let both = begin_phone(one, run1, &numbers[first..second], book1, work1);
-    run_rounds(both, work0, work1, messages)
-}
-
-// The run with a deal into lent books of the size that the shape asks for.
-fn deal_and_run(
-    terms: RunTerms,
-    numbers: &[u32],
-    book0: &mut [u32],
-    book1: &mut [u32],
-    work0: &mut [u32],
-    work1: &mut [u32],
-    messages: &mut [u8],
-) -> Execution
-    requires { (length book0.old ≡ book_size terms.settings.shape) × (length book1.old ≡ book_size terms.settings.shape) × (run_bytes ≤ length messages.old) }
-    ensures { Executes (dealt_run terms numbers.now work0.old work1.old) result messages.old messages.new }
+// Deals into the front of two lent books.
+fn deal_at(terms: RunTerms, draw: &[u32], book0: &mut [u32], book1: &mut [u32]) -> Result<(), RefusedCall>
+    requires { (book_length ≤ length book0.old) × (book_length ≤ length book1.old) }
+    ensures { Deals terms draw.now (result_err result) book0.new book1.new }
 {
     let shape = terms.settings.shape;
-    let keys0 = terms.keys0;
-    let keys1 = terms.keys1;
-    let cuts = cuts_of(shape, numbers.len());
-    let second = cuts.draw;
-    let refused = deal(shape, keys0, keys1, &numbers[second..], book0, book1);
-    let dealt = start(refused);
-    begin_and_run(dealt, terms, numbers, book0, book1, work0, work1, messages)
-}
-
-// The run with a deal, in front of lent books.
-fn execute_dealt(
-    terms: RunTerms,
-    numbers: &[u32],
-    book0: &mut [u32],
-    book1: &mut [u32],
-    work0: &mut [u32],
-    work1: &mut [u32],
-    messages: &mut [u8],
-) -> Execution
-    requires { (book_length ≤ length book0.old) × (book_length ≤ length book1.old) × (run_bytes ≤ length messages.old) }
-    ensures { Executes (dealt_run terms numbers.now work0.old work1.old) result messages.old messages.new }
-{
-    let size = book_size(terms.settings.shape);
-    deal_and_run(
-        terms,
-        numbers,
+    let size = book_size(shape);
+    let refused = deal(
+        shape,
+        terms.keys0,
+        terms.keys1,
+        draw,
         &mut book0[..size],
         &mut book1[..size],
-        work0,
-        work1,
-        messages,
-    )
+    );
+    answer_of(CallKind::Deal, Party::Server, refused)
+}
+
+impl Execution {
+    // Before the first begin.
+    fn new() -> Execution
+        ensures { result ≡ before_begin }
+    {
+        let silent = Endpoint {
+            side: fresh(),
+            from: 0,
+            to: 0,
+        };
+        Execution {
+            refused: None,
+            server: silent,
+            phone: silent,
+            length: 0,
+        }
+    }
+
+    // One round: the server sends and the phone takes, then the phone sends and the server takes.
+    fn run_round(&mut self, space: &mut WorkSpace) -> Result<(), RefusedCall>
+        requires { Fits self.old space.old.messages 2 }
+        ensures { RoundsRun 1 self.old space.old (result_err result) self.new space.new }
+    {
+        send_at(
+            &mut self.server,
+            Party::Server,
+            &space.server,
+            &mut space.messages,
+            &mut self.length,
+        )?;
+        let heard = self.server;
+        take_at(
+            &mut self.phone,
+            Party::Phone,
+            &mut space.phone,
+            heard,
+            &space.messages,
+        )?;
+        send_at(
+            &mut self.phone,
+            Party::Phone,
+            &space.phone,
+            &mut space.messages,
+            &mut self.length,
+        )?;
+        let answered = self.phone;
+        take_at(
+            &mut self.server,
+            Party::Server,
+            &mut space.server,
+            answered,
+            &space.messages,
+        )
+    }
+
+    // The seven rounds.
+    fn run_rounds(&mut self, space: &mut WorkSpace) -> Result<(), RefusedCall>
+        requires { Fits self.old space.old.messages (2 * rounds) }
+        ensures { RoundsRun rounds self.old space.old (result_err result) self.new space.new }
+    {
+        for _ in 0..ROUNDS {
+            self.run_round(space)?;
+        }
+        Ok(())
+    }
+
+    // Both sides begin with their parts of the numbers and their books, and go through the rounds.
+    fn play(
+        &mut self,
+        terms: RunTerms,
+        numbers: &[u32],
+        book0: &[u32],
+        book1: &[u32],
+        space: &mut WorkSpace,
+    ) -> Result<(), RefusedCall>
+        requires { Fits self.old space.old.messages (2 * rounds) }
+        ensures { Plays terms numbers.now book0.now book1.now self.old space.old (result_err result) self.new space.new }
+    {
+        let cuts = cuts_of(terms.settings.shape, numbers.len());
+        let first = cuts.phone;
+        let second = cuts.draw;
+        begin_at(
+            &mut self.server,
+            Party::Server,
+            run_at(terms, Party::Server),
+            &numbers[..first],
+            book0,
+            &mut space.server,
+        )?;
+        begin_at(
+            &mut self.phone,
+            Party::Phone,
+            run_at(terms, Party::Phone),
+            &numbers[first..second],
+            book1,
+            &mut space.phone,
+        )?;
+        self.run_rounds(space)
+    }
+
+    // The deal, and the run with its books.
+    fn deal_and_play(
+        &mut self,
+        terms: RunTerms,
+        numbers: &[u32],
+        books: &mut Books,
+        space: &mut WorkSpace,
+    ) -> Result<(), RefusedCall>
+        requires { Fits self.old space.old.messages (2 * rounds) }
+        ensures { self.old ≡ before_begin → EndsAs (dealt_run terms numbers.now space.old.server space.old.phone) (result_err result) self.new space.old.messages space.new.messages }
+    {
+        let shape = terms.settings.shape;
+        let size = book_size(shape);
+        let draw = cuts_of(shape, numbers.len()).draw;
+        deal_at(terms, &numbers[draw..], &mut books.server, &mut books.phone)?;
+        self.play(
+            terms,
+            numbers,
+            &books.server[..size],
+            &books.phone[..size],
+            space,
+        )
+    }
+}
+
+// The run with a deal.
+fn execute_dealt(terms: RunTerms, numbers: &[u32], books: &mut Books, space: &mut WorkSpace) -> Execution
+    ensures { Executes (dealt_run terms numbers.now space.old.server space.old.phone) result space.old.messages space.new.messages }
+{
+    let mut x = Execution::new();
+    x.refused = x.deal_and_play(terms, numbers, books, space).err();
+    x
 }
 
 // ---- Books in place of a draw
@@ -449,50 +399,34 @@ fn books_given(shape: Shape, numbers: &[u32]) -> bool
 }
 
 // The run with the books that stand among the numbers.
-fn execute_given(
-    terms: RunTerms,
-    numbers: &[u32],
-    work0: &mut [u32],
-    work1: &mut [u32],
-    messages: &mut [u8],
-) -> Execution
-    requires { (length (draw_in terms.settings.shape numbers.now) ≡ 2 * book_size terms.settings.shape) × (run_bytes ≤ length messages.old) }
-    ensures { Executes (given_run terms numbers.now work0.old work1.old) result messages.old messages.new }
+fn execute_given(terms: RunTerms, numbers: &[u32], space: &mut WorkSpace) -> Execution
+    requires { length (draw_in terms.settings.shape numbers.now) ≡ 2 * book_size terms.settings.shape }
+    ensures { Executes (given_run terms numbers.now space.old.server space.old.phone) result space.old.messages space.new.messages }
 {
     let shape = terms.settings.shape;
-    let cuts = cuts_of(shape, numbers.len());
-    let first = cuts.draw;
+    let first = cuts_of(shape, numbers.len()).draw;
     let second = first + book_size(shape);
-    let book0 = &numbers[first..second];
-    let book1 = &numbers[second..];
-    let ready = start(0);
-    begin_and_run(ready, terms, numbers, book0, book1, work0, work1, messages)
+    let mut x = Execution::new();
+    x.refused = x.play(
+        terms,
+        numbers,
+        &numbers[first..second],
+        &numbers[second..],
+        space,
+    ).err();
+    x
 }
 
 // ---- Either
 
 // The run of these terms. The numbers are the server's inputs, the phone's inputs and the draw; where exactly as many are left as two books
 // have, the server's book and the phone's, and nothing is dealt. Where some are missing, the calls are handed what there is. At the end all
-// messages stand in front of `messages`, one behind the other; the caller lends RUN_BYTES bytes.
-//
-// The books are dealt into the front of two lent slices of BOOK_LENGTH numbers, and each side works in a lent slice of WORK_LENGTH (its begin
-// refuses any other length). All may hold anything before: what a run reads of them it has written. So a caller can lend the same slices to one
-// run after another; of what books and working slices hold afterwards it is told nothing. (A struct that holds `&mut` slices has no supported
-// proofs, and two parts of one slice cannot be lent at a time: hence a parameter for each.)
-pub fn execute(
-    terms: RunTerms,
-    numbers: &[u32],
-    book0: &mut [u32],
-    book1: &mut [u32],
-    work0: &mut [u32],
-    work1: &mut [u32],
-    messages: &mut [u8],
-) -> Execution
-    requires { (book_length ≤ length book0.old) × (book_length ≤ length book1.old) × (run_bytes ≤ length messages.old) }
-    ensures { Executes (executed terms numbers.now work0.old work1.old) result messages.old messages.new }
+// messages stand in front of `space.work.messages`, one behind the other.
+pub fn execute(terms: RunTerms, numbers: &[u32], space: &mut RunSpace) -> Execution
+    ensures { Executes (executed terms numbers.now space.old.work.server space.old.work.phone) result space.old.work.messages space.new.work.messages }
 {
     if books_given(terms.settings.shape, numbers) {
-        return execute_given(terms, numbers, work0, work1, messages);
+        return execute_given(terms, numbers, &mut space.work);
     }
-    execute_dealt(terms, numbers, book0, book1, work0, work1, messages)
+    execute_dealt(terms, numbers, &mut space.books, &mut space.work)
 }
