@@ -12,6 +12,7 @@ use Rattle.steps.specs.Context.{split_place, split_in}
 use Rattle.steps.specs.Gates.{gate_at, open_u, open_v}
 use Rattle.column.specs.declared.choice.ColumnChoice.{ColumnChoice}
 use Rattle.column.specs.declared.choice.ChosenColumns.{ChosenColumns}
+use Rattle.column.specs.declared.numbers.RoundNumbers.{RoundNumbers}
 use Rattle.column.specs.Choice.{column_at}
 
 -- ---- One number in each column
@@ -50,6 +51,10 @@ slot g = 8 * (g % 2) + g / 2
 abbrev pub RegistersHeld : Public → ℕ → (ℕ → ℕ) → List ℕ → List ℕ → ℕ → List ℕ → Type 0
 RegistersHeld w round opened κs work gates next =
     (c g : ℕ) → c < length κs → g < gates → get_or next (16 * c + slot g) 0 ≡ running_on w round opened (get_or κs c 0) (column work c) (g % 2) (g / 2)
+
+-- the same of the lent lists
+abbrev pub Made : Public → ℕ → RoundNumbers → ℕ → List ℕ → Type 0
+Made w round numbers gates next = RegistersHeld w round (λ (o : ℕ). get_or numbers.opened.now o 0) numbers.weights.now numbers.work.now gates next
 
 -- a side's own numbers for the two openings of each gate of a round, as the gates themselves have them
 abbrev pub GatesHeld : Context → List ℕ → List ℕ → List ℕ → Type 0

@@ -2,5 +2,6 @@
 pub mod Run
 pub mod Clear
 pub mod Choice
+pub mod Numbers
 pub mod Held
 pub mod Theorems

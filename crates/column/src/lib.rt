@@ -15,12 +15,14 @@ ghost use Rattle.slice.specs.Layout.{own_at, running_at, column, masked_in};
 ghost use Rattle.steps.specs.Work.{opening_on, running_on, taken_columns, taken_work};
 ghost use Rattle.steps.specs.Context.{public_by, ContextOf, SplitsBelow};
 ghost use Rattle.steps.specs.Gates.{GateFits, TermsFit, Listed, sum_form, open_u, open_v, result_form};
-ghost use Rattle.column.specs.Held.{Prepared, HeldAll, RegistersHeld, GatesHeld, sums_top, RoundList, masked_after, Gives};
+ghost use Rattle.column.specs.Held.{Prepared, HeldAll, RegistersHeld, Made, GatesHeld, sums_top, RoundList, masked_after, Gives};
 
 mod choice;
+mod numbers;
 
 pub use choice::{ChosenColumns, ColumnChoice};
 use lists::copy_numbers;
+use numbers::RoundNumbers;
 use settings::{MOST_OPENINGS, PLACES, Settings, WIDTH, openings_in, top_digits_0, top_digits_1};
 use slice::{FIRST, MASKED, OWN, SECOND, Weighted, register, rises_into};
 use steps::{
@@ -203,30 +205,27 @@ pub fn prepare(out: &mut [u32], columns: ChosenColumns, known: Context)
 // ---- The running registers after a round: 16 places of `next` for each column
 
 // The result of a gate in all columns, from this side's own numbers for its two openings and the opened ones: openings o and o + 1.
-fn results_into(
-    next: &mut [u32],
-    work: &[u32],
-    weights: &[u32],
-    gate: Gate,
-    own: &[u32],
-    opened: &[u32],
-    tops: &[u32],
-)
+fn results_into(next: &mut [u32], numbers: RoundNumbers, gate: Gate, tops: &[u32])
     requires gate_fits { GateFits gate × Listed top_digits gate.terms tops.now }
-    requires weights_in_bounds { (16 * length weights.now ≤ length next.old) × (length work.now ≡ length weights.now * places) × (most_openings * length weights.now ≤ length own.now) }
-    requires which_in_bounds { (4 * gate.j + 2 * gate.which + 1 < length opened.now) × ((o : ℕ) → get_or opened.now o 0 < q) }
-    requires by_index { (c : ℕ) → c < length weights.now
-        → (get_or own.now (most_openings * c + (4 * gate.j + 2 * gate.which)) 0 ≡ value q (get_or weights.now c 0) (column work.now c) (open_u gate))
-        × (get_or own.now (most_openings * c + (4 * gate.j + 2 * gate.which + 1)) 0 ≡ value q (get_or weights.now c 0) (column work.now c) (open_v gate)) }
-    ensures { next.new ≡ fill_by 16 next.old (8 * gate.which + gate.j) (length weights.now)
-        (λ (c : ℕ). value q (get_or weights.now c 0) (column work.now c)
-        (result_form gate (get_or opened.now (4 * gate.j + 2 * gate.which) 0) (get_or opened.now (4 * gate.j + 2 * gate.which + 1) 0))) }
+    requires next_long { 16 * length numbers.weights.now ≤ length next.old }
+    requires opened_long { 4 * gate.j + 2 * gate.which + 1 < length numbers.opened.now }
+    requires by_index { (c : ℕ) → c < length numbers.weights.now
+        → (get_or numbers.own.now (most_openings * c + (4 * gate.j + 2 * gate.which)) 0
+        ≡ value q (get_or numbers.weights.now c 0) (column numbers.work.now c) (open_u gate))
+        × (get_or numbers.own.now (most_openings * c + (4 * gate.j + 2 * gate.which + 1)) 0
+        ≡ value q (get_or numbers.weights.now c 0) (column numbers.work.now c) (open_v gate)) }
+    ensures { next.new ≡ fill_by 16 next.old (8 * gate.which + gate.j) (length numbers.entry.weights.now)
+        (λ (c : ℕ). value q (get_or numbers.entry.weights.now c 0) (column numbers.entry.work.now c) (result_form gate
+        (get_or numbers.entry.opened.now (4 * gate.j + 2 * gate.which) 0) (get_or numbers.entry.opened.now (4 * gate.j + 2 * gate.which + 1) 0))) }
 {
+    let work = numbers.work;
+    let weights = numbers.weights;
+    let own = numbers.own;
     let o = 4 * gate.j + 2 * gate.which;
     let at = 8 * gate.which + gate.j;
     let joined = Factors {
-        u: opened[o],
-        v: opened[o + 1],
+        u: numbers.opened[o],
+        v: numbers.opened[o + 1],
     };
     into_columns(next, at, 16, weights.len(), |c| {
         let col = Column {
@@ -269,21 +268,13 @@ fn first_registers(next: &mut [u32], work: &[u32], columns: usize, known: Contex
 }
 
 // Rounds 2 to 5: gate by gate, each made once for all columns, with the round's list for F.
-fn gate_registers(
-    next: &mut [u32],
-    work: &[u32],
-    weights: &[u32],
-    known: Context,
-    own: &[u32],
-    opened: &[u32],
-    tops: &[u32],
-)
+fn gate_registers(next: &mut [u32], numbers: RoundNumbers, known: Context, tops: &[u32])
     requires ready { Ready known.settings × SplitsBelow known × RoundList top_digits known tops.now }
-    requires le_round { (2 ≤ known.round) × (known.round ≤ 5) × (16 * length weights.now ≤ length next.old) × (length work.now ≡ length weights.now * places) }
-    requires weights_in_bounds { (most_openings * length weights.now ≤ length own.now) × (4 * known.settings.shape.n ≤ length opened.now) × ((o : ℕ) → get_or opened.now o 0 < q) }
-    requires gates_held { GatesHeld known weights.now work.now own.now }
+    requires round { (2 ≤ known.round) × (known.round ≤ 5) }
+    requires long { (16 * length numbers.weights.now ≤ length next.old) × (4 * known.settings.shape.n ≤ length numbers.opened.now) }
+    requires gates_held { GatesHeld known numbers.weights.now numbers.work.now numbers.own.now }
     ensures { (masked : ℕ → ℕ) → ContextOf known.settings known.round masked known
-        → RegistersHeld (public_by known.settings masked) known.round (λ (o : ℕ). get_or opened.now o 0) weights.now work.now (2 * known.settings.shape.n) next.new }
+        → Made (public_by known.settings masked) known.round numbers.entry (2 * known.settings.shape.n) next.new }
 {
     let shape = known.settings.shape;
     let i = (known.round - 1) as usize;
@@ -291,80 +282,58 @@ fn gate_registers(
         let x = split_place(shape.kind, g);
         let split = known.splits[x];
         let gate = gate_of(shape, split, g, i);
-        results_into(next, work, weights, gate, own, opened, tops);
+        results_into(next, numbers, gate, tops);
     }
 }
 
 // The same, with the list of the set where the round reads one. It is taken once for all gates.
-fn digit_registers(
-    next: &mut [u32],
-    work: &[u32],
-    weights: &[u32],
-    known: Context,
-    own: &[u32],
-    opened: &[u32],
-)
+fn digit_registers(next: &mut [u32], numbers: RoundNumbers, known: Context)
     requires ready { Ready known.settings × SplitsBelow known }
-    requires le_round { (2 ≤ known.round) × (known.round ≤ 5) × (16 * length weights.now ≤ length next.old) × (length work.now ≡ length weights.now * places) }
-    requires weights_in_bounds { (most_openings * length weights.now ≤ length own.now) × (4 * known.settings.shape.n ≤ length opened.now) × ((o : ℕ) → get_or opened.now o 0 < q) }
-    requires gates_held { GatesHeld known weights.now work.now own.now }
+    requires round { (2 ≤ known.round) × (known.round ≤ 5) }
+    requires long { (16 * length numbers.weights.now ≤ length next.old) × (4 * known.settings.shape.n ≤ length numbers.opened.now) }
+    requires gates_held { GatesHeld known numbers.weights.now numbers.work.now numbers.own.now }
     ensures { (masked : ℕ → ℕ) → ContextOf known.settings known.round masked known
-        → RegistersHeld (public_by known.settings masked) known.round (λ (o : ℕ). get_or opened.now o 0) weights.now work.now (2 * known.settings.shape.n) next.new }
+        → Made (public_by known.settings masked) known.round numbers.entry (2 * known.settings.shape.n) next.new }
 {
     let shape = known.settings.shape;
     if !sums_top(shape.kind, known.round) {
-        gate_registers(next, work, weights, known, own, opened, &[]);
+        gate_registers(next, numbers, known, &[]);
         return;
     }
     if shape.set == 0 {
-        gate_registers(next, work, weights, known, own, opened, &top_digits_0());
+        gate_registers(next, numbers, known, &top_digits_0());
         return;
     }
-    gate_registers(next, work, weights, known, own, opened, &top_digits_1());
+    gate_registers(next, numbers, known, &top_digits_1());
 }
 
-// Gate g's register after round 6 or 7: round 6 changes the first registers.
-fn late_register(
-    work: &[u32],
-    col: usize,
-    settings: Settings,
-    round: u32,
-    opened: &[u32],
-    g: usize,
-) -> u32
+// Gate g's register in a column after round 6 or 7: round 6 changes the first registers.
+fn late_register(numbers: RoundNumbers, col: usize, settings: Settings, round: u32, g: usize) -> u32
     requires ready { Ready settings }
-    requires places_in_bounds { ((col + 1) * places ≤ length work.now) × (g < 2 * settings.shape.n) × (5 < round) }
-    requires round_in_bounds { (openings (params_of settings.shape) round ≤ length opened.now) × ((o : ℕ) → get_or opened.now o 0 < q) }
-    ensures { (masked : ℕ → ℕ) (κ : ℕ) → result ≡ running_on (public_by settings masked) round (λ (o : ℕ). get_or opened.now o 0) κ (column work.now col) (g % 2) (g / 2) }
+    requires in_bounds { (col < length numbers.weights.now) × (g < 2 * settings.shape.n) × (5 < round) × (openings (params_of settings.shape) round ≤ length numbers.opened.now) }
+    ensures { (masked : ℕ → ℕ) (κ : ℕ) → result ≡ running_on (public_by settings masked) round (λ (o : ℕ). get_or numbers.entry.opened.now o 0) κ
+        (column numbers.entry.work.now col) (g % 2) (g / 2) }
 {
-    let kept = register(work, col, FIRST + 8 * (g % 2) + g / 2);
+    let kept = register(numbers.work, col, FIRST + 8 * (g % 2) + g / 2);
     if round != 6 {
         return kept;
     }
     if g % 2 != 0 {
         return kept;
     }
-    after_check(work, col, settings, g / 2, opened)
+    after_check(numbers.work, col, settings, g / 2, numbers.opened)
 }
 
 // Rounds 6 and 7.
-fn late_registers(
-    next: &mut [u32],
-    work: &[u32],
-    columns: usize,
-    settings: Settings,
-    round: u32,
-    opened: &[u32],
-)
+fn late_registers(next: &mut [u32], numbers: RoundNumbers, settings: Settings, round: u32)
     requires ready { Ready settings }
-    requires columns_in_bounds { (16 * columns ≤ length next.old) × (columns * places ≤ length work.now) × (5 < round) }
-    requires round_in_bounds { (openings (params_of settings.shape) round ≤ length opened.now) × ((o : ℕ) → get_or opened.now o 0 < q) }
-    ensures { (masked : ℕ → ℕ) (κs : List ℕ) → length κs ≡ columns
-        → RegistersHeld (public_by settings masked) round (λ (o : ℕ). get_or opened.now o 0) κs work.now (2 * settings.shape.n) next.new }
+    requires round { 5 < round }
+    requires long { (16 * length numbers.weights.now ≤ length next.old) × (openings (params_of settings.shape) round ≤ length numbers.opened.now) }
+    ensures { (masked : ℕ → ℕ) → Made (public_by settings masked) round numbers.entry (2 * settings.shape.n) next.new }
 {
     for g in 0..2 * settings.shape.n as usize {
-        into_columns(next, 8 * (g % 2) + g / 2, 16, columns, |c| {
-            late_register(work, c, settings, round, opened, g)
+        into_columns(next, 8 * (g % 2) + g / 2, 16, numbers.weights.len(), |c| {
+            late_register(numbers, c, settings, round, g)
         });
     }
 }
@@ -418,39 +387,27 @@ fn put_columns(
 
 // The registers after a round, for all columns. Round 1 looks at the digits of the numbers just opened, the other rounds at those of the
 // context.
-fn registers_into(
-    next: &mut [u32],
-    work: &[u32],
-    weights: &[u32],
-    known: Context,
-    own: &[u32],
-    opened: &[u32],
-)
+fn registers_into(next: &mut [u32], numbers: RoundNumbers, known: Context)
     requires ready { Ready known.settings }
-    requires le_round { (1 ≤ known.round) × (length work.now ≡ length weights.now * places) × (all_below q work.now ≡ true) }
-    requires weights_in_bounds { (most_openings * length weights.now ≤ length own.now) × (16 * length weights.now ≤ length next.old) }
-    requires round_in_bounds { (openings (params_of known.settings.shape) known.round ≤ length opened.now) × ((o : ℕ) → get_or opened.now o 0 < q) }
-    requires context_of { ContextOf known.settings known.round (masked_in work.now) known }
-    requires held_all { HeldAll (public_by known.settings (masked_in work.now)) known.round weights.now work.now own.now }
-    ensures { RegistersHeld (public_by known.settings (masked_after known.round (λ (o : ℕ). get_or opened.now o 0) work.now)) known.round
-        (λ (o : ℕ). get_or opened.now o 0) weights.now work.now (2 * known.settings.shape.n) next.new }
+    requires round { (1 ≤ known.round) × (all_below q numbers.work.now ≡ true) }
+    requires long { (16 * length numbers.weights.now ≤ length next.old) × (openings (params_of known.settings.shape) known.round ≤ length numbers.opened.now) }
+    requires context_of { ContextOf known.settings known.round (masked_in numbers.work.now) known }
+    requires held_all { HeldAll (public_by known.settings (masked_in numbers.work.now)) known.round numbers.weights.now numbers.work.now numbers.own.now }
+    ensures { Made (public_by known.settings (masked_after known.round (λ (o : ℕ). get_or numbers.entry.opened.now o 0) numbers.entry.work.now)) known.round
+        numbers.entry (2 * known.settings.shape.n) next.new }
 {
     let settings = known.settings;
     let round = known.round;
     if round == 1 {
-        first_registers(
-            next,
-            work,
-            weights.len(),
-            context_of(settings, round + 1, opened),
-        );
+        let seen = context_of(settings, round + 1, numbers.opened);
+        first_registers(next, numbers.work, numbers.weights.len(), seen);
         return;
     }
     if round <= 5 {
-        digit_registers(next, work, weights, known, own, opened);
+        digit_registers(next, numbers, known);
         return;
     }
-    late_registers(next, work, weights.len(), settings, round, opened);
+    late_registers(next, numbers, settings, round);
 }
 
 // The working slice after a round: `opened` are the joined numbers, `own` holds this side's own for each column, and the context is that of
@@ -467,7 +424,13 @@ pub fn take_work(work: &mut [u32], known: Context, opened: &[u32], own: &[u32], 
     let settings = known.settings;
     let round = known.round;
     let mut next = [0u32; 16 * WIDTH];
-    registers_into(&mut next, work, weights, known, own, opened);
+    let numbers = RoundNumbers {
+        work,
+        weights,
+        own,
+        opened,
+    };
+    registers_into(&mut next, numbers, known);
     put_columns(work, weights, settings, round, own, &next);
     if round == 1 {
         copy_numbers(work, MASKED, opened, 0, settings.shape.n as usize);

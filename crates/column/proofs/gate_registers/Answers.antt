@@ -39,10 +39,10 @@ gate_of-gate-requires c =
       shape_ready = p.ready.0.shape;
       g_bound = (
         omega arith,
-        omega (arith, p.le_round),
-        omega (arith, p.le_round),
+        omega (arith, p.round),
+        omega (arith, p.round),
         p.ready.1 c.split_place-x.result _ (rw c.split_place-x.ensures in_count)
-            (omega (arith, p.le_round)),
+            (omega (arith, p.round)),
       );
     }
 
@@ -54,17 +54,17 @@ results_into-requires c =
     let a = c.args in
     let known = a.known in
     let g = at.g in
-    let fifth : 4 ≤ known.round - 1 → known.round ≡ 5 = λ last. omega (arith, last, p.le_round) in
+    let fifth : 4 ≤ known.round - 1 → known.round ≡ 5 = λ last. omega (arith, last, p.round) in
     record {
       gate_fits = (
         c.gate_of-gate.ensures.1,
         rw c.gate_of-gate.ensures.0
             (listed top_digits known.settings.shape _ (known.round - 1) _ (λ kind last. p.ready.2 (rw (eq-eqb _ _ kind, eq-eqb _ _ (fifth last)) refl))),
       );
-      weights_in_bounds = omega (arith, p.le_round, at.auto.next);
-      which_in_bounds = (rw c.gate_of-gate.ensures.0 (omega (arith, p.weights_in_bounds)), p.weights_in_bounds.2);
+      next_long = omega (arith, p.long, at.auto.next);
+      opened_long = rw c.gate_of-gate.ensures.0 (omega (arith, p.long));
       by_index = λ d h.
-          gate_held known g split-place.result split-place.ensures c.gate_of-gate.result c.gate_of-gate.ensures.0 _ _ a.own.now d
+          gate_held known g split-place.result split-place.ensures c.gate_of-gate.result c.gate_of-gate.ensures.0 _ _ a.numbers.own.now d
           (p.gates_held d g h (omega arith));
     }
 
@@ -78,14 +78,14 @@ loop-g-preserved c =
     let a = c.args in
     let known = a.known in
     let g = at.g in
-    let opened : ℕ → ℕ = λ (o : ℕ). get_or a.opened.now o 0 in
-    let later : 2 ≤ known.round = p.le_round.0 in
+    let opened : ℕ → ℕ = λ (o : ℕ). get_or a.numbers.opened.now o 0 in
+    let later : 2 ≤ known.round = p.round.0 in
     λ masked made.
-    slots_more (λ (d k : ℕ). running_on (public_by known.settings masked) known.round opened (get_or a.weights.now d 0) (column a.work.now d) (k % 2) (k / 2)) at.next
-    (length a.weights.now) g _
-    (omega (arith, p.ready.0.shape.most)) (omega (arith, p.le_round, at.auto.next))
-    (gate_register known masked made g split-place.result (omega arith) split-place.ensures later p.le_round.1 gate-of.result gate-of.ensures.0
-    (length a.weights.now) (λ (d : ℕ). get_or a.weights.now d 0) (λ (d : ℕ). column a.work.now d) opened at.next _ results-into.ensures)
+    slots_more (λ (d k : ℕ). running_on (public_by known.settings masked) known.round opened (get_or a.numbers.weights.now d 0) (column a.numbers.work.now d) (k % 2) (k / 2)) at.next
+    (length a.numbers.weights.now) g _
+    (omega (arith, p.ready.0.shape.most)) (omega (arith, p.long, at.auto.next))
+    (gate_register known masked made g split-place.result (omega arith) split-place.ensures later p.round.1 gate-of.result gate-of.ensures.0
+    (length a.numbers.weights.now) (λ (d : ℕ). get_or a.numbers.weights.now d 0) (λ (d : ℕ). column a.numbers.work.now d) opened at.next _ results-into.ensures)
     (at.invariant masked made)
 
 pub returns : goal.returns

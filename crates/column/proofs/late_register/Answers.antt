@@ -28,7 +28,7 @@ after_check-requires c =
     record {
       ready = p.ready;
       places_in_bounds = (omega arith, omega arith);
-      j_in_bounds = (omega (arith, check_in (params_of a.settings.shape) a.round (a.g / 2) (omega arith) (omega arith) (omega arith)), p.round_in_bounds.1);
+      j_in_bounds = (omega (arith, check_in (params_of a.settings.shape) a.round (a.g / 2) (omega arith) (omega arith) (omega arith)), a.numbers.fitting.opened_below);
     }
 
 pub returns : goal.returns

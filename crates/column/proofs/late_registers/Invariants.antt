@@ -1,5 +1,5 @@
 -- `column::late_registers` meets its contract. Assumes nothing.
-use Rattle.column.specs.Held.{RegistersHeld}
+use Rattle.column.specs.Held.{Made}
 use Rattle.steps.specs.Context.{public_by}
 use mathlib.Core.List.{List}
 use Prim.Native.Nat.{ℕ}
@@ -8,5 +8,4 @@ use lib.ListN.{length, get_or}
 use Rattle.column.proofs.late_registers.Given as goal
 
 abbrev pub invariant-loop-g : goal.invariant-loop-g
-invariant-loop-g l = (masked : ℕ → ℕ) (κs : List ℕ) → length κs ≡ l.columns
-    → RegistersHeld (public_by l.settings masked) l.round (λ (o : ℕ). get_or l.opened o 0) κs l.work l.g-counter l.next
+invariant-loop-g l = (masked : ℕ → ℕ) → Made (public_by l.settings masked) l.round l.numbers l.g-counter l.next

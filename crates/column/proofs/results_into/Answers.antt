@@ -11,6 +11,6 @@ use Rattle.column.proofs.results_into.Goals as goal
 pub returns : goal.returns
 returns c =
     let a = c.args in
-    let opened : ℕ → ℕ = λ o. get_or a.opened.now o 0 in
+    let opened : ℕ → ℕ = λ o. get_or a.numbers.opened.now o 0 in
     let o = 4 * a.gate.j + 2 * a.gate.which in
-    c.into_columns.ensures (λ d. value q (get_or a.weights.now d 0) (column a.work.now d) (result_form a.gate (opened o) (opened (o + 1)))) (λ f x h post. search rules)
+    c.into_columns.ensures (λ d. value q (get_or a.numbers.weights.now d 0) (column a.numbers.work.now d) (result_form a.gate (opened o) (opened (o + 1)))) (λ f x h post. search rules)
