@@ -2,16 +2,17 @@
 // numbers and slices. Built as a static library.
 #![tactic(auto)]
 
-ghost use Rattle.std.specs.Prelude.{◌≡◌, ◌<◌};
+ghost use Rattle.std.specs.Prelude.{◌≡◌};
 ghost use Rattle.rounding.specs.Calls.{parts_call};
 ghost use Rattle.settings.specs.Settings.{settings_with};
 ghost use Rattle.settings.specs.Sizes.{key_count};
+ghost use Rattle.settings.specs.Refusals.{number_of, refused};
 ghost use Rattle.message.specs.Message.{form_no};
 ghost use Rattle.phone.specs.Codes.{refusal_code, high_code, low_code, parts_code};
 ghost use Rattle.ring.specs.Calls.{ring_call, transform_call, transformed_call};
 
-use rounding::{Decomposition, parts};
-use settings::{Settings, Shape};
+use rounding::parts;
+use settings::{Refusal, Settings, Shape};
 
 // What `high_part` and `low_part` give of one coefficient.
 #[repr(C)]
@@ -22,55 +23,58 @@ pub struct PartsCode {
 }
 
 // A refusal as one number.
-fn refusal(no: u32) -> i64
-    requires { no < 2147483648 }
-    ensures { result ≡ refusal_code no }
+fn refusal(no: Refusal) -> i64
+    ensures { result ≡ refusal_code (number_of no) }
 {
-    (no as u64 * 4294967296) as i64
+    i64::from(no.number()) * 4294967296
+}
+
+// The number of the first no, or 0.
+fn number(answer: Result<(), Refusal>) -> u32
+    ensures { result ≡ refused answer }
+{
+    match answer {
+        Ok(()) => 0,
+        Err(no) => no.number(),
+    }
 }
 
 // The high part of a coefficient, or the number of the first no times 2^32.
-#[tactic(auto, using(crate::proofs::Refusals::refused_le))]
 #[unsafe(no_mangle)]
 pub extern "C" fn high_part(set: u32, w: u32) -> i64
     ensures { result ≡ high_code (parts_call set w) }
 {
     match parts(set, w) {
-        Decomposition::Parts(pair) => (pair.high as u64) as i64,
-        Decomposition::No(no) => refusal(no),
+        Ok(pair) => i64::from(pair.high),
+        Err(no) => refusal(no),
     }
 }
 
 // The low part of a coefficient, signed, or the number of the first no times 2^32.
-#[tactic(auto, using(crate::proofs::Refusals::refused_le))]
 #[unsafe(no_mangle)]
 pub extern "C" fn low_part(set: u32, w: u32) -> i64
     ensures { result ≡ low_code (parts_call set w) }
 {
     match parts(set, w) {
-        Decomposition::Parts(pair) => pair.low as i64,
-        Decomposition::No(no) => refusal(no),
+        Ok(pair) => i64::from(pair.low),
+        Err(no) => refusal(no),
     }
 }
 
 // Both parts of a coefficient from one call, each as the call for it alone gives it.
-#[tactic(auto, using(crate::proofs::Refusals::refused_le))]
 #[unsafe(no_mangle)]
 pub extern "C" fn high_and_low(set: u32, w: u32) -> PartsCode
     ensures { result ≡ parts_code (parts_call set w) }
 {
     match parts(set, w) {
-        Decomposition::Parts(pair) => PartsCode {
-            high: (pair.high as u64) as i64,
-            low: pair.low as i64,
+        Ok(pair) => PartsCode {
+            high: i64::from(pair.high),
+            low: i64::from(pair.low),
         },
-        Decomposition::No(no) => {
-            let code = refusal(no);
-            PartsCode {
-                high: code,
-                low: code,
-            }
-        }
+        Err(no) => PartsCode {
+            high: refusal(no),
+            low: refusal(no),
+        },
     }
 }
 
@@ -92,7 +96,7 @@ pub extern "C" fn message_form(
         shape: Shape { set, kind, n },
         bound,
     };
-    message::message_form(side, settings, round, serial, message)
+    number(message::message_form(side, settings, round, serial, message))
 }
 
 // The product of a public polynomial and a row of a shared one, into `out`: 0, or the number of the first no, and nothing is written.
@@ -100,7 +104,7 @@ pub extern "C" fn message_form(
 pub extern "C" fn ring_product(public: &[u32], row: &[u32], out: &mut [u32]) -> u32
     ensures { record { refused = result; out = out.new } ≡ ring_call public.now row.now out.old }
 {
-    ring::ring_product(public, row, out)
+    number(ring::ring_product(public, row, out))
 }
 
 // The transform of a public polynomial, into `out`: 0, or the number of the first no, and nothing is written.
@@ -108,7 +112,7 @@ pub extern "C" fn ring_product(public: &[u32], row: &[u32], out: &mut [u32]) -> 
 pub extern "C" fn ring_transform(public: &[u32], out: &mut [u32]) -> u32
     ensures { record { refused = result; out = out.new } ≡ transform_call public.now out.old }
 {
-    ring::ring_transform(public, out)
+    number(ring::ring_transform(public, out))
 }
 
 // The product of the public polynomial that was transformed and a row, into `out`: 0, or the number of the first no, and nothing is written.
@@ -116,5 +120,5 @@ pub extern "C" fn ring_transform(public: &[u32], out: &mut [u32]) -> u32
 pub extern "C" fn ring_product_transformed(transformed: &[u32], row: &[u32], out: &mut [u32]) -> u32
     ensures { record { refused = result; out = out.new } ≡ transformed_call transformed.now row.now out.old }
 {
-    ring::ring_product_transformed(transformed, row, out)
+    number(ring::ring_product_transformed(transformed, row, out))
 }

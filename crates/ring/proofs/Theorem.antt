@@ -17,7 +17,7 @@ use Rattle.ring.proofs.Evaluation.{entry_value}
 use Rattle.ring.proofs.Laws.{ntt-size, ntt-below, product-same, product-join, inverse_size, inverse_below}
 use Rattle.ring.proofs.Onto.{back, onto}
 use Rattle.ring.proofs.Lazy.{everywhere}
-use Rattle.ring.proofs.Ready.{ready}
+use Rattle.ring.proofs.Ready.{row-size}
 
 low : (w : List ℕ) → Polynomial w → (i : ℕ) → get_or w i 0 < q
 low w p i = below_at q w i (omega arith) p.below
@@ -49,7 +49,7 @@ once public row out p =
     ap (λ n. called n (inverse_ntt (pointwise (ntt public) (ntt row))) out) (same_questions public row out p) ∙ go (ℕ_discrete (ring_no public row out) 0)
   where
     go : Dec (ring_no public row out ≡ 0) → called (ring_no public row out) (inverse_ntt (pointwise (ntt public) (ntt row))) out ≡ called (ring_no public row out) (product public row) out
-    go (yes e) = ap (λ r. called (ring_no public row out) r out) (product-same public row p.size_is (ready public row out e).1)
+    go (yes e) = ap (λ r. called (ring_no public row out) r out) (product-same public row p.size_is (row-size public row out e))
     go (no n) = rw (ne_eqb _ _ n) refl
 
 pub products : Products

@@ -1,5 +1,5 @@
 -- The transform as the code works it out: layer by layer, sums not reduced. What the buyer reads is in Ntt.
-use Rattle.std.specs.Prelude.{ℕ, zero, suc, ◌+◌, ◌*◌, ◌-◌, ◌%◌, ◌^◌, ◌<◌, List, get_or}
+use Rattle.std.specs.Prelude.{ℕ, zero, suc, ◌+◌, ◌*◌, ◌-◌, ◌%◌, ◌^◌, ◌<◌, ◌≡◌, List, length, get_or}
 use Rattle.lists.specs.Lists.{list_to}
 use Rattle.field.specs.Field.{q, mul}
 use Rattle.ring.specs.Factors.{factor}
@@ -73,6 +73,10 @@ reduced w = list_to 256 (λ (i : ℕ). get_or w i 0 % q)
 -- every number is below m
 abbrev pub Below : ℕ → List ℕ → Type 0
 Below m w = (i : ℕ) → get_or w i 0 < m
+
+-- 256 numbers below q, as the questions leave them
+abbrev pub Row : List ℕ → Type 0
+Row w = (length w ≡ 256) × Below q w
 
 -- the numbers that the code adds up are below this, so that q more is a u32
 abbrev pub limit : ℕ

@@ -3,16 +3,17 @@
 // and doubles in each of the inverse, which stays below 2^31.
 #![tactic(auto)]
 
-ghost use Rattle.std.specs.Prelude.{◌≡◌, ℕ, ◌+◌, ◌-◌, ◌*◌, ◌^◌, ◌<◌, ◌≤◌, length, get_or};
+ghost use Rattle.std.specs.Prelude.{◌≡◌, ℕ, ◌+◌, ◌-◌, ◌*◌, ◌^◌, ◌<◌, ◌≤◌, length, get_or, IfOk};
 ghost use Rattle.field.specs.Field.{q};
+ghost use Rattle.settings.specs.Refusals.{refused};
 ghost use Rattle.ring.specs.Product.{product as product_of};
 ghost use Rattle.ring.specs.Factors.{factor as factor_of};
 ghost use Rattle.ring.specs.Ntt.{Rule, block, ntt, inverse_ntt, pointwise, scaled};
 ghost use Rattle.ring.specs.Calls.{ring_no, transform_no, ring_call, transform_call, transformed_call};
-ghost use Rattle.ring.specs.Layers.{layer, forward_factor, inverse_factor, lazy_low, lazy_high, lazy_inverse_low, lazy_inverse_high, lazy_to, lazy_inverse_from, reduced, Below, limit};
+ghost use Rattle.ring.specs.Layers.{layer, forward_factor, inverse_factor, lazy_low, lazy_high, lazy_inverse_low, lazy_inverse_high, lazy_to, lazy_inverse_from, reduced, Below, Row, limit};
 
 use field::{Q, all_below_q, mul_mod};
-use settings::{LENGTH, NOT_BELOW_Q};
+use settings::Refusal;
 
 // Entry i is 1,753 to the power of i with its eight bits reversed, modulo q. Program `factors` writes this list.
 #[rattlefmt::skip]
@@ -484,80 +485,66 @@ fn whole(numbers: &[u32]) -> &[u32; SIZE]
     numbers.try_into().unwrap()
 }
 
-// Questions 5 and 6 of both factors and the output: the first no, or 0.
-fn ring_no(public: &[u32], row: &[u32], out: &[u32]) -> u32
-    ensures { result ≡ ring_no public.now row.now out.now }
+// Questions 5 and 6 of both factors and the output.
+#[tactic(auto, using(crate::proofs::Ready::low))]
+fn ask_ring(public: &[u32], row: &[u32], out: &[u32]) -> Result<(), Refusal>
+    ensures asked { refused result ≡ ring_no public.now row.now out.now }
+    ensures ready { IfOk result (λ _. Row public.now × Row row.now × (length out.now ≡ 256)) }
 {
-    if public.len() != SIZE {
-        return LENGTH;
+    if public.len() != SIZE || row.len() != SIZE || out.len() != SIZE {
+        return Err(Refusal::Length);
     }
-    if row.len() != SIZE {
-        return LENGTH;
+    if !all_below_q(public) || !all_below_q(row) {
+        return Err(Refusal::NotBelowQ);
     }
-    if out.len() != SIZE {
-        return LENGTH;
-    }
-    if !all_below_q(public) {
-        return NOT_BELOW_Q;
-    }
-    if !all_below_q(row) {
-        return NOT_BELOW_Q;
-    }
-    0
+    Ok(())
 }
 
-// The product of a public polynomial and a row of a shared one, into `out`; or the number of the first no, and nothing is written.
-pub fn ring_product(public: &[u32], row: &[u32], out: &mut [u32]) -> u32
-    ensures { record { refused = result; out = out.new } ≡ ring_call public.now row.now out.old }
+// The product of a public polynomial and a row of a shared one, into `out`. A refusal writes nothing.
+pub fn ring_product(public: &[u32], row: &[u32], out: &mut [u32]) -> Result<(), Refusal>
+    ensures { record { refused = refused result; out = out.new } ≡ ring_call public.now row.now out.old }
 {
-    let no = ring_no(public, row, out);
-    if no != 0 {
-        return no;
-    }
+    ask_ring(public, row, out)?;
     product(whole(public), whole(row), out.as_mut_array().unwrap());
-    0
+    Ok(())
 }
 
-// Questions 5 and 6 of a polynomial and the output: the first no, or 0.
-fn transform_no(public: &[u32], out: &[u32]) -> u32
-    ensures { result ≡ transform_no public.now out.now }
+// Questions 5 and 6 of a polynomial and the output.
+#[tactic(auto, using(crate::proofs::Ready::low))]
+fn ask_transform(public: &[u32], out: &[u32]) -> Result<(), Refusal>
+    ensures asked { refused result ≡ transform_no public.now out.now }
+    ensures ready { IfOk result (λ _. Row public.now × (length out.now ≡ 256)) }
 {
-    if public.len() != SIZE {
-        return LENGTH;
-    }
-    if out.len() != SIZE {
-        return LENGTH;
+    if public.len() != SIZE || out.len() != SIZE {
+        return Err(Refusal::Length);
     }
     if !all_below_q(public) {
-        return NOT_BELOW_Q;
+        return Err(Refusal::NotBelowQ);
     }
-    0
+    Ok(())
 }
 
-// The transform of a public polynomial, into `out`, for `ring_product_transformed`; or the number of the first no, and nothing is written.
-pub fn ring_transform(public: &[u32], out: &mut [u32]) -> u32
-    ensures { record { refused = result; out = out.new } ≡ transform_call public.now out.old }
+// The transform of a public polynomial, into `out`, for `ring_product_transformed`. A refusal writes nothing.
+pub fn ring_transform(public: &[u32], out: &mut [u32]) -> Result<(), Refusal>
+    ensures { record { refused = refused result; out = out.new } ≡ transform_call public.now out.old }
 {
-    let no = transform_no(public, out);
-    if no != 0 {
-        return no;
-    }
+    ask_transform(public, out)?;
     let out = out.as_mut_array().unwrap();
     *out = *whole(public);
     forward(out);
     reduce(out);
-    0
+    Ok(())
 }
 
-// The product of the public polynomial that was transformed and a row of a shared one, into `out`; or the number of the first no, and nothing is
-// written.
-pub fn ring_product_transformed(transformed: &[u32], row: &[u32], out: &mut [u32]) -> u32
-    ensures { record { refused = result; out = out.new } ≡ transformed_call transformed.now row.now out.old }
+// The product of the public polynomial that was transformed and a row of a shared one, into `out`. A refusal writes nothing.
+pub fn ring_product_transformed(
+    transformed: &[u32],
+    row: &[u32],
+    out: &mut [u32],
+) -> Result<(), Refusal>
+    ensures { record { refused = refused result; out = out.new } ≡ transformed_call transformed.now row.now out.old }
 {
-    let no = ring_no(transformed, row, out);
-    if no != 0 {
-        return no;
-    }
+    ask_ring(transformed, row, out)?;
     product_with(whole(transformed), whole(row), out.as_mut_array().unwrap());
-    0
+    Ok(())
 }

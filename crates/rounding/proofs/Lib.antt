@@ -2,7 +2,6 @@
 pub mod Signed
 pub mod Differences
 pub mod Decompose
-pub mod Ready
 pub mod Radix
 pub mod ZeroCheck
 pub mod HighResult

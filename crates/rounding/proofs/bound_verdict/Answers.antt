@@ -1,19 +1,26 @@
 -- `rounding::bound_verdict` meets its contract.
-use native.Mathlib.Omega.{arith}
-use borrow.Author.Tests.{eq-eqb, ne_eqb}
+use borrow.Author.Rules.{rules}
+use borrow.Author.Tests.{ne_eqb}
+use mathlib.Core.Path.{refl, ap}
+use Rattle.std.proofs.lemmas.Result.{err_from_is_err_and}
 use Rattle.lists.specs.Answers.{bit}
-use Rattle.rounding.specs.Plain.{verdict}
+use Rattle.field.specs.Field.{q}
+use Rattle.settings.specs.Refusals.{number_of, Gives}
+use Rattle.settings.proofs.Keys.{every-is}
+use Rattle.settings.proofs.Refused.{number_nonzero}
+use Rattle.rounding.specs.Plain.{inside, verdict}
 use Rattle.rounding.specs.Calls.{verdict_call}
 use Rattle.rounding.proofs.bound_verdict.Goals as goal
 
-pub returns-then-no-ne0 : goal.returns-then-no-ne0
+pub returns-in_err-ask_verdict : goal.returns-in_err-ask_verdict
 unfolding verdict_call
-returns-then-no-ne0 c = rw (← c.verdict_no-no.ensures, ne_eqb _ _ c.if-no-ne0.true)
-
-pub returns-then-all_inside : goal.returns-then-all_inside
-unfolding verdict_call verdict bit
-returns-then-all_inside c = rw (← c.verdict_no-no.ensures, eq-eqb c.verdict_no-no.result 0 (omega arith), ← c.all_inside.ensures, c.if-all_inside.true)
+returns-in_err-ask_verdict c =
+    let p = err_from_is_err_and c.from_residual.result c.from_residual.ensures.1 in
+    let e = c.in_err-ask_verdict.field-0.0 in
+    rw (p.1, p.2, ← c.in_err-ask_verdict.ensures, ne_eqb (number_of e) 0 (number_nonzero e)) refl
 
 pub returns : goal.returns
-unfolding verdict_call verdict bit
-returns c = rw (← c.verdict_no-no.ensures, eq-eqb c.verdict_no-no.result 0 (omega arith), ← c.all_inside.ensures, c.if-all_inside.false)
+unfolding verdict_call verdict inside
+returns c =
+    rw (← c.in_ok-ask_verdict.ensures)
+    (ap (λ b. Gives (bit b)) (every-is (inside q c.args.bound) c.args.numbers.now c.all.result (search rules)))

@@ -1,2 +1,0 @@
--- Laws for the exported functions.
-pub mod Refusals
