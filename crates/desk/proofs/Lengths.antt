@@ -217,4 +217,3 @@ length-call CallName.Choose ns h =
 length-call CallName.Draw ns h =
     let a : Shape = record { set = get_or ns 1 0; kind = get_or ns 2 0; n = get_or ns 3 0 } in
     either (eqb (length ns) 4) (draw_text (seed_call (get_or ns 0 0)) a) malformed_text (length_seeded (get_or ns 0 0) a (h 0)) length-malformed
-length-call CallName.Unknown ns h = length-malformed

@@ -1,9 +1,10 @@
 -- "Lines on standard input, one call each, decimal words with one blank between, one output line for each": the output line for an
 -- input line, the call that its first word names, made with the numbers behind it.
-use Rattle.std.specs.Prelude.{ℕ, suc, ◌+◌, ◌*◌, Bool, true, false, cond, List, [], ◌∷◌, ◌++◌, map, eqb, ltb, ℤ, pos, negsuc, length, get_or, take, drop, replicate}
+use Rattle.std.specs.Prelude.{ℕ, suc, ◌+◌, ◌*◌, Bool, true, false, cond, List, [], ◌∷◌, ◌++◌, map, eqb, ltb, ℤ, pos, negsuc, length, get_or, take, drop, replicate, Option, Some, None}
+use Rattle.std.specs.Option.{option_map_or}
+use Rattle.std.specs.Cmp.Lexicographic.{pointwise}
 use Rattle.text.specs.Decimal.{number_in}
 use Rattle.text.specs.Text.{decimal, numbers_text}
-use Rattle.text.specs.declared.ReadNumber.{ReadNumber}
 use Rattle.settings.specs.declared.Shape.{Shape}
 use Rattle.settings.specs.Sizes.{key_count, width, draw_size}
 use Rattle.rounding.specs.declared.HighLow.{HighLow}
@@ -13,7 +14,7 @@ use Rattle.rounding.specs.Calls.{parts_call, verdict_call}
 use Rattle.stock.specs.Stock.{choose_no, chosen}
 use Rattle.generator.specs.declared.Seeded.{Seeded}
 use Rattle.generator.specs.Calls.{seed_call, Drew, draw_call}
-use Rattle.syntax.specs.Line.{words, all_good, values_of}
+use Rattle.syntax.specs.Line.{words, values_of}
 use Rattle.desk.specs.declared.words.CallName.{CallName}
 use Rattle.stream.specs.Theorems.{Handler, carries_nothing}
 
@@ -34,22 +35,19 @@ draw_word = 100 ∷ 114 ∷ 97 ∷ 119 ∷ []
 
 -- are two words equal, byte for byte?
 unfoldable pub same_word : List ℕ → List ℕ → Bool
-same_word [] [] = true
-same_word [] (y ∷ ys) = false
-same_word (x ∷ xs) [] = false
-same_word (x ∷ xs) (y ∷ ys) = cond (eqb x y) (same_word xs ys) false
+same_word v w = pointwise eqb v w
 
--- the call that the first word of a line names
-unfoldable pub call_named : List ℕ → CallName
+-- the call that the first word of a line names, if it names one
+unfoldable pub call_named : List ℕ → Option CallName
 call_named w =
-    cond (same_word w parts_word) CallName.Parts
-    (cond (same_word w verdict_word) CallName.BoundVerdict
-    (cond (same_word w choose_word) CallName.Choose
-    (cond (same_word w draw_word) CallName.Draw
-    CallName.Unknown)))
+    cond (same_word w parts_word) (Some CallName.Parts)
+    (cond (same_word w verdict_word) (Some CallName.BoundVerdict)
+    (cond (same_word w choose_word) (Some CallName.Choose)
+    (cond (same_word w draw_word) (Some CallName.Draw)
+    None)))
 
 -- "decimal words": the words behind it, each read as a number
-abbrev pub fields_of : List (List ℕ) → List ReadNumber
+abbrev pub fields_of : List (List ℕ) → List (Option ℕ)
 fields_of ws = map number_in ws
 
 -- ---- Results
@@ -135,7 +133,6 @@ call_result CallName.Parts ns = parts_result ns
 call_result CallName.BoundVerdict ns = verdict_result ns
 call_result CallName.Choose ns = choose_result ns
 call_result CallName.Draw ns = draw_result ns
-call_result CallName.Unknown ns = malformed_text
 
 -- ---- Lines
 
@@ -146,7 +143,8 @@ longest_line = 1048576
 -- a line by its words: the name of a call, and numbers alone behind it
 unfoldable pub words_result : List (List ℕ) → List ℕ
 words_result [] = malformed_text
-words_result (w ∷ ws) = cond (all_good (fields_of ws)) (call_result (call_named w) (values_of (fields_of ws))) malformed_text
+words_result (w ∷ ws) =
+    option_map_or (λ (call : CallName). option_map_or (call_result call) (values_of (fields_of ws)) malformed_text) (call_named w) malformed_text
 
 -- what stands before the line end
 unfoldable pub line_result : List ℕ → List ℕ

@@ -215,6 +215,5 @@ pub fn put_call(out: &mut [u8], at: usize, call: CallName, numbers: &[u32]) -> u
         CallName::BoundVerdict => put_verdict(out, at, numbers),
         CallName::Choose => put_choose(out, at, numbers),
         CallName::Draw => put_draw(out, at, numbers),
-        CallName::Unknown => put_malformed(out, at),
     }
 }

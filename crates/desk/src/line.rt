@@ -27,13 +27,13 @@ fn put_result(out: &mut [u8], at: usize, line: &[u8], numbers: &mut [u32]) -> us
     if n == line.len() {
         return put_malformed(out, at);
     }
-    let call = call_named(&line[..n]);
-    let from = n + 1;
-    let read = read_numbers(&line[from..], numbers);
-    if !read.good {
+    let Some(call) = call_named(&line[..n]) else {
         return put_malformed(out, at);
-    }
-    let count = read.count;
+    };
+    let from = n + 1;
+    let Some(count) = read_numbers(&line[from..], numbers) else {
+        return put_malformed(out, at);
+    };
     put_call(out, at, call, &numbers[..count])
 }
 

@@ -13,7 +13,8 @@ use borrow.Author.Tests.{leb-true, lt-ltb, le-ltb}
 use Rattle.lists.specs.Lists.{list_from}
 use Rattle.text.specs.Text.{Text, text_at, puts, decimal, decimal_in}
 use Rattle.text.specs.Decimal.{number_in}
-use Rattle.text.specs.declared.ReadNumber.{ReadNumber}
+use Rattle.std.proofs.Common.{Option, Some, None}
+use Rattle.std.specs.Option.{option_map_or}
 use Rattle.text.proofs.Puts.{puts_append, put_then, front-put, within-put}
 use Rattle.settings.specs.Sets.{scale_of, top, top_digits}
 use Rattle.top_digits.specs.Page.{head_text, entry_line, entry_lines, page_text, refusal_line, page_for, page_length}
@@ -45,28 +46,30 @@ page_most (suc (suc set)) h = absurd (omega arith)
 
 pub page_fits : (word : List ℕ) → length (page_for word) ≤ page_length
 unfolding page_for refusal_line decimal decimal_in
-page_fits word = go (number_in word).good (dec_lt (number_in word).value 2)
+page_fits word = go (number_in word)
   where
-    go : (good : Bool) → Dec ((number_in word).value < 2)
-        → length (cond good (cond (ltb (number_in word).value 2) (page_text (number_in word).value) (refusal_line 1)) (refusal_line 12)) ≤ page_length
-    go true (yes h) = rw (lt-ltb _ 2 h) (page_most (number_in word).value h)
-    go true (no h) = rw (le-ltb (number_in word).value 2 (omega arith)) (leb-true _ _ refl)
-    go false h = leb-true _ _ refl
+    one : (set : ℕ) → Dec (set < 2) → length (cond (ltb set 2) (page_text set) (refusal_line 1)) ≤ page_length
+    one set (yes h) = rw (lt-ltb set 2 h) (page_most set h)
+    one set (no h) = rw (le-ltb set 2 (omega (arith, h))) (leb-true _ _ refl)
+
+    go : (o : Option ℕ) → length (option_map_or (λ (set : ℕ). cond (ltb set 2) (page_text set) (refusal_line 1)) o (refusal_line 12)) ≤ page_length
+    go None = leb-true _ _ refl
+    go (Some set) = one set (dec_lt set 2)
 
 -- ---- a word by its number
 
-module _ (word : List ℕ) (read : ReadNumber) (e : read ≡ number_in word) where
-  pub page_malformed : read.good ≡ false → page_for word ≡ refusal_line 12
-  unfolding page_for
-  page_malformed bad = rw (← e, bad)
+pub page_malformed : (word : List ℕ) → None ≡ number_in word → page_for word ≡ refusal_line 12
+unfolding page_for
+page_malformed word e = rw (← e)
 
-  pub page_refused : read.good ≡ true → 2 ≤ read.value → page_for word ≡ refusal_line 1
+module _ (word : List ℕ) (set : ℕ) (e : Some set ≡ number_in word) where
+  pub page_refused : 2 ≤ set → page_for word ≡ refusal_line 1
   unfolding page_for
-  page_refused good h = rw (← e, good, le-ltb read.value 2 h)
+  page_refused h = rw (← e, le-ltb set 2 h)
 
-  pub page_printed : read.good ≡ true → read.value < 2 → page_for word ≡ page_text read.value
+  pub page_printed : set < 2 → page_for word ≡ page_text set
   unfolding page_for
-  page_printed good h = rw (← e, good, lt-ltb read.value 2 h)
+  page_printed h = rw (← e, lt-ltb set 2 h)
 
 -- what is put is the page, and stands in front of a slice that is long enough
 pub in-front : (word out now bs : List ℕ) (r : ℕ) → page_length ≤ length out → page_for word ≡ bs → text_at now r ≡ puts (text_at out 0) bs

@@ -1,5 +1,6 @@
 -- "Support engineers use a printed list" (02): the page of a set, and what is printed for a word that names none.
 use Rattle.std.specs.Prelude.{ℕ, suc, cond, List, [], ◌∷◌, ◌++◌, ltb}
+use Rattle.std.specs.Option.{option_map_or}
 use Rattle.text.specs.Decimal.{number_in}
 use Rattle.text.specs.Text.{decimal}
 use Rattle.settings.specs.Sets.{scale_of, top_digits}
@@ -28,9 +29,7 @@ refusal_line refused = 33 ∷ (decimal refused ++ (10 ∷ []))
 -- for a word: the page of the set that it names; a number that is no set is refused with 1, another word is malformed, `!12`
 unfoldable pub page_for : List ℕ → List ℕ
 page_for word =
-    cond (number_in word).good
-    (cond (ltb (number_in word).value 2) (page_text (number_in word).value) (refusal_line 1))
-    (refusal_line 12)
+    option_map_or (λ (set : ℕ). cond (ltb set 2) (page_text set) (refusal_line 1)) (number_in word) (refusal_line 12)
 
 -- no page is longer
 abbrev pub page_length : ℕ

@@ -33,10 +33,8 @@ fn put_entries(out: &mut [u8], at: usize, list: &[u32]) -> usize
     ensures { text_at out.new result ≡ puts (text_at out.old at) (entry_lines 0 list.now) }
 {
     let mut next = at;
-    let mut d = 0;
-    while d < list.len() {
-        next = put_entry(out, next, d, list[d]);
-        d += 1;
+    for (d, t) in list.iter().enumerate() {
+        next = put_entry(out, next, d, *t);
     }
     next
 }
@@ -68,12 +66,11 @@ pub fn page_for(word: &[u8], out: &mut [u8]) -> usize
     ensures result_after { text_at out.new result ≡ puts (text_at out.old 0) (page_for word.now) }
     ensures out_after { (take result out.new ≡ page_for word.now) × (result ≤ length out.new) }
 {
-    let read = number_in(word);
-    if !read.good {
+    let Some(set) = number_in(word) else {
         return put_refusal(out, FIELDS);
-    }
-    if read.value >= 2 {
+    };
+    if set >= 2 {
         return put_refusal(out, SIDE_SET_OR_KIND);
     }
-    put_page(out, read.value)
+    put_page(out, set)
 }

@@ -8,7 +8,7 @@ use borrow.Author.Tests.{lt-ltb, le-ltb}
 use lib.ListN.{length, take, drop, length-drop}
 use lib.Seq.{take_all, take-append_seam}
 use Rattle.text.specs.Text.{text_at, puts}
-use Rattle.text.specs.declared.NumbersRead.{NumbersRead}
+use Rattle.std.proofs.Common.{Some, None}
 use Rattle.text.proofs.Puts.{front-put, within-put}
 use Rattle.execution.specs.declared.RunTerms.{RunTerms}
 use Rattle.execution.specs.declared.Execution.{Execution}
@@ -52,10 +52,10 @@ module _ (numbers : List ℕ) (h : head_length ≤ length numbers) (terms : RunT
 
 -- ---- An input that has been read
 
-pub bad_input : (read : NumbersRead) (numbers : List ℕ) → read.good ≡ false → malformed_line ≡ text_for read numbers
+pub bad_input : (numbers : List ℕ) → malformed_line ≡ text_for None numbers
 unfolding text_for
-bad_input read numbers e = rw e refl
+bad_input numbers = refl
 
-pub good_input : (read : NumbersRead) (numbers : List ℕ) (n : ℕ) → read.good ≡ true → n ≡ min read.count (length numbers) → transcript_of (take n numbers) ≡ text_for read numbers
+pub good_input : (count : ℕ) (numbers : List ℕ) (n : ℕ) → n ≡ min count (length numbers) → transcript_of (take n numbers) ≡ text_for (Some count) numbers
 unfolding text_for
-good_input read numbers n e m = rw e (ap transcript_of (take_min read.count n numbers m))
+good_input count numbers n m = ap transcript_of (take_min count n numbers m)

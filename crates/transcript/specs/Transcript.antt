@@ -1,7 +1,7 @@
 -- The text of a transcript: what is written for an input.
-use Rattle.std.specs.Prelude.{ℕ, zero, suc, ◌+◌, ◌*◌, ◌/◌, ◌%◌, cond, List, [], ◌∷◌, ◌++◌, eqb, ltb, length, get_or, take, drop, replicate}
+use Rattle.std.specs.Prelude.{ℕ, zero, suc, ◌+◌, ◌*◌, ◌/◌, ◌%◌, cond, List, [], ◌∷◌, ◌++◌, eqb, ltb, length, get_or, take, drop, replicate, Option}
+use Rattle.std.specs.Option.{option_map_or}
 use Rattle.text.specs.Text.{decimal, numbers_text, hex_bytes}
-use Rattle.text.specs.declared.NumbersRead.{NumbersRead}
 use Rattle.settings.specs.declared.Shape.{Shape}
 use Rattle.settings.specs.Settings.{settings_with}
 use Rattle.settings.specs.Sizes.{key_count, message_size, work_length}
@@ -149,8 +149,8 @@ transcript_of numbers =
     (transcript_text (run_terms_in numbers).settings.shape (executed (run_terms_in numbers) (drop head_length numbers) zero_work zero_work))
 
 -- the text for an input that has been read to its end: its first `count` numbers, unless a byte was wrong
-unfoldable pub text_for : NumbersRead → List ℕ → List ℕ
-text_for read numbers = cond read.good (transcript_of (take read.count numbers)) malformed_line
+unfoldable pub text_for : Option ℕ → List ℕ → List ℕ
+text_for count numbers = option_map_or (λ (n : ℕ). transcript_of (take n numbers)) count malformed_line
 
 -- no text is longer: two digits for each byte of a message, and room for all else
 abbrev pub out_length : ℕ

@@ -14,55 +14,38 @@ use inputs::{has_argument, open_argument};
 use std::io;
 use std::io::{Read, Write};
 use std::rt::{Env, Files};
-use text::{NumbersRead, end_numbers, feed_numbers, start_numbers};
+use text::{end_numbers, feed_numbers, start_numbers};
 use whole::{MOST_NUMBERS, OUT_LENGTH, text_for};
 
 // The most bytes that are read at once.
 const PART: usize = 4096;
 
-// What one read left: go on, or the input has ended.
-#[derive(Clone, Copy)]
-struct InputRead {
-    more: bool,
-    read: NumbersRead,
-}
-
-// Reads once, and takes in the bytes that came. A read that fails counts as the input's end.
-fn read_some<R: Read>(input: &mut R, read: NumbersRead, numbers: &mut [u32]) -> InputRead {
-    let mut chunk = [0u8; PART];
-    let Ok(n) = input.read(&mut chunk) else {
-        return InputRead { more: false, read };
-    };
-    if n == 0 {
-        return InputRead { more: false, read };
-    }
-    InputRead {
-        more: true,
-        read: feed_numbers(read, &chunk[..n], numbers),
-    }
-}
-
-// Reads to the end of the input. Nothing says that an input ends, so the reads are counted, up to a number that no run uses up.
-fn read_all<R: Read>(input: &mut R, numbers: &mut [u32]) -> NumbersRead {
-    let mut here = InputRead {
-        more: true,
-        read: start_numbers(),
-    };
+// Reads to the end of the input: how many numbers it has, unless it is malformed. A read that fails counts as the end. Nothing says that
+// an input ends, so the reads are counted, up to a number that no run uses up.
+fn read_all<R: Read>(input: &mut R, numbers: &mut [u32]) -> Option<usize> {
+    let mut read = Some(start_numbers());
     for _ in 0..u64::MAX {
-        if !here.more {
+        let mut chunk = [0u8; PART];
+        let Ok(n) = input.read(&mut chunk) else {
+            break;
+        };
+        if n == 0 {
             break;
         }
-        here = read_some(input, here.read, numbers);
+        read = match read {
+            Some(here) => feed_numbers(here, &chunk[..n], numbers),
+            None => None,
+        };
     }
-    end_numbers(here.read, numbers.len())
+    Some(end_numbers(read?, numbers.len())?.count)
 }
 
 // Reads one input, and writes the text for it.
 fn transcribe<R: Read, W: Write>(input: &mut R, output: &mut W) -> io::Result<()> {
     let mut numbers = [0u32; MOST_NUMBERS];
-    let read = read_all(input, &mut numbers);
+    let count = read_all(input, &mut numbers);
     let mut out = [0u8; OUT_LENGTH];
-    let length = text_for(read, &numbers, &mut out);
+    let length = text_for(count, &numbers, &mut out);
     output.write_all(&out[..length])
 }
 

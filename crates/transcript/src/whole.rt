@@ -6,10 +6,9 @@ ghost use Rattle.transcript.specs.Transcript.{head_length, run_terms_in, result_
 
 use crate::lines::{put_answers, put_malformed, put_messages, put_openings, put_refusal_line};
 use execution::{BOOK_LENGTH, Execution, RUN_BYTES, Refusal, RunTerms, execute};
-use lists::{copy_numbers, least};
+use lists::copy_numbers;
 use settings::{KEYS, Settings, Shape, WIDTH, WORK_LENGTH};
 use state::Side;
-use text::NumbersRead;
 
 // Where the server's keys stand in an input, and the phone's; and how many numbers stand before the inputs and the draw, or the books.
 const KEYS0: usize = 5;
@@ -111,14 +110,15 @@ fn transcript(numbers: &[u32], out: &mut [u8]) -> usize
     put_run(out, terms.settings.shape, x, &messages[..length])
 }
 
-// The text for an input that has been read, in front of `out`: how many bytes it has. The caller lends OUT_LENGTH bytes.
-pub fn text_for(read: NumbersRead, numbers: &[u32], out: &mut [u8]) -> usize
+// The text for an input that has so many numbers, or that is malformed, in front of `out`: how many bytes it has. The caller lends
+// OUT_LENGTH bytes.
+pub fn text_for(count: Option<usize>, numbers: &[u32], out: &mut [u8]) -> usize
     requires { out_length ≤ length out.old }
-    ensures { (take result out.new ≡ text_for read numbers.now) × (result ≤ length out.new) }
+    ensures { (take result out.new ≡ text_for count numbers.now) × (result ≤ length out.new) }
 {
-    if !read.good {
+    let Some(count) = count else {
         return put_malformed(out, 0);
-    }
-    let count = least(read.count, numbers.len());
+    };
+    let count = count.min(numbers.len());
     transcript(&numbers[..count], out)
 }

@@ -17,7 +17,3 @@ returns-in-Choose c = rw c.in-Choose.is c.put_choose.ensures
 pub returns-in-Draw : goal.returns-in-Draw
 unfolding call_result
 returns-in-Draw c = rw c.in-Draw.is c.put_draw.ensures
-
-pub returns-in-Unknown : goal.returns-in-Unknown
-unfolding call_result
-returns-in-Unknown c = rw c.in-Unknown.is c.put_malformed.ensures

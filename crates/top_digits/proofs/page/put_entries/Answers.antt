@@ -7,12 +7,9 @@ use Rattle.top_digits.proofs.page.put_entries.Goals as goal
 pub loop-d-preserved : goal.loop-d-preserved
 loop-d-preserved c =
     let loop = c.loop-d in
-    record {
-      in_range = omega arith;
-      lines = entries-more (text_at loop.out loop.next) _ _ c.args.list.now loop.d (omega arith) loop.invariant.lines c.put_entry-next.ensures;
-    }
+    entries-more (text_at loop.out loop.next) _ _ c.args.list.now loop.d (omega arith) loop.invariant c.put_entry-next.ensures
 
 pub returns : goal.returns
 returns c =
     let loop = c.loop-d in
-    entries-done (text_at loop.out loop.next) _ c.args.list.now loop.d (omega arith) loop.invariant.lines
+    entries-done (text_at loop.out loop.next) _ c.args.list.now loop.d (omega arith) loop.invariant
