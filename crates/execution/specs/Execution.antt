@@ -42,9 +42,9 @@ run_calls = scheduled observer begin ∷ scheduled peer begin ∷ round_calls ro
 -- ---- Parties and refusals
 
 -- how the sides are numbered
-abbrev pub number_of : Party → ℕ
-number_of Server = 0
-number_of Phone = 1
+abbrev pub side_number : Party → ℕ
+side_number Server = 0
+side_number Phone = 1
 
 -- the observer is the server, the peer the phone
 abbrev pub played_by : Role → Party

@@ -21,7 +21,7 @@ use Rattle.execution.specs.declared.WorkSpace.{WorkSpace}
 use Rattle.execution.specs.declared.Cuts.{Cuts}
 use Rattle.execution.specs.declared.CallKind.{CallKind}
 use Rattle.execution.specs.declared.CallKind.TheVariants.{Deal, Send}
-use Rattle.execution.specs.Execution.{message_room, number_of, refused_call, Carried, carry_all, round_calls, run_calls, server_inputs, phone_inputs}
+use Rattle.execution.specs.Execution.{message_room, side_number, refused_call, Carried, carry_all, round_calls, run_calls, server_inputs, phone_inputs}
 
 -- a party: its side, its working slice, and its latest message, which stands among the messages
 abbrev pub party_of : Endpoint → List ℕ → List ℕ → PartyState
@@ -62,7 +62,7 @@ keys_of terms Server = terms.keys0
 keys_of terms Phone = terms.keys1
 
 abbrev pub run_at : RunTerms → Party → Run
-run_at terms party = record { number = number_of party; settings = terms.settings; keys = keys_of terms party; serial = terms.serial }
+run_at terms party = record { number = side_number party; settings = terms.settings; keys = keys_of terms party; serial = terms.serial }
 
 -- a side that has sent nothing; both, before the first begin
 abbrev pub silent_endpoint : Endpoint

@@ -2,16 +2,18 @@
 // refusal. It gives back every message, both sides and the refusal.
 #![tactic(auto)]
 
-ghost use Rattle.std.specs.Prelude.{◌≡◌, ◌+◌, ◌*◌, ◌≤◌, length, slice_range};
+ghost use Rattle.std.specs.Prelude.{◌≡◌, ◌+◌, ◌*◌, ◌≤◌, length, slice_range, replicate};
 ghost use Rattle.std.specs.Result.{result_err};
-ghost use Rattle.settings.specs.Sizes.{key_count, most_bytes, book_size};
+ghost use Rattle.settings.specs.Sizes.{key_count, most_bytes, work_length, book_size};
 ghost use Rattle.settings.specs.Schedule.{rounds};
 ghost use Rattle.side.specs.Side.{begin_call, take_call};
-ghost use Rattle.execution.specs.Execution.{number_of, refused_call, draw_in, books_given, dealt_run, given_run, executed};
+ghost use Rattle.execution.specs.Execution.{side_number, refused_call, draw_in, books_given, dealt_run, given_run, executed};
 ghost use Rattle.execution.specs.Held.{Stands, Fits, run_at, before_begin, LeftBy, SendsAt, RoundsRun, Plays, book_length, CutsAt, Deals, EndsAs, Executes};
 
 use dealer::deal;
-use settings::{KEYS, MOST_BYTES, ROUNDS, Settings, Shape, WIDTH, WORK_LENGTH, book_size, input_size, shape_no};
+use settings::{
+    KEYS, MOST_BYTES, ROUNDS, Settings, Shape, WIDTH, WORK_LENGTH, book_size, input_size, shape_no,
+};
 use side::{Run, begin, send, take};
 use state::{Side, fresh};
 
@@ -97,7 +99,9 @@ pub struct RunSpace {
 }
 
 impl RunSpace {
-    pub fn new() -> RunSpace {
+    pub fn new() -> RunSpace
+        ensures { (result.work.server ≡ replicate (work_length key_count) 0) × (result.work.phone ≡ replicate (work_length key_count) 0) }
+    {
         RunSpace {
             books: Books {
                 server: [0; BOOK_LENGTH],
@@ -117,7 +121,7 @@ impl RunSpace {
 impl Party {
     // As the sides are numbered.
     pub fn number(self) -> u32
-        ensures { result ≡ number_of self }
+        ensures { result ≡ side_number self }
     {
         match self {
             Party::Server => 0,
@@ -234,7 +238,12 @@ fn cuts_of(shape: Shape, count: usize) -> Cuts
 }
 
 // Deals into the front of two lent books.
-fn deal_at(terms: RunTerms, draw: &[u32], book0: &mut [u32], book1: &mut [u32]) -> Result<(), RefusedCall>
+fn deal_at(
+    terms: RunTerms,
+    draw: &[u32],
+    book0: &mut [u32],
+    book1: &mut [u32],
+) -> Result<(), RefusedCall>
     requires { (book_length ≤ length book0.old) × (book_length ≤ length book1.old) }
     ensures { Deals terms draw.now (result_err result) book0.new book1.new }
 {
@@ -377,8 +386,14 @@ impl Execution {
 }
 
 // The run with a deal.
-fn execute_dealt(terms: RunTerms, numbers: &[u32], books: &mut Books, space: &mut WorkSpace) -> Execution
-    ensures { Executes (dealt_run terms numbers.now space.old.server space.old.phone) result space.old.messages space.new.messages }
+fn execute_dealt(
+    terms: RunTerms,
+    numbers: &[u32],
+    books: &mut Books,
+    space: &mut WorkSpace,
+) -> Execution
+    ensures run { Executes (dealt_run terms numbers.now space.old.server space.old.phone) result space.old.messages space.new.messages }
+    ensures work_size { (length space.old.server ≡ work_length key_count) × (length space.old.phone ≡ work_length key_count) }
 {
     let mut x = Execution::new();
     x.refused = x.deal_and_play(terms, numbers, books, space).err();
@@ -401,19 +416,16 @@ fn books_given(shape: Shape, numbers: &[u32]) -> bool
 // The run with the books that stand among the numbers.
 fn execute_given(terms: RunTerms, numbers: &[u32], space: &mut WorkSpace) -> Execution
     requires { length (draw_in terms.settings.shape numbers.now) ≡ 2 * book_size terms.settings.shape }
-    ensures { Executes (given_run terms numbers.now space.old.server space.old.phone) result space.old.messages space.new.messages }
+    ensures run { Executes (given_run terms numbers.now space.old.server space.old.phone) result space.old.messages space.new.messages }
+    ensures work_size { (length space.old.server ≡ work_length key_count) × (length space.old.phone ≡ work_length key_count) }
 {
     let shape = terms.settings.shape;
     let first = cuts_of(shape, numbers.len()).draw;
     let second = first + book_size(shape);
+    let book0 = &numbers[first..second];
+    let book1 = &numbers[second..];
     let mut x = Execution::new();
-    x.refused = x.play(
-        terms,
-        numbers,
-        &numbers[first..second],
-        &numbers[second..],
-        space,
-    ).err();
+    x.refused = x.play(terms, numbers, book0, book1, space).err();
     x
 }
 
@@ -423,7 +435,8 @@ fn execute_given(terms: RunTerms, numbers: &[u32], space: &mut WorkSpace) -> Exe
 // have, the server's book and the phone's, and nothing is dealt. Where some are missing, the calls are handed what there is. At the end all
 // messages stand in front of `space.work.messages`, one behind the other.
 pub fn execute(terms: RunTerms, numbers: &[u32], space: &mut RunSpace) -> Execution
-    ensures { Executes (executed terms numbers.now space.old.work.server space.old.work.phone) result space.old.work.messages space.new.work.messages }
+    ensures run { Executes (executed terms numbers.now space.old.work.server space.old.work.phone) result space.old.work.messages space.new.work.messages }
+    ensures work_size { (length space.old.work.server ≡ work_length key_count) × (length space.old.work.phone ≡ work_length key_count) }
 {
     if books_given(terms.settings.shape, numbers) {
         return execute_given(terms, numbers, &mut space.work);

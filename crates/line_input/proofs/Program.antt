@@ -3,24 +3,21 @@ use Prim.Native.Nat.{ℕ, suc, ◌<◌}
 use mathlib.Core.Path.{◌≡◌, refl, sym, ap, ◌∙◌}
 use mathlib.Core.List.{List, [], ◌∷◌}
 use native.Mathlib.Omega.{arith}
-use lib.ListN.{length, replicate, length-replicate}
+use lib.ListN.{length}
 use borrow.Author.Tests.{ne_eqb}
-use Rattle.settings.specs.Sizes.{key_count, work_length}
-use Rattle.execution.specs.Held.{run_bytes, book_length}
 use Rattle.generator.specs.Step.{stepped}
 use Rattle.generator.proofs.Steps.{stepped-none, stepped_add, stepped_zero, never_zero}
 use Rattle.stream.specs.Input.{lines_of, carried_from, carried_over}
 use Rattle.stream.specs.Theorems.{LooksAt}
 use Rattle.stream.proofs.Parts.{writes_the_output}
 use Rattle.lines.specs.Plain.{line_draws, line_state}
-use Rattle.lines.specs.Run.{most_numbers, LentToLine}
+use Rattle.lines.proofs.Cut.{cut_line, cut_state}
 use Rattle.line_input.specs.Answers.{kept_length, line_handler, state_line, closed}
-use Rattle.line_input.specs.Kept.{looks_at_kept}
 use Rattle.line_input.specs.Theorems.{AnswersEachLine, AdvancesByDraws, NoLastLine, HasLastLine, state_over, draws_from}
 
 -- a line is answered by its first 1,025 bytes
 looks_at : (kept : List ℕ) → length kept ≡ kept_length → LooksAt ℕ (length kept) line_handler
-looks_at kept l = rw l looks_at_kept
+looks_at kept l = record { answer_cut = λ k line. rw l (cut_line k line); carry_cut = λ k line state. rw l (cut_state k line state) }
 
 pub answers_each_line : AnswersEachLine
 answers_each_line state kept l parts few = ap closed (writes_the_output ℕ line_handler state kept (omega arith) (looks_at kept l) parts few)
@@ -46,22 +43,3 @@ unfolding state_line
 has_last_line input seed some fits =
     let above : 0 < state_over input seed = rw (advances_by_draws input seed) (never_zero seed (draws_from 1 (lines_of input)) fits some) in
     rw (ne_eqb (state_over input seed) 0 (λ e. absurd (omega (arith, above, e)))) refl
-
--- ---- The slices
-
--- slices as `answer_input` makes them can be lent to a line
-abbrev zeros : ℕ → List ℕ
-zeros n = replicate n 0
-
-pub made_lent : LentToLine (zeros most_numbers) (zeros book_length) (zeros book_length) (zeros (work_length key_count)) (zeros (work_length key_count)) (zeros run_bytes)
-made_lent =
-    record {
-      zeros = refl;
-      room = record {
-        server_book = omega (arith, length-replicate {A = ℕ} book_length 0);
-        phone_book = omega (arith, length-replicate {A = ℕ} book_length 0);
-        server_work = length-replicate {A = ℕ} (work_length key_count) 0;
-        phone_work = length-replicate {A = ℕ} (work_length key_count) 0;
-        bytes = omega (arith, length-replicate {A = ℕ} run_bytes 0);
-      };
-    }

@@ -6,14 +6,9 @@
 // a contract cannot say what the system read or wrote.
 #![tactic(auto)]
 
-ghost use Rattle.lines.specs.Run.{LentToLine};
-ghost use Rattle.line_input.specs.Answers.{line_handler, state_line};
-ghost use Rattle.line_input.specs.Kept.{looks_at_kept};
-ghost use Rattle.std.proofs.Common.{rules};
+ghost use Rattle.line_input.specs.Answers.{kept_length, line_handler, state_line};
 
-use execution::{BOOK_LENGTH, RUN_BYTES};
-use lines::{RUN_NUMBERS, answer_line};
-use settings::WORK_LENGTH;
+use lines::LineRunner;
 use std::io;
 use std::rt::{Env, Files};
 use stream::LineAnswerer;
@@ -25,69 +20,47 @@ const KEPT: usize = 1025;
 // Room for the bytes that wait to be written.
 const OUT: usize = 65536;
 
-// The generator's state, and what a line's run needs, which is made once and lent to one line after another.
+// Answers the lines of an input, and carries the generator's state from line to line.
 #[derive(Drop)]
 struct LineInput {
-    state: u32,
-    numbers: [u32; RUN_NUMBERS],
-    book0: [u32; BOOK_LENGTH],
-    book1: [u32; BOOK_LENGTH],
-    work0: [u32; WORK_LENGTH],
-    work1: [u32; WORK_LENGTH],
-    messages: [u8; RUN_BYTES],
-    ghost lent: { LentToLine numbers book0 book1 work0 work1 messages },
+    runner: LineRunner,
 }
 
-impl LineAnswerer<KEPT, OUT> for LineInput {
+impl LineAnswerer for LineInput {
     type Carried = u32;
 
     ghost handler = { line_handler };
 
-    ghost carried = { λ s. s.state };
+    ghost carried = { λ s. s.runner.state };
 
     ghost last_line = { state_line };
+
+    ghost KEPT = { kept_length };
 
     ghost LONGEST_ANSWER = { 112 };
 
     ghost LONGEST_LAST = { 11 };
 
-    ghost looks_at = { looks_at_kept };
-
-    ghost has_room = { Prim.search rules };
+    const KEPT: usize = KEPT;
 
     const LONGEST_ANSWER: usize = 112;
 
     const LONGEST_LAST: usize = 11;
 
     fn start(&mut self, from: u32) {
-        self.state = from;
+        self.runner.state = from;
     }
 
     fn answer_line(&mut self, out: &mut [u8], at: usize, number: u64, line: &[u8]) -> usize {
-        let state = self.state;
-        let end = answer_line(
-            state,
-            out,
-            at,
-            number,
-            line,
-            &mut self.numbers,
-            &mut self.book0,
-            &mut self.book1,
-            &mut self.work0,
-            &mut self.work1,
-            &mut self.messages,
-        );
-        self.state = end.state;
-        end.at
+        self.runner.answer_line(out, at, number, line)
     }
 
     // The generator's state in decimal. State 0 is no generator's: nothing is put.
     fn put_last_line(&self, out: &mut [u8], at: usize) -> usize {
-        if self.state == 0 {
+        if self.runner.state == 0 {
             return at;
         }
-        let end = put_number(out, at, self.state as u64);
+        let end = put_number(out, at, self.runner.state as u64);
         put_byte(out, end, b'\n')
     }
 }
@@ -97,14 +70,10 @@ pub fn answer_inputs<R: Env + Files + Input + Print + Eprint>(
     rt: &R,
     state: u32,
 ) -> io::Result<()> {
+    let mut kept = [0u8; KEPT];
+    let mut out = [0u8; OUT];
     let mut lines = LineInput {
-        state,
-        numbers: [0; RUN_NUMBERS],
-        book0: [0; BOOK_LENGTH],
-        book1: [0; BOOK_LENGTH],
-        work0: [0; WORK_LENGTH],
-        work1: [0; WORK_LENGTH],
-        messages: [0; RUN_BYTES],
+        runner: LineRunner::new(state),
     };
-    stream::answer_inputs::<KEPT, OUT, R, LineInput>(rt, &mut lines, state)
+    stream::answer_inputs(rt, &mut lines, state, &mut kept, &mut out)
 }

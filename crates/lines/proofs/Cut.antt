@@ -8,7 +8,7 @@ use borrow.Author.Tests.{lt-ltb}
 use lib.ListN.{length, take, length-take}
 use lib.Seq.{take_all}
 use Rattle.syntax.specs.Line.{line_of}
-use Rattle.lines.specs.Plain.{line_answer, line_draws, line_state}
+use Rattle.lines.specs.Plain.{line_result, line_answer, line_draws, line_state}
 
 cut_order : (line : List ℕ) → line_of (take 1025 line) ≡ line_of line
 unfolding line_of
@@ -19,7 +19,7 @@ cut_order line = go (dec_lt 1024 (length line))
     go (no h) = ap line_of (take_all 1025 line (omega arith))
 
 pub cut_line : (k : ℕ) (line : List ℕ) → line_answer k (take 1025 line) ≡ line_answer k line
-unfolding line_answer
+unfolding line_answer line_result
 cut_line k line = rw (cut_order line) refl
 
 pub cut_state : (k : ℕ) (line : List ℕ) (state : ℕ) → line_state k (take 1025 line) state ≡ line_state k line state

@@ -5,6 +5,7 @@ use mathlib.Core.Bool.{true, ◌&&◌}
 use mathlib.Core.List.{List, [], ◌++◌, append-nil, append_assoc}
 use native.Mathlib.Omega.{arith}
 use lib.Dec.{ltb}
+use Rattle.std.specs.Prelude.{Result, Ok, None}
 use lib.ListN.{length, take, drop, replicate, length-append, length-drop, length-replicate, replicate-append-replicate, drop_of_length-le}
 use lib.Seq.{take_all, take_at, drop_at}
 use borrow.Rule.Slice.PartMut.{mid_of, post_of, put_mid}
@@ -15,7 +16,7 @@ use Rattle.lists.proofs.Questions.{passed, both_yes}
 use Rattle.field.specs.Field.{q}
 use Rattle.settings.specs.declared.Settings.{Settings}
 use Rattle.settings.specs.Settings.{params_in}
-use Rattle.settings.specs.Sizes.{key_count, width, shared, work_length, book_size, draw_size, input_size}
+use Rattle.settings.specs.Sizes.{key_count, width, shared, work_length, book_size, draw_size, input_size, answer_places}
 use Rattle.settings.proofs.Sizes.{answer-most}
 use Rattle.settings.specs.Questions.{ask_shape, is_bit, count_ok, bound_ok, ask_settings, shape_ok, Ready}
 use Rattle.settings.proofs.Ready.{settings-ready, settings_rest}
@@ -27,26 +28,25 @@ use Rattle.runs.specs.Records.{answer_of, missing_shares, PartyState, JointState
 use Rattle.runs.specs.Demands.{Fixed, Idle, Ended, observer_input, peer_input}
 use Rattle.runs.proofs.Answers.{answer-length}
 use Rattle.syntax.specs.declared.Request.{Request}
-use Rattle.execution.specs.Execution.{Carried, no_refusal, refusal_of, carry_all, run_calls, server_inputs, phone_inputs, draw_in, fresh_party, deal_no_of, executed}
+use Rattle.execution.specs.Execution.{Carried, refused_call, carry_all, run_calls, server_inputs, phone_inputs, draw_in, fresh_party, deal_no_of, executed}
 use Rattle.execution.specs.Theorems.{GoesThrough}
 use Rattle.execution.proofs.Honest.{honest_run_goes_through}
 use Rattle.execution.proofs.Given.{draw_is_dealt}
-use Rattle.lines.specs.declared.LineResult.{LineResult}
 use Rattle.generator.specs.Step.{outputs}
 use Rattle.generator.proofs.Steps.{outputs_length, outputs_below, outputs_zero}
 use Rattle.lines.specs.Plain.{settings_of, secret_of, request_no, result_for, drawn_for}
-use Rattle.lines.specs.Run.{ones, terms_for, in_columns, inputs_for, count_for, numbers_for, answered_by, most_numbers, RoomForRun, LentToLine}
+use Rattle.lines.specs.Run.{ones, terms_for, in_columns, inputs_for, count_for, numbers_for, answered_by}
 use Rattle.lines.proofs.Handed.{settings_pass_all, ones_ok, columns_long, columns_below, missing_none, behind-zeros, length_front}
 
 -- ---- The answer of a side that has ended
 
-abbrev given : ℕ → List ℕ → LineResult
-given count numbers = record { refused = 0; length = count; numbers = in_front numbers (replicate 8 0) }
-
 module _ (s : Settings) (secret : List ℕ) (ready : Ready s) (long : length secret ≡ s.shape.n) where
-  answered-is : (x : PartyState) → Ended s secret x → answered_by x.side ≡ given (length (answer_of s secret)) (answer_of s secret)
+  answered-is : (x : PartyState) → Ended s secret x → answered_by x.side ≡ Ok (answer_of s secret)
   unfolding answered_by
-  answered-is x e = rw (e.gives (replicate 8 0) (answer-most (params_in s) ready.shape.most)) (ap (λ (n : ℕ). given n (answer_of s secret)) (sym (answer-length s secret long)))
+  answered-is x e =
+      let wrap : List ℕ → Result (List ℕ) ℕ = λ l. Ok l in
+      rw (e.gives (replicate 8 0) (answer-most (params_in s) ready.shape.most))
+      (ap wrap (take_at (answer_of s secret) _ (answer_places (params_in s)) (answer-length s secret long)))
 
 -- ---- The run
 
@@ -179,7 +179,7 @@ module _ (state serial : ℕ) (o : Request) (ok : request_no serial o ≡ 0) (fi
   abbrev honest : Carried
   honest =
       carry_all s serial (observer_input key_count s 0 ones ones inputs draw) (peer_input key_count s 0 ones ones inputs secret draw)
-      (record { refusal = no_refusal; parties = start; messages = [] }) run_calls
+      (record { refused = None; parties = start; messages = [] }) run_calls
 
   through : GoesThrough s secret honest
   through =
@@ -191,7 +191,7 @@ module _ (state serial : ℕ) (o : Request) (ok : request_no serial o ≡ 0) (fi
       (record { observer = idle_is work0 long0; peer = idle_is work1 long1 })
 
   run_is : executed (terms_for serial o) numbers work0 work1 ≡ honest
-  unfolding refusal_of
+  unfolding refused_call
   run_is =
       let zeros : missing_shares width (multipliers ones ones) secret inputs ≡ replicate each 0 = missing_none secret ∙ ap (λ (n : ℕ). replicate (n * width) 0) secret_long in
       draw_is_dealt (terms_for serial o) numbers work0 work1 draw_long ∙ rw (deal_no_lem, server-inputs, phone-inputs, draw_is, zeros)
@@ -271,19 +271,3 @@ module _ (state : ℕ) (o : Request) (room : o.count ≤ length o.numbers) where
 
     pub cleared_again : (zeros cleared : List ℕ) → zeros ≡ replicate (count_for o) 0 → cleared ≡ replicate (length filled) 0 → cleared ≡ zeros
     cleared_again zeros cleared f g = g ∙ ap (λ (n : ℕ). replicate n 0) filled_long ∙ sym f
-
--- lent slices that hold something else have the same room
-pub same-room : (a b c d e a' b' c' d' e' : List ℕ) → RoomForRun a b c d e → length a' ≡ length a → length b' ≡ length b → length c' ≡ length c
-    → length d' ≡ length d → length e' ≡ length e → RoomForRun a' b' c' d' e'
-same-room a b c d e a' b' c' d' e' r f g h i j =
-    record {
-      server_book = omega (arith, r.server_book, f);
-      phone_book = omega (arith, r.phone_book, g);
-      server_work = h ∙ r.server_work;
-      phone_work = i ∙ r.phone_work;
-      bytes = omega (arith, r.bytes, j);
-    }
-
--- so many numbers are lent
-pub zeros_many : {n a b c d e : List ℕ} → LentToLine n a b c d e → length n ≡ most_numbers
-zeros_many l = ap length l.zeros ∙ length-replicate {A = ℕ} most_numbers 0

@@ -1,8 +1,7 @@
 -- What a line gives: its refusal, or the answer by the plain meaning; and the state that it leaves a generator in.
-use Rattle.std.specs.Prelude.{ℕ, cond, List, [], eqb, leb, ltb, length, take, replicate}
-use Rattle.std.specs.Option.{option_map_or}
+use Rattle.std.specs.Prelude.{ℕ, cond, Result, Ok, Err, List, [], eqb, leb, ltb, take}
 use Rattle.lists.specs.Answers.{ask}
-use Rattle.lists.specs.Lists.{all_below, in_front}
+use Rattle.lists.specs.Lists.{all_below}
 use Rattle.field.specs.Field.{q}
 use Rattle.settings.specs.Questions.{ask_settings}
 use Rattle.settings.specs.declared.Settings.{Settings}
@@ -14,7 +13,6 @@ use Rattle.syntax.specs.declared.Request.{Request}
 use Rattle.text.specs.Decimal.{too_large}
 use Rattle.syntax.specs.Line.{line_of}
 use Rattle.syntax.specs.Answer.{answer_text}
-use Rattle.lines.specs.declared.LineResult.{LineResult}
 
 -- the settings of a line
 abbrev pub settings_of : Request → Settings
@@ -34,29 +32,28 @@ request_no serial request =
     (ask (ltb 0 serial) 7
     0))
 
--- a refusal and no numbers; or the high parts, or the verdict, and zeros behind
-unfoldable pub result_for : ℕ → Request → LineResult
+-- the high parts, or the verdict; or a refusal
+unfoldable pub result_for : ℕ → Request → Result (List ℕ) ℕ
 result_for serial request =
     let refusal = request_no serial request in
-    let answer = answer_of (settings_of request) (secret_of request) in
     cond (eqb refusal 0)
-    (record { refused = 0; length = length answer; numbers = in_front answer (replicate 8 0) })
-    (record { refused = refusal; length = 0; numbers = replicate 8 0 })
+    (Ok (answer_of (settings_of request) (secret_of request)))
+    (Err refusal)
 
--- "malformed: `!12`, no run"
-abbrev pub malformed_answer : ℕ → List ℕ
-malformed_answer number = answer_text number 12 []
+-- "malformed: `!12`, no run"; "serial = line number", and serials end at 2^32 − 1, so that no line beyond has a run
+unfoldable pub line_result : ℕ → List ℕ → Result (List ℕ) ℕ
+line_result number line =
+    let request = line_of line in
+    cond (leb too_large number) (Err 12)
+    (cond request.good (result_for number request) (Err 12))
 
--- "line number, then high parts or verdict, or `!` and the refusal"
-abbrev pub result_answer : ℕ → LineResult → List ℕ
-result_answer number r = answer_text number r.refused (take r.length r.numbers)
+-- "Each output line: line number, then high parts or verdict, or `!` and the refusal"
+abbrev pub result_answer : ℕ → Result (List ℕ) ℕ → List ℕ
+result_answer number (Ok numbers) = answer_text number 0 numbers
+result_answer number (Err refusal) = answer_text number refusal []
 
--- "Each output line: line number, then high parts or verdict, or `!` and the refusal"; "serial = line number", and serials end at
--- 2^32 − 1, so that no line beyond has a run
 unfoldable pub line_answer : ℕ → List ℕ → List ℕ
-line_answer number line =
-    cond (leb too_large number) (malformed_answer number)
-    (option_map_or (λ (request : Request). result_answer number (result_for number request)) (line_of line) (malformed_answer number))
+line_answer number line = result_answer number (line_result number line)
 
 -- ---- The generator
 
@@ -70,7 +67,10 @@ request_draws serial request = cond (eqb (request_no serial request) 0) (drawn_f
 
 -- how many a line draws: none where it asks for no run
 unfoldable pub line_draws : ℕ → List ℕ → ℕ
-line_draws number line = cond (leb too_large number) 0 (option_map_or (request_draws number) (line_of line) 0)
+line_draws number line =
+    let request = line_of line in
+    cond (leb too_large number) 0
+    (cond request.good (request_draws number request) 0)
 
 -- "one generator": the state that a line leaves it in
 unfoldable pub line_state : ℕ → List ℕ → ℕ → ℕ

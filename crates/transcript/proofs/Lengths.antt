@@ -15,7 +15,11 @@ use Rattle.settings.specs.Schedule.{rounds}
 use Rattle.state.specs.declared.Side.{Side}
 use Rattle.state.specs.State.{answer_no, places_of, held_answer, after_answer, answer_call, count_call}
 use Rattle.state.proofs.States.{answer-ready}
-use Rattle.execution.specs.declared.Refusal.{Refusal}
+use Rattle.std.specs.Prelude.{Option, None, Some}
+use Rattle.execution.specs.declared.Party.{Party}
+use Rattle.execution.specs.declared.Party.TheVariants.{Server, Phone}
+use Rattle.execution.specs.declared.RefusedCall.{RefusedCall}
+use Rattle.execution.specs.Execution.{side_number}
 use Rattle.execution.specs.declared.CallKind.{CallKind}
 use Rattle.execution.specs.declared.CallKind.TheVariants.{Deal, Begin, Send, Take, Answer}
 use Rattle.execution.specs.Held.{run_bytes}
@@ -56,14 +60,14 @@ length_name Send = omega arith
 length_name Take = omega arith
 length_name Answer = omega arith
 
-length-party : (call : CallKind) (party : ℕ) → length (party_text call party) ≤ 20
+length-party : (call : CallKind) (party : Party) → length (party_text call party) ≤ 20
 length-party Deal party = omega arith
-length-party Begin party = length-decimal party
-length-party Send party = length-decimal party
-length-party Take party = length-decimal party
-length-party Answer party = length-decimal party
+length-party Begin party = length-decimal (side_number party)
+length-party Send party = length-decimal (side_number party)
+length-party Take party = length-decimal (side_number party)
+length-party Answer party = length-decimal (side_number party)
 
-length-refusal : (r : Refusal) → length (refusal_line r) ≤ 60
+length-refusal : (r : RefusedCall) → length (refusal_line r) ≤ 60
 unfolding refusal_line
 length-refusal r = simp length-append (omega (arith, length_name r.call, length-party r.call r.party, length-decimal r.number))
 
@@ -72,9 +76,9 @@ unfolding numbers_text
 length-numbers [] = omega arith
 length-numbers (n ∷ ns) = omega (arith, length-append (decimal n) (numbers_text ns), length-decimal n, length-numbers ns)
 
-length_numbers_line : (party : ℕ) (ns : List ℕ) → length (numbers_line party ns) ≤ 28 + length ns * 21
+length_numbers_line : (party : Party) (ns : List ℕ) → length (numbers_line party ns) ≤ 28 + length ns * 21
 unfolding numbers_line
-length_numbers_line party ns = simp length-append (omega (arith, length-decimal party, length-numbers ns))
+length_numbers_line party ns = simp length-append (omega (arith, length-decimal (side_number party), length-numbers ns))
 
 -- an answer has at most eight numbers
 places-most : (side : Side) → (answer_left side).result.length ≤ 8
@@ -86,7 +90,7 @@ places-most side = go (eqb (answer_no side (replicate 8 0)) 0) refl
     go true e = (answer-ready side (replicate 8 0) (eqb-true (answer_no side (replicate 8 0)) 0 e)).0
     go false e = omega arith
 
-length-answer : (party : ℕ) (side : Side) → length (answer_line party side) ≤ 200
+length-answer : (party : Party) (side : Side) → length (answer_line party side) ≤ 200
 unfolding answer_or_refusal
 length-answer party side = go (eqb (answer_left side).result.refused 0)
   where
@@ -104,22 +108,19 @@ length-answer party side = go (eqb (answer_left side).result.refused 0)
 
 length_answers : (server phone : Side) → length (answers_text server phone) ≤ 400
 unfolding answers_text
-length_answers server phone = omega (arith, length-append (answer_line 0 server) (answer_line 1 phone), length-answer 0 server, length-answer 1 phone)
+length_answers server phone = omega (arith, length-append (answer_line Server server) (answer_line Phone phone), length-answer Server server, length-answer Phone phone)
 
-length-result : (refusal : Refusal) (server phone : Side) → length (result_text refusal server phone) ≤ 400
+length-result : (refused : Option RefusedCall) (server phone : Side) → length (result_text refused server phone) ≤ 400
 unfolding result_text
-length-result refusal server phone = go (eqb refusal.number 0)
-  where
-    go : (t : Bool) → length (cond t (answers_text server phone) (refusal_line refusal)) ≤ 400
-    go true = length_answers server phone
-    go false = omega (arith, length-refusal refusal)
+length-result None server phone = length_answers server phone
+length-result (Some refused) server phone = omega (arith, length-refusal refused)
 
-length-openings : (party : ℕ) (side : Side) → length (openings_line party side) ≤ 51
+length-openings : (party : Party) (side : Side) → length (openings_line party side) ≤ 51
 unfolding openings_line
-length-openings party side = simp length-append (omega (arith, length-decimal party, length-decimal (count_call side)))
+length-openings party side = simp length-append (omega (arith, length-decimal (side_number party), length-decimal (count_call side)))
 
-pub length_run : (a : Shape) (refusal : Refusal) (server phone : Side) (messages : List ℕ) → length messages ≤ run_bytes → length (run_text a refusal server phone messages) ≤ out_length
+pub length_run : (a : Shape) (refused : Option RefusedCall) (server phone : Side) (messages : List ℕ) → length messages ≤ run_bytes → length (run_text a refused server phone messages) ≤ out_length
 unfolding run_text
-length_run a refusal server phone messages h =
+length_run a refused server phone messages h =
     simp length-append
-    (omega (arith, h, length-messages a (2 * rounds) 0 messages, length-result refusal server phone, length-openings 0 server, length-openings 1 phone))
+    (omega (arith, h, length-messages a (2 * rounds) 0 messages, length-result refused server phone, length-openings Server server, length-openings Phone phone))

@@ -18,6 +18,7 @@ use Rattle.settings.specs.declared.Shape.{Shape}
 use Rattle.settings.specs.Schedule.{rounds}
 use Rattle.state.specs.declared.Side.{Side}
 use Rattle.state.specs.State.{AfterAnswer}
+use Rattle.execution.specs.declared.Party.TheVariants.{Server, Phone}
 use Rattle.transcript.specs.Transcript.{round_of, size_of, message_line, message_lines, answer_left, answer_or_refusal, answers_text}
 -- one part behind another
 pub use Rattle.text.proofs.Puts.{put_then}
@@ -82,7 +83,7 @@ lines_end a s t messages i from h e = let z : 2 * rounds - i ≡ 0 = omega arith
 
 -- ---- Answers
 
-module _ (server phone : Side) (a₀ : AfterAnswer) (e₀ : a₀ ≡ answer_left server) (s x : Text) (p : x ≡ puts s (answer_or_refusal 0 a₀)) where
-  pub answer_both : (a₁ : AfterAnswer) → a₁ ≡ answer_left phone → (y : Text) → y ≡ puts x (answer_or_refusal 1 a₁) → y ≡ puts s (answers_text server phone)
+module _ (server phone : Side) (a₀ : AfterAnswer) (e₀ : a₀ ≡ answer_left server) (s x : Text) (p : x ≡ puts s (answer_or_refusal Server a₀)) where
+  pub answer_both : (a₁ : AfterAnswer) → a₁ ≡ answer_left phone → (y : Text) → y ≡ puts x (answer_or_refusal Phone a₁) → y ≡ puts s (answers_text server phone)
   unfolding answers_text
   answer_both a₁ e₁ y q = rw (← e₀, ← e₁) (put_then s _ _ p q)

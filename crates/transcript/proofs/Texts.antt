@@ -37,17 +37,17 @@ module _ (numbers : List ℕ) (h : head_length ≤ length numbers) (terms : RunT
   messages_are = rw (run.messages_are, run.length_is) (take-append_seam end.messages _)
 
   abbrev text : List ℕ
-  text = run_text terms.settings.shape x.refusal x.server.side x.phone.side (take x.length after)
+  text = run_text terms.settings.shape x.refused x.server.side x.phone.side (take x.length after)
 
   pub text_is : text ≡ transcript_of numbers
   unfolding transcript_of
   text_is =
       let all = take_all (length numbers - head_length) (drop head_length numbers) (omega (arith, length-drop head_length numbers)) in
-      rw (le-ltb (length numbers) head_length h, run.refusal_is, run.server_is, run.phone_is, messages_are, all, e) refl
+      rw (le-ltb (length numbers) head_length h, run.refused_is, run.server_is, run.phone_is, messages_are, all, e) refl
 
   pub text_fits : length before ≡ run_bytes → length text ≤ out_length
   text_fits l =
-      length_run terms.settings.shape x.refusal x.server.side x.phone.side (take x.length after)
+      length_run terms.settings.shape x.refused x.server.side x.phone.side (take x.length after)
       (rw messages_are (omega (arith, l, run.fits)))
 
 -- ---- An input that has been read

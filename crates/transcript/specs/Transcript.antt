@@ -1,5 +1,5 @@
 -- The text of a transcript: what is written for an input.
-use Rattle.std.specs.Prelude.{ℕ, zero, suc, ◌+◌, ◌*◌, ◌/◌, ◌%◌, cond, List, [], ◌∷◌, ◌++◌, eqb, ltb, length, get_or, take, drop, replicate, Option}
+use Rattle.std.specs.Prelude.{ℕ, zero, suc, ◌+◌, ◌*◌, ◌/◌, ◌%◌, cond, Option, None, Some, List, [], ◌∷◌, ◌++◌, eqb, ltb, length, get_or, take, drop, replicate}
 use Rattle.std.specs.Option.{option_map_or}
 use Rattle.text.specs.Text.{decimal, numbers_text, hex_bytes}
 use Rattle.settings.specs.declared.Shape.{Shape}
@@ -9,10 +9,12 @@ use Rattle.settings.specs.Schedule.{rounds}
 use Rattle.state.specs.declared.Side.{Side}
 use Rattle.state.specs.State.{AfterAnswer, answer_call, count_call}
 use Rattle.execution.specs.declared.RunTerms.{RunTerms}
-use Rattle.execution.specs.declared.Refusal.{Refusal}
+use Rattle.execution.specs.declared.Party.{Party}
+use Rattle.execution.specs.declared.Party.TheVariants.{Server, Phone}
+use Rattle.execution.specs.declared.RefusedCall.{RefusedCall}
 use Rattle.execution.specs.declared.CallKind.{CallKind}
 use Rattle.execution.specs.declared.CallKind.TheVariants.{Deal, Begin, Send, Take, Answer}
-use Rattle.execution.specs.Execution.{Carried, executed}
+use Rattle.execution.specs.Execution.{side_number, Carried, executed}
 use Rattle.execution.specs.Held.{run_bytes}
 
 -- ---- Words
@@ -71,15 +73,15 @@ message_lines a (suc n) i bytes =
     (message_line (i % 2) (round_of i) (take (size_of a i) bytes) ++ message_lines a n (suc i) (drop (size_of a i) bytes))
 
 -- the party of a refused call: 0 the server, 1 the phone; `-` for the dealer
-abbrev pub party_text : CallKind → ℕ → List ℕ
+abbrev pub party_text : CallKind → Party → List ℕ
 party_text Deal party = 45 ∷ []
-party_text Begin party = decimal party
-party_text Send party = decimal party
-party_text Take party = decimal party
-party_text Answer party = decimal party
+party_text Begin party = decimal (side_number party)
+party_text Send party = decimal (side_number party)
+party_text Take party = decimal (side_number party)
+party_text Answer party = decimal (side_number party)
 
 -- `refused CALL PARTY NUMBER`: the first refusal
-unfoldable pub refusal_line : Refusal → List ℕ
+unfoldable pub refusal_line : RefusedCall → List ℕ
 refusal_line r = refused_word ++ call_name r.call ++ blank ++ party_text r.call r.party ++ blank ++ decimal r.number ++ line_end
 
 -- what a side's answer call leaves in eight places
@@ -87,42 +89,43 @@ abbrev pub answer_left : Side → AfterAnswer
 answer_left side = answer_call side (replicate 8 0)
 
 -- `answer PARTY NUMBERS`: a side's answer
-unfoldable pub numbers_line : ℕ → List ℕ → List ℕ
-numbers_line party numbers = answer_word ++ decimal party ++ numbers_text numbers ++ line_end
+unfoldable pub numbers_line : Party → List ℕ → List ℕ
+numbers_line party numbers = answer_word ++ decimal (side_number party) ++ numbers_text numbers ++ line_end
 
 -- the answer, or the refusal of the call
-unfoldable pub answer_or_refusal : ℕ → AfterAnswer → List ℕ
+unfoldable pub answer_or_refusal : Party → AfterAnswer → List ℕ
 answer_or_refusal party a =
     cond (eqb a.result.refused 0)
     (numbers_line party (take a.result.length a.out))
     (refusal_line (record { call = Answer; party = party; number = a.result.refused }))
 
 -- a side's line
-abbrev pub answer_line : ℕ → Side → List ℕ
+abbrev pub answer_line : Party → Side → List ℕ
 answer_line party side = answer_or_refusal party (answer_left side)
 
 -- the server's line, then the phone's
 unfoldable pub answers_text : Side → Side → List ℕ
-answers_text server phone = answer_line 0 server ++ answer_line 1 phone
+answers_text server phone = answer_line Server server ++ answer_line Phone phone
 
 -- `openings PARTY COUNT`: how many openings a side has accepted
-unfoldable pub openings_line : ℕ → Side → List ℕ
-openings_line party side = openings_word ++ decimal party ++ blank ++ decimal (count_call side) ++ line_end
+unfoldable pub openings_line : Party → Side → List ℕ
+openings_line party side = openings_word ++ decimal (side_number party) ++ blank ++ decimal (count_call side) ++ line_end
 
 -- ---- The whole text
 
 -- both answers; where a call before them was refused, its refusal
-unfoldable pub result_text : Refusal → Side → Side → List ℕ
-result_text refusal server phone = cond (eqb refusal.number 0) (answers_text server phone) (refusal_line refusal)
+unfoldable pub result_text : Option RefusedCall → Side → Side → List ℕ
+result_text None server phone = answers_text server phone
+result_text (Some refused) server phone = refusal_line refused
 
 -- every message, the result, both opening counts
-unfoldable pub run_text : Shape → Refusal → Side → Side → List ℕ → List ℕ
-run_text a refusal server phone messages =
-    message_lines a (2 * rounds) 0 messages ++ result_text refusal server phone ++ openings_line 0 server ++ openings_line 1 phone
+unfoldable pub run_text : Shape → Option RefusedCall → Side → Side → List ℕ → List ℕ
+run_text a refused server phone messages =
+    message_lines a (2 * rounds) 0 messages ++ result_text refused server phone ++ openings_line Server server ++ openings_line Phone phone
 
 -- a run as far as it was carried
 abbrev pub transcript_text : Shape → Carried → List ℕ
-transcript_text a x = run_text a x.refusal x.parties.observer.side x.parties.peer.side x.messages
+transcript_text a x = run_text a x.refused x.parties.observer.side x.parties.peer.side x.messages
 
 -- how many numbers stand before the inputs and the draw: set, kind, n, bound, serial, and the keys of both sides
 abbrev pub head_length : ℕ

@@ -4,8 +4,7 @@ ghost use Rattle.settings.specs.Schedule.{rounds};
 ghost use Rattle.text.specs.Text.{text_at, puts};
 ghost use Rattle.transcript.specs.Transcript.{call_name, malformed_line, message_line, message_lines, party_text, refusal_line, numbers_line, answer_or_refusal, answers_text, openings_line};
 
-use execution::{CallKind, Refusal};
-use lists::least;
+use execution::{CallKind, Party, RefusedCall};
 use settings::{ROUNDS, Shape, message_size};
 use state::{AnswerResult, Side, answer, opening_count};
 use text::{put_byte, put_bytes, put_hex, put_number, put_numbers};
@@ -41,16 +40,14 @@ pub fn put_messages(out: &mut [u8], at: usize, shape: Shape, messages: &[u8]) ->
 {
     let mut next = at;
     let mut from = 0;
-    let mut i = 0;
-    while i < 2 * ROUNDS {
+    for i in 0..2 * ROUNDS {
         if from >= messages.len() {
             return next;
         }
         let round = i / 2 + 1;
-        let to = from + least(message_size(shape, round), messages.len() - from);
+        let to = from + message_size(shape, round).min(messages.len() - from);
         next = put_message_line(out, next, i % 2, round, &messages[from..to]);
         from = to;
-        i += 1;
     }
     next
 }
@@ -70,40 +67,39 @@ fn put_call(out: &mut [u8], at: usize, call: CallKind) -> usize
 }
 
 // The party of a refused call.
-fn put_party(out: &mut [u8], at: usize, call: CallKind, party: u32) -> usize
+fn put_party(out: &mut [u8], at: usize, call: CallKind, party: Party) -> usize
     ensures { text_at out.new result ≡ puts (text_at out.old at) (party_text call party) }
 {
     match call {
         CallKind::Deal => put_byte(out, at, b'-'),
-        CallKind::Begin => put_number(out, at, party as u64),
-        CallKind::Send => put_number(out, at, party as u64),
-        CallKind::Take => put_number(out, at, party as u64),
-        CallKind::Answer => put_number(out, at, party as u64),
+        CallKind::Begin | CallKind::Send | CallKind::Take | CallKind::Answer => {
+            put_number(out, at, party.number() as u64)
+        }
     }
 }
 
 // The first refusal.
-pub fn put_refusal_line(out: &mut [u8], at: usize, refusal: Refusal) -> usize
-    ensures { text_at out.new result ≡ puts (text_at out.old at) (refusal_line refusal) }
+pub fn put_refusal_line(out: &mut [u8], at: usize, refused: RefusedCall) -> usize
+    ensures { text_at out.new result ≡ puts (text_at out.old at) (refusal_line refused) }
 {
-    let call = refusal.call;
+    let call = refused.call;
     let word = put_bytes(out, at, b"refused ");
     let first = put_call(out, word, call);
     let blank = put_byte(out, first, b' ');
-    let second = put_party(out, blank, call, refusal.party);
+    let second = put_party(out, blank, call, refused.party);
     let next = put_byte(out, second, b' ');
-    let third = put_number(out, next, refusal.number as u64);
+    let third = put_number(out, next, refused.number as u64);
     put_byte(out, third, b'\n')
 }
 
 // ---- Answers and opening counts
 
 // The answer of a party that was not refused.
-fn put_numbers_line(out: &mut [u8], at: usize, party: u32, numbers: &[u32]) -> usize
+fn put_numbers_line(out: &mut [u8], at: usize, party: Party, numbers: &[u32]) -> usize
     ensures { text_at out.new result ≡ puts (text_at out.old at) (numbers_line party numbers.now) }
 {
     let word = put_bytes(out, at, b"answer ");
-    let first = put_number(out, word, party as u64);
+    let first = put_number(out, word, party.number() as u64);
     let second = put_numbers(out, first, numbers);
     put_byte(out, second, b'\n')
 }
@@ -112,21 +108,21 @@ fn put_numbers_line(out: &mut [u8], at: usize, party: u32, numbers: &[u32]) -> u
 fn put_answer_line(
     out: &mut [u8],
     at: usize,
-    party: u32,
+    party: Party,
     res: AnswerResult,
     numbers: &[u32],
 ) -> usize
     ensures { text_at out.new result ≡ puts (text_at out.old at) (answer_or_refusal party (record { result = res; out = numbers.now })) }
 {
     if res.refused != 0 {
-        let refusal = Refusal {
+        let refused = RefusedCall {
             call: CallKind::Answer,
             party,
             number: res.refused,
         };
-        return put_refusal_line(out, at, refusal);
+        return put_refusal_line(out, at, refused);
     }
-    let length = least(res.length, numbers.len());
+    let length = res.length.min(numbers.len());
     put_numbers_line(out, at, party, &numbers[..length])
 }
 
@@ -138,17 +134,17 @@ pub fn put_answers(out: &mut [u8], at: usize, server: Side, phone: Side) -> usiz
     let mut numbers1 = [0u32; ANSWER_LENGTH];
     let result0 = answer(server, &mut numbers0);
     let result1 = answer(phone, &mut numbers1);
-    let next = put_answer_line(out, at, 0, result0, &numbers0);
-    put_answer_line(out, next, 1, result1, &numbers1)
+    let next = put_answer_line(out, at, Party::Server, result0, &numbers0);
+    put_answer_line(out, next, Party::Phone, result1, &numbers1)
 }
 
 // How many openings a side has accepted.
-pub fn put_openings(out: &mut [u8], at: usize, party: u32, side: Side) -> usize
+pub fn put_openings(out: &mut [u8], at: usize, party: Party, side: Side) -> usize
     ensures { text_at out.new result ≡ puts (text_at out.old at) (openings_line party side) }
 {
     let count = opening_count(side);
     let word = put_bytes(out, at, b"openings ");
-    let first = put_number(out, word, party as u64);
+    let first = put_number(out, word, party.number() as u64);
     let blank = put_byte(out, first, b' ');
     let second = put_number(out, blank, count as u64);
     put_byte(out, second, b'\n')

@@ -5,9 +5,10 @@ ghost use Rattle.text.specs.Text.{text_at, puts};
 ghost use Rattle.transcript.specs.Transcript.{head_length, run_terms_in, result_text, run_text, transcript_of, text_for, out_length};
 
 use crate::lines::{put_answers, put_malformed, put_messages, put_openings, put_refusal_line};
-use execution::{BOOK_LENGTH, Execution, RUN_BYTES, Refusal, RunTerms, execute};
-use lists::copy_numbers;
-use settings::{KEYS, Settings, Shape, WIDTH, WORK_LENGTH};
+use execution::{
+    BOOK_LENGTH, Execution, Party, RUN_BYTES, RefusedCall, RunSpace, RunTerms, execute,
+};
+use settings::{KEYS, Settings, Shape, WIDTH};
 use state::Side;
 
 // Where the server's keys stand in an input, and the phone's; and how many numbers stand before the inputs and the draw, or the books.
@@ -31,7 +32,7 @@ fn keys_in(numbers: &[u32], at: usize) -> [u32; KEYS]
     ensures { result ≡ take key_count (drop at numbers.now) }
 {
     let mut keys = [0u32; KEYS];
-    copy_numbers(&mut keys, 0, numbers, at, KEYS);
+    keys.copy_from_slice(&numbers[at..at + KEYS]);
     keys
 }
 
@@ -61,26 +62,32 @@ fn run_terms_in(numbers: &[u32]) -> RunTerms
 // ---- The text
 
 // Both answers, or the refusal of a call before them.
-fn put_end(out: &mut [u8], at: usize, refusal: Refusal, server: Side, phone: Side) -> usize
-    ensures { text_at out.new result ≡ puts (text_at out.old at) (result_text refusal server phone) }
+#[tactic(auto, unfolding(crate::specs::Transcript::result_text))]
+fn put_end(
+    out: &mut [u8],
+    at: usize,
+    refused: Option<RefusedCall>,
+    server: Side,
+    phone: Side,
+) -> usize
+    ensures { text_at out.new result ≡ puts (text_at out.old at) (result_text refused server phone) }
 {
-    if refusal.number != 0 {
-        return put_refusal_line(out, at, refusal);
+    match refused {
+        Some(call) => put_refusal_line(out, at, call),
+        None => put_answers(out, at, server, phone),
     }
-    put_answers(out, at, server, phone)
 }
 
 // A run with its messages.
 fn put_run(out: &mut [u8], shape: Shape, x: Execution, messages: &[u8]) -> usize
-    ensures { text_at out.new result ≡ puts (text_at out.old 0) (run_text shape x.refusal x.server.side x.phone.side messages.now) }
+    ensures { text_at out.new result ≡ puts (text_at out.old 0) (run_text shape x.refused x.server.side x.phone.side messages.now) }
 {
-    let refusal = x.refusal;
     let server = x.server.side;
     let phone = x.phone.side;
     let sent = put_messages(out, 0, shape, messages);
-    let result = put_end(out, sent, refusal, server, phone);
-    let counted = put_openings(out, result, 0, server);
-    put_openings(out, counted, 1, phone)
+    let result = put_end(out, sent, x.refused, server, phone);
+    let counted = put_openings(out, result, Party::Server, server);
+    put_openings(out, counted, Party::Phone, phone)
 }
 
 // The transcript of an input's numbers, in front of `out`: how many bytes it has. The caller lends OUT_LENGTH bytes.
@@ -92,22 +99,10 @@ fn transcript(numbers: &[u32], out: &mut [u8]) -> usize
         return put_malformed(out, 0);
     }
     let terms = run_terms_in(numbers);
-    let mut book0 = [0u32; BOOK_LENGTH];
-    let mut book1 = [0u32; BOOK_LENGTH];
-    let mut work0 = [0u32; WORK_LENGTH];
-    let mut work1 = [0u32; WORK_LENGTH];
-    let mut messages = [0u8; RUN_BYTES];
-    let x = execute(
-        terms,
-        &numbers[HEAD_LENGTH..],
-        &mut book0,
-        &mut book1,
-        &mut work0,
-        &mut work1,
-        &mut messages,
-    );
+    let mut space = RunSpace::new();
+    let x = execute(terms, &numbers[HEAD_LENGTH..], &mut space);
     let length = x.length;
-    put_run(out, terms.settings.shape, x, &messages[..length])
+    put_run(out, terms.settings.shape, x, &space.work.messages[..length])
 }
 
 // The text for an input that has so many numbers, or that is malformed, in front of `out`: how many bytes it has. The caller lends

@@ -8,12 +8,12 @@ execute_given-requires c =
     let a = c.args in
     as_many a.terms.settings.shape a.numbers.now (sym c.books_given.ensures ∙ c.if-books_given.true)
 
-pub returns-then-books_given : goal.returns-then-books_given
-returns-then-books_given c =
+pub returns-then-books_given-clause-run : goal.returns-then-books_given-clause-run
+returns-then-books_given-clause-run c =
     let a = c.args in
-    rw (runs-given a.terms a.numbers.now a.space.now.work.server a.space.now.work.phone (sym c.books_given.ensures ∙ c.if-books_given.true)) c.execute_given.ensures
+    rw (runs-given a.terms a.numbers.now a.space.now.work.server a.space.now.work.phone (sym c.books_given.ensures ∙ c.if-books_given.true)) c.execute_given.ensures.run
 
-pub returns : goal.returns
-returns c =
+pub returns-clause-run : goal.returns-clause-run
+returns-clause-run c =
     let a = c.args in
-    rw (runs-dealt a.terms a.numbers.now a.space.now.work.server a.space.now.work.phone (sym c.books_given.ensures ∙ c.if-books_given.false)) c.execute_dealt.ensures
+    rw (runs-dealt a.terms a.numbers.now a.space.now.work.server a.space.now.work.phone (sym c.books_given.ensures ∙ c.if-books_given.false)) c.execute_dealt.ensures.run

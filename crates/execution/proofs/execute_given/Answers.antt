@@ -9,8 +9,8 @@ use Rattle.execution.proofs.Whole.{ends-noted}
 use Rattle.execution.proofs.Given.{server_half, phone_half, given-run}
 use Rattle.execution.proofs.execute_given.Goals as goal
 
-pub returns : goal.returns
-returns c =
+pub returns-clause-run : goal.returns-clause-run
+returns-clause-run c =
     let a = c.args in
     let cut = c.cuts_of-first.ensures in
     let second = ap (λ (n : ℕ). c.cuts_of-first.result.draw + n) c.book_size.ensures in

@@ -1,27 +1,24 @@
--- `lines::put_result` meets its contract. Assumes nothing.
+-- `lines::put_result` meets its contract: the line is short enough.
 use borrow.Author.Rules.{rules}
-use mathlib.Core.Path.{◌≡◌, sym, ap, ◌∙◌}
-use Prim.Native.Nat.{ℕ, min}
+use Prim.Native.Nat.{ℕ, ◌≤◌, ◌<◌}
+use mathlib.Core.Path.{◌≡◌}
 use mir.Val.{Fits}
 use mir.Syntax.{w32}
 use native.Mathlib.Omega.{arith}
-use lib.ListN.{length, get_or}
-use Rattle.lists.proofs.Lists.{take_min}
-use Rattle.lines.proofs.Handed.{length_front, front_below}
+use lib.ListN.{length, get_or, take, length-take}
+use lib.Dec.{lit<}
 use Rattle.syntax.proofs.Answers.{length-answer}
+use Rattle.lines.proofs.Handed.{front_below, none_below}
 use Rattle.lines.proofs.put_result.Goals as goal
 
-pub returns : goal.returns
-returns c =
-    let least = c.least-count in
-    let a = c.args in
-    let r = a.res in
+pub returns-in-Ok-clause-res_len_bound : goal.returns-in-Ok-clause-res_len_bound
+returns-in-Ok-clause-res_len_bound c =
+    let r = c.in-Ok.answer in
     let eight : length r.numbers ≡ 8 = search rules in
-    let refused : Fits w32 r.refused = search rules in
     let each : (i : ℕ) → Fits w32 (get_or r.numbers i 0) = λ i. search rules in
-    let front = take_min r.length least.result r.numbers (least.ensures.0 ∙ ap (min r.length) (sym eight)) in
-    record {
-      result_after = rw (← front) c.put_answer.ensures;
-      res_len_bound = rw (← front) (length-answer a.number r.refused _ (omega (arith, eight, length_front least.result r.numbers (omega (arith, eight, least.ensures))))
-          (omega (arith, refused)) (front_below least.result r.numbers (λ i. omega (arith, each i))));
-    }
+    rw c.in-Ok.is (length-answer c.args.number 0 _ (omega (arith, eight, length-take r.length r.numbers)) (lit< tt) (front_below r.length r.numbers (λ i. omega (arith, each i))))
+
+pub returns-in-Err-clause-res_len_bound : goal.returns-in-Err-clause-res_len_bound
+returns-in-Err-clause-res_len_bound c =
+    let fits : Fits w32 c.in-Err.refused = search rules in
+    rw c.in-Err.is (length-answer c.args.number c.in-Err.refused _ (omega arith) (omega (arith, fits)) none_below)

@@ -14,6 +14,5 @@ pub returns : goal.returns
 unfolding answer_or_refusal
 returns c =
     let a = c.args in
-    let least = c.least-length in
     rw (eq-eqb a.res.refused 0 c.if-res-ne0.false)
-    (rw (take_min a.res.length least.result a.numbers.now least.ensures.0) at c.put_numbers_line.ensures)
+    (rw (take_min a.res.length c.min-length.result a.numbers.now c.min-length.ensures) at c.put_numbers_line.ensures)

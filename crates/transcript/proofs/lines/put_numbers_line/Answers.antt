@@ -6,10 +6,11 @@ use Rattle.transcript.proofs.lines.put_numbers_line.Goals as goal
 pub returns : goal.returns
 unfolding numbers_line
 returns c =
-    put_then _ _ _
+    rw (← c.number.ensures)
+    (put_then _ _ _
     (put_then _ _ _
     (put_then _ _ _
     c.put_bytes-word.ensures
     c.put_number-first.ensures)
     c.put_numbers-second.ensures)
-    c.put_byte.ensures
+    c.put_byte.ensures)

@@ -7,7 +7,7 @@ pub returns : goal.returns
 unfolding openings_line
 returns c =
     let d = c in
-    rw (← d.opening_count-count.ensures)
+    rw (← d.opening_count-count.ensures, ← c.number.ensures)
     (put_then _ _ _
     (put_then _ _ _
     (put_then _ _ _

@@ -1,0 +1,11 @@
+-- `lines::LineRunner::answer_line` meets its contract.
+use Rattle.lines.specs.Plain.{line_answer}
+use Rattle.lines.proofs.LineRunner.answer_line.Goals as goal
+
+pub returns-clause-at_after : goal.returns-clause-at_after
+unfolding line_answer
+returns-clause-at_after c = rw (← c.line_result-result.ensures.result_value) c.put_result.ensures.result_after
+
+pub returns-clause-line_len_bound : goal.returns-clause-line_len_bound
+unfolding line_answer
+returns-clause-line_len_bound c = rw (← c.line_result-result.ensures.result_value) c.put_result.ensures.res_len_bound
