@@ -8,10 +8,10 @@ ghost use Rattle.std.specs.Prelude.{◌≡◌, length};
 ghost use Rattle.lists.specs.Lists.{in_front};
 ghost use Rattle.stream.specs.Stream.{at_start, at_line, with_bytes, kept_after, next_line, is_left};
 
+use lists::{copy_bytes, length_before_by_blocks};
+
 pub use answers::LineAnswerer;
 pub use reading::answer_inputs;
-
-use lists::{copy_bytes, length_before_by_blocks};
 
 // Where an input stands: the number of the line that is being read, from 1; how many of its bytes are held; whether it has ended.
 #[derive(Clone, Copy)]

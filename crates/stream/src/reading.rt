@@ -43,8 +43,7 @@ fn read_parts<const KEPT: usize, const OUT: usize, R: Read, W: Write, A: LineAns
     kept: &mut [u8; KEPT],
     part: &mut [u8; PART],
     out: &mut [u8; OUT],
-) -> io::Result<Stream>
-{
+) -> io::Result<Stream> {
     let mut here = start_stream();
     for _ in 0..u64::MAX {
         let n = input.read(part)?;
@@ -65,8 +64,7 @@ fn answer_input<const KEPT: usize, const OUT: usize, R: Read, W: Write, A: LineA
     kept: &mut [u8; KEPT],
     part: &mut [u8; PART],
     out: &mut [u8; OUT],
-) -> io::Result<()>
-{
+) -> io::Result<()> {
     answerer.start(from);
     let end = read_parts(input, output, answerer, kept, part, out)?;
     let n = put_last(answerer, end, kept, out);
@@ -75,15 +73,19 @@ fn answer_input<const KEPT: usize, const OUT: usize, R: Read, W: Write, A: LineA
 
 // The inputs in the files that the arguments name, one after another, until a read or a write fails. A file that cannot be opened is
 // passed over.
-fn answer_files<const KEPT: usize, const OUT: usize, R: Env + Files + Print + Eprint, A: LineAnswerer<KEPT, OUT>>(
+fn answer_files<
+    const KEPT: usize,
+    const OUT: usize,
+    R: Env + Files + Print + Eprint,
+    A: LineAnswerer<KEPT, OUT>,
+>(
     rt: &R,
     answerer: &mut A,
     from: A::Carried,
     kept: &mut [u8; KEPT],
     part: &mut [u8; PART],
     out: &mut [u8; OUT],
-) -> io::Result<()>
-{
+) -> io::Result<()> {
     for i in 1..usize::MAX {
         let Some(opened) = open_argument(rt, i) else {
             break;
@@ -98,11 +100,12 @@ fn answer_files<const KEPT: usize, const OUT: usize, R: Env + Files + Print + Ep
 
 // Answers standard input, or, where there are arguments, the files that they name, each an input of its own to whose first line `from` is
 // carried. The slices for an input are made here once; no slice is longer than the system allows.
-pub fn answer_inputs<const KEPT: usize, const OUT: usize, R: Env + Files + Input + Print + Eprint, A: LineAnswerer<KEPT, OUT>>(
-    rt: &R,
-    answerer: &mut A,
-    from: A::Carried,
-) -> io::Result<()>
+pub fn answer_inputs<
+    const KEPT: usize,
+    const OUT: usize,
+    R: Env + Files + Input + Print + Eprint,
+    A: LineAnswerer<KEPT, OUT>,
+>(rt: &R, answerer: &mut A, from: A::Carried) -> io::Result<()>
     requires kept_fits { KEPT < 2 ^ 63 }
     requires out_fits { OUT < 2 ^ 63 }
 {
