@@ -3,7 +3,12 @@
 ghost use Rattle.std.specs.Prelude.{◌≡◌, ◌+◌, ◌<◌, ◌≤◌, get_or};
 ghost use Rattle.column.specs.Choice.{column_at, Room};
 
-use steps::Column;
+// A column of the working slice, and what a public 1 adds to it.
+#[derive(Clone, Copy)]
+pub struct Column {
+    pub index: usize,
+    pub weight: u32,
+}
 
 // Columns of a working slice: the share's, and behind it those of parts from column 1 + skip on; `count` in all.
 #[derive(Clone, Copy)]

@@ -20,13 +20,13 @@ ghost use Rattle.column.specs.Held.{Prepared, HeldAll, RegistersHeld, Made, Gate
 mod choice;
 mod numbers;
 
-pub use choice::{ChosenColumns, ColumnChoice};
+pub use choice::{ChosenColumns, Column, ColumnChoice};
 use lists::copy_numbers;
 use numbers::RoundNumbers;
 use settings::{MOST_OPENINGS, PLACES, Settings, WIDTH, openings_in, top_digits_0, top_digits_1};
 use slice::{FIRST, MASKED, OWN, SECOND, Weighted, register, rises_into};
 use steps::{
-    Column, Context, Factors, Gate, after_check, context_of, gate_of, gate_value, insides_value,
+    Context, Factors, Gate, after_check, column_of, context_of, gate_of, gate_value, insides_value,
     open_check, open_input, open_u, open_v, split_place, sum_value, terms_of,
 };
 
@@ -58,14 +58,15 @@ fn plain_opening(work: &[u32], col: Column, settings: Settings, round: u32, o: u
     requires lt_round { (round ≢ 1 → 5 < round) × (round ≡ 6 → settings.shape.kind ≡ 0) }
     ensures { (masked : ℕ → ℕ) → result ≡ opening_on (public_by settings masked) round col.weight (column work.now col.index) o }
 {
+    let column = column_of(work, col.index);
     if round == 1 {
-        return open_input(work, col, settings, o);
+        return open_input(column, col.weight, settings, o);
     }
     if round == 6 {
-        let zeros = register(work, col.index, SECOND + o);
-        return open_check(work, col, settings.shape, o, zeros);
+        let zeros = register(column, SECOND + o);
+        return open_check(column, col.weight, settings.shape, o, zeros);
     }
-    register(work, col.index, FIRST + o)
+    register(column, FIRST + o)
 }
 
 // Opening by opening, each in all columns.
@@ -98,7 +99,8 @@ fn prepare_insides(out: &mut [u32], columns: ChosenColumns, known: Context)
     let work = columns.work;
     into_columns(out, 0, MOST_OPENINGS, columns.choice.count, |f| {
         let col = columns.at(f);
-        open_check(work, col, shape, 0, insides_value(work, col, known))
+        let column = column_of(work, col.index);
+        open_check(column, col.weight, shape, 0, insides_value(column, col.weight, known))
     });
 }
 
@@ -118,9 +120,9 @@ fn prepare_gates(out: &mut [u32], columns: ChosenColumns, known: Context, rises:
         let x = split_place(shape.kind, g);
         let split = known.splits[x];
         let gate = gate_of(shape, split, g, i);
-        into_columns(out, 2 * g, MOST_OPENINGS, count, |f| open_u(work, columns.at(f).index, gate));
+        into_columns(out, 2 * g, MOST_OPENINGS, count, |f| open_u(column_of(work, columns.at(f).index), gate));
         into_columns(out, 2 * g + 1, MOST_OPENINGS, count, |f| {
-            open_v(work, columns.at(f).index, gate, rises)
+            open_v(column_of(work, columns.at(f).index), gate, rises)
         });
     }
 }
@@ -228,15 +230,11 @@ fn results_into(next: &mut [u32], numbers: RoundNumbers, gate: Gate, tops: &[u32
         v: numbers.opened[o + 1],
     };
     into_columns(next, at, 16, weights.len(), |c| {
-        let col = Column {
-            index: c,
-            weight: weights[c],
-        };
         let mine = Factors {
             u: own[MOST_OPENINGS * c + o],
             v: own[MOST_OPENINGS * c + (o + 1)],
         };
-        gate_value(work, col, gate, mine, joined, tops)
+        gate_value(column_of(work, c), weights[c], gate, mine, joined, tops)
     });
 }
 
@@ -246,7 +244,7 @@ fn first_sum(work: &[u32], col: usize, terms: Weighted) -> u32
     requires places_in_bounds { (col + 1) * places ≤ length work.now }
     ensures { result ≡ value q 0 (column work.now col) (sum_form terms 0) }
 {
-    sum_value(work, col, terms, &[])
+    sum_value(column_of(work, col), terms, &[])
 }
 
 // Round 1: it makes what round 2 finds, with the context of round 2.
@@ -314,14 +312,15 @@ fn late_register(numbers: RoundNumbers, col: usize, settings: Settings, round: u
     ensures { (masked : ℕ → ℕ) (κ : ℕ) → result ≡ running_on (public_by settings masked) round (λ (o : ℕ). get_or numbers.entry.opened.now o 0) κ
         (column numbers.entry.work.now col) (g % 2) (g / 2) }
 {
-    let kept = register(numbers.work, col, FIRST + 8 * (g % 2) + g / 2);
+    let column = column_of(numbers.work, col);
+    let kept = register(column, FIRST + 8 * (g % 2) + g / 2);
     if round != 6 {
         return kept;
     }
     if g % 2 != 0 {
         return kept;
     }
-    after_check(numbers.work, col, settings, g / 2, numbers.opened)
+    after_check(column, settings, g / 2, numbers.opened)
 }
 
 // Rounds 6 and 7.

@@ -2,4 +2,4 @@
 use Rattle.column.proofs.first_sum.Goals as goal
 
 pub returns : goal.returns
-returns c = c.sum_value.ensures 0
+returns c = rw (← c.column_of.ensures) (c.sum_value.ensures 0)

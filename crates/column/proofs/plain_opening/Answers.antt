@@ -1,7 +1,7 @@
 -- `column::plain_opening` meets its contract. Assumes nothing.
 use Rattle.column.proofs.Contexts.{check-high}
 use Rattle.steps.specs.Context.{public_by}
-use Rattle.slice.specs.Layout.{running_at, column}
+use Rattle.slice.specs.Layout.{running_at, registers}
 use Rattle.field.specs.Forms.{value, reg}
 use Rattle.field.specs.Field.{q}
 use mathlib.Core.Path.{ap, ◌∙◌}
@@ -13,11 +13,11 @@ use native.Mathlib.Omega.{arith}
 use Rattle.column.proofs.plain_opening.Goals as goal
 
 pub open_input-requires : goal.open_input-requires
-open_input-requires c = record { ready = c.requires.ready; places_in_bounds = (c.requires.places_in_bounds.0, omega (arith, open_first (params_of c.args.settings.shape) c.args.round c.if-round-eq1.true)) }
+open_input-requires c = record { ready = c.requires.ready; coefficient = omega (arith, open_first (params_of c.args.settings.shape) c.args.round c.if-round-eq1.true) }
 
 pub returns-then-round-eq1 : goal.returns-then-round-eq1
 unfolding opening
-returns-then-round-eq1 c = λ masked. rw (eq-eqb _ _ c.if-round-eq1.true) (c.open_input.ensures masked)
+returns-then-round-eq1 c = λ masked. rw (eq-eqb _ _ c.if-round-eq1.true, ← c.column_of-column.ensures) (c.open_input.ensures masked)
 
 pub overflow_add-o : goal.overflow_add-o
 overflow_add-o c =
@@ -36,14 +36,15 @@ open_check-requires c =
     let p = c.requires in
     let a = c.args in
     let if1 = c.if-round-eq1 in
-    record { shape_ready = p.ready.shape; places_in_bounds = omega (arith, open_late (params_of a.settings.shape) a.round if1.false (p.lt_round.0 if1.false) p.ready.shape.some) }
+    record { shape_ready = p.ready.shape; group_in = omega (arith, open_late (params_of a.settings.shape) a.round if1.false (p.lt_round.0 if1.false) p.ready.shape.some) }
 
 pub returns-then-round-eq6 : goal.returns-then-round-eq6
 returns-then-round-eq6 c = λ masked.
     let a = c.args in
-    c.open_check.ensures (reg (running_at 1 a.o)) c.register-zeros.ensures
-    ∙ ap (value q a.col.weight (column a.work.now a.col.index))
-    (check-high (public_by a.settings masked) a.round a.o c.if-round-eq6.true (c.requires.lt_round.1 c.if-round-eq6.true))
+    rw (← c.column_of-column.ensures)
+    (c.open_check.ensures (reg (running_at 1 a.o)) c.register-zeros.ensures
+    ∙ ap (value q a.col.weight (registers c.column_of-column.result.now))
+    (check-high (public_by a.settings masked) a.round a.o c.if-round-eq6.true (c.requires.lt_round.1 c.if-round-eq6.true)))
 
 pub overflow_add-o-2 : goal.overflow_add-o-2
 overflow_add-o-2 c =
@@ -63,4 +64,4 @@ returns c =
     let if1 = c.if-round-eq1 in
     let a = c.args in
     let p = c.requires in
-    λ masked. rw (ne_eqb _ _ if1.false, lt-leb a.round 5 (p.lt_round.0 if1.false), ne_eqb _ _ c.if-round-eq6.false) c.register.ensures
+    λ masked. rw (ne_eqb _ _ if1.false, lt-leb a.round 5 (p.lt_round.0 if1.false), ne_eqb _ _ c.if-round-eq6.false, ← c.column_of-column.ensures) c.register.ensures
