@@ -155,7 +155,8 @@ fn prepare_last<const N: usize>(
     prepare_gates(out, columns, known, &rises);
 }
 
-// The same, with the list of the set where the round reads one. It is taken once for all gates.
+// The same, with the list of the set where the round reads one. It is taken once for all gates; the two lists are arrays of different
+// lengths, so that each is lent by a branch of its own.
 fn prepare_digits(out: &mut [u32], columns: ChosenColumns, known: Context)
     requires ready { Ready known.settings × SplitsBelow known }
     requires out_long { most_openings * columns.choice.count ≤ length out.old }
@@ -284,7 +285,8 @@ fn gate_registers(next: &mut [u32], numbers: RoundNumbers, known: Context, tops:
     }
 }
 
-// The same, with the list of the set where the round reads one. It is taken once for all gates.
+// The same, with the list of the set where the round reads one. It is taken once for all gates; the two lists are arrays of different
+// lengths, so that each is lent by a branch of its own.
 fn digit_registers(next: &mut [u32], numbers: RoundNumbers, known: Context)
     requires ready { Ready known.settings × SplitsBelow known }
     requires round { (2 ≤ known.round) × (known.round ≤ 5) }
