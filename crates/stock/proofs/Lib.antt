@@ -1,4 +1,4 @@
--- Laws of stocks and of the choice.
+-- Laws of the choice.
 pub mod Scans
 pub mod Choice
 pub mod Door

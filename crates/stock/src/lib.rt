@@ -1,19 +1,13 @@
 // Choice of a book from two lent stocks, the one with the least serial above the last; and its questions.
 #![tactic(auto)]
 
-ghost use Rattle.std.specs.Prelude.{◌≡◌, ◌&&◌, ◌+◌, ◌*◌, ◌/◌, ◌%◌, ◌≤◌, ◌<◌, eqb, length, take, drop};
+ghost use Rattle.std.specs.Prelude.{◌≡◌, ◌&&◌, ◌%◌, ◌≤◌, ◌<◌, eqb, length, option_map, IfOk};
+ghost use Rattle.settings.specs.Refusals.{refused};
 ghost use Rattle.settings.specs.Sizes.{key_count};
-ghost use Rattle.stock.specs.Stock.{stocked_size, best_of, ask_stocks, choose_no, chosen};
-ghost use Rattle.stock.specs.Scan.{Least, LeastOf, serial_at};
+ghost use Rattle.stock.specs.Stock.{stocked_size, books_of, serial_of, ask_stocks, choose_no, chosen};
+ghost use Rattle.stock.specs.Scan.{better, scanned};
 
-use settings::{LENGTH, NO_BOOK, Shape, WIDTH, shape_no, shared_of};
-
-// A book's place in its stock, and its serial; serial 0 for none.
-#[derive(Clone, Copy)]
-struct Found {
-    at: usize,
-    serial: u32,
-}
+use settings::{Refusal, Shape, WIDTH, ask_shape, shared_of};
 
 // How many numbers a book has in a stock. (Callers have asked questions 1 and 2.)
 fn stocked_size(shape: Shape) -> usize
@@ -23,123 +17,100 @@ fn stocked_size(shape: Shape) -> usize
     1 + shared_of(shape) * WIDTH
 }
 
-// A book as a part of its stock.
-fn book_at<'a>(stock: &'a [u32], at: usize, size: usize) -> &'a [u32]
-    requires { at + size ≤ length stock.now }
-    ensures { result.now ≡ take size (drop at stock.now) }
-{
-    &stock[at..at + size]
+// A book in its stock: its serial, and then its numbers.
+#[derive(Clone, Copy)]
+struct Book<'a> {
+    part: &'a [u32],
+    ghost some: { 1 ≤ length part.now },
 }
 
-// ---- One stock
-
-// Of what was found and one book more: that one only if it is above the last and less than what was found, so that the earlier of two equals stays.
-fn better(last: u32, found: Found, at: usize, serial: u32) -> Found
-    ensures { result ≡ Rattle.stock.specs.Scan.better last found at serial }
-{
-    if last >= serial {
-        return found;
+impl<'a> Book<'a> {
+    fn serial(&self) -> u32
+        ensures { result ≡ serial_of self.now.part.now }
+    {
+        self.part[0]
     }
-    if found.serial == 0 {
-        return Found { at, serial };
-    }
-    if serial < found.serial {
-        return Found { at, serial };
-    }
-    found
-}
 
-// The first book with the least serial above the last.
-fn scan(stock: &[u32], size: usize, last: u32) -> Found
-    requires { 1 ≤ size }
-    ensures { LeastOf stock.now size last result }
-{
-    let count = stock.len() / size;
-    let mut found = Found { at: 0, serial: 0 };
-    let mut i = 0;
-    while i < count {
-        found = better(last, found, i * size, stock[i * size]);
-        i += 1;
-    }
-    found
-}
-
-// ---- Both stocks
-
-// The best book of both stocks, or the empty part.
-fn best_of<'a>(first: &'a [u32], second: &'a [u32], size: usize, last: u32) -> &'a [u32]
-    requires { 1 ≤ size }
-    ensures { result.now ≡ best_of last size first.now second.now }
-{
-    let a = scan(first, size, last);
-    let b = scan(second, size, last);
-    if a.serial == 0 {
-        if b.serial == 0 {
-            return &first[..0];
+    // Of what was found and this book: this one only if it is above the last and less than what was found, so that the earlier of two equals stays.
+    fn better(self, last: u32, found: Option<Book<'a>>) -> Option<Book<'a>>
+        ensures { option_map (λ b. b.part.now) result ≡ better last (option_map (λ b. b.part.now) found.entry) self.entry.part.now }
+    {
+        if self.serial() <= last {
+            return found;
         }
-        return book_at(second, b.at, size);
+        match found {
+            Some(least) if least.serial() <= self.serial() => found,
+            _ => Some(self),
+        }
     }
-    if b.serial == 0 {
-        return book_at(first, a.at, size);
-    }
-    if a.serial <= b.serial {
-        return book_at(first, a.at, size);
-    }
-    book_at(second, b.at, size)
 }
+
+// The first book with the least serial above the last, of what was found before and a stock's books.
+fn scan<'a>(
+    last: u32,
+    size: usize,
+    stock: &'a [u32],
+    mut found: Option<Book<'a>>,
+) -> Option<Book<'a>>
+    requires { 1 ≤ size }
+    ensures { option_map (λ b. b.part.now) result ≡ scanned last (books_of size stock.now) (option_map (λ b. b.part.now) found.entry) }
+{
+    for part in stock.chunks_exact(size) {
+        found = Book { part }.better(last, found);
+    }
+    found
+}
+
+// ---- The calls
 
 // Question 5: are both stocks whole books?
 fn whole_books(first: &[u32], second: &[u32], size: usize) -> bool
     requires { 1 ≤ size }
     ensures { result ≡ (eqb (length first.now % size) 0 && eqb (length second.now % size) 0) }
 {
-    if first.len() % size != 0 {
-        return false;
-    }
-    second.len() % size == 0
+    first.len() % size == 0 && second.len() % size == 0
 }
 
-// Questions 1, 2 and 5: the first no, or 0.
-fn stocks_no(shape: Shape, first: &[u32], second: &[u32]) -> u32
-    ensures { result ≡ ask_stocks key_count shape first.now second.now 0 }
+// Questions 1, 2 and 5.
+fn ask_stocks(shape: Shape, first: &[u32], second: &[u32]) -> Result<(), Refusal>
+    ensures { refused result ≡ ask_stocks key_count shape first.now second.now 0 }
 {
-    let no = shape_no(shape);
-    if no != 0 {
-        return no;
+    ask_shape(shape)?;
+    if !whole_books(first, second, stocked_size(shape)) {
+        return Err(Refusal::Length);
     }
-    let size = stocked_size(shape);
-    if !whole_books(first, second, size) {
-        return LENGTH;
-    }
-    0
+    Ok(())
 }
 
-// The refusal number of choose, or 0.
-pub fn choose_no(shape: Shape, first: &[u32], second: &[u32], last: u32) -> u32
-    ensures { result ≡ choose_no key_count shape first.now second.now last }
+// The book with the least serial above the last, from its serial on.
+fn find<'a>(
+    shape: Shape,
+    first: &'a [u32],
+    second: &'a [u32],
+    last: u32,
+) -> Result<&'a [u32], Refusal>
+    ensures no { refused result ≡ choose_no key_count shape first.now second.now last }
+    ensures book { IfOk result (λ part. part.now ≡ chosen key_count shape first.now second.now last) }
 {
-    let no = stocks_no(shape, first, second);
-    if no != 0 {
-        return no;
-    }
+    ask_stocks(shape, first, second)?;
     let size = stocked_size(shape);
-    let a = scan(first, size, last);
-    if a.serial != 0 {
-        return 0;
+    match scan(last, size, second, scan(last, size, first, None)) {
+        Some(book) => Ok(book.part),
+        None => Err(Refusal::NoBook),
     }
-    let b = scan(second, size, last);
-    if b.serial != 0 {
-        return 0;
-    }
-    NO_BOOK
+}
+
+// May choose give a book?
+pub fn choose_no(shape: Shape, first: &[u32], second: &[u32], last: u32) -> Result<(), Refusal>
+    ensures { refused result ≡ choose_no key_count shape first.now second.now last }
+{
+    find(shape, first, second, last)?;
+    Ok(())
 }
 
 // The book with the least serial above the last, from its serial on; under any no the empty part.
 pub fn choose<'a>(shape: Shape, first: &'a [u32], second: &'a [u32], last: u32) -> &'a [u32]
     ensures { result.now ≡ chosen key_count shape first.now second.now last }
 {
-    if stocks_no(shape, first, second) != 0 {
-        return &second[..0];
-    }
-    best_of(first, second, stocked_size(shape), last)
+    find(shape, first, second, last).unwrap_or(&second[..0])
 }
