@@ -100,7 +100,13 @@ fn prepare_insides(out: &mut [u32], columns: ChosenColumns, known: Context)
     into_columns(out, 0, MOST_OPENINGS, columns.choice.count, |f| {
         let col = columns.at(f);
         let column = column_of(work, col.index);
-        open_check(column, col.weight, shape, 0, insides_value(column, col.weight, known))
+        open_check(
+            column,
+            col.weight,
+            shape,
+            0,
+            insides_value(column, col.weight, known),
+        )
     });
 }
 

@@ -31,7 +31,7 @@ pub const OWN: usize = 1344;
 
 pub const MASKED: usize = 1376;
 
-// How the entries of a digit's vector are summed.
+// How the entries of a digit's vector are summed: data of a gate, which the specification reads too.
 #[derive(Clone, Copy)]
 pub enum Rule {
     Carry,
@@ -129,7 +129,7 @@ pub fn begin_work(work: &mut [u32], shape: Shape, inputs: &[u32], book: &[u32])
 
 // ---- Columns and kept numbers
 
-// What a public 1 adds to each column on side `number`, whose keys these are.
+// What a public 1 adds to each column on side `number`, 0 or 1 as its caller's state holds it, whose keys these are.
 pub fn weights_of(number: u32, keys: [u32; KEYS]) -> [u32; WIDTH]
     ensures { result ≡ weights key_count number keys }
 {

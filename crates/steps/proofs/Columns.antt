@@ -1,14 +1,14 @@
 -- A column as a part of its slice.
 use mathlib.Core.Path.{◌≡◌, refl, fun_ext, ◌∙◌}
 use mathlib.Core.List.{List}
-use Prim.Native.Nat.{ℕ, zero, suc, ◌+◌, ◌*◌, ◌≤◌, ◌<◌}
+use Prim.Native.Nat.{ℕ, zero, suc, ◌*◌, ◌<◌}
 use native.Mathlib.Nat.{zero-mul}
 use native.Mathlib.Nat.{suc-mul, add_comm}
 use native.Mathlib.Decide.{dec_lt}
 use native.Mathlib.Omega.{arith}
 use borrow.Author.Tests.{lt-ltb, le-ltb}
 use Rattle.std.proofs.lemmas.List.{get_or-take, get_or-drop, drop-drop}
-use lib.ListN.{length, get_or, take, drop}
+use lib.ListN.{get_or, take, drop}
 use Rattle.std.specs.Simd.{first_chunks}
 use Rattle.settings.specs.Sizes.{places}
 use Rattle.slice.specs.Layout.{own_at, registers, column}

@@ -46,6 +46,7 @@ pub fn column_of(work: &[u32], c: usize) -> &[u32; PLACES]
 
 // The first (which = 0) or second (1) gate of coefficient j for a digit: addend + u × v, by the triple at a place. All columns share it.
 // `kind` is the shape's, and `which` counts: the gate's register is 8 × which + j (the layout's), so both are numbers.
+// GateFits and TermsFit are clauses and no ghost fields, which are no plainer: `gate_at` and `terms_at` make gates of any arguments.
 #[derive(Clone, Copy)]
 pub struct Gate {
     pub kind: u32,
@@ -321,10 +322,7 @@ pub fn open_input(column: &[u32; PLACES], weight: u32, settings: Settings, j: us
     let shape = settings.shape;
     let shift = shift_of(settings);
     let place = mask_at(shape, j);
-    let a = add_mod(
-        register(column, INPUT + j),
-        mul_mod(weight, shift),
-    );
+    let a = add_mod(register(column, INPUT + j), mul_mod(weight, shift));
     sub_mod(a, register(column, place))
 }
 
@@ -333,10 +331,7 @@ fn inside_value(column: &[u32; PLACES], weight: u32, hi: u32, lo: u32, j: usize)
     requires { j < 8 }
     ensures { result ≡ value q weight (registers column.now) (reg (running_at 0 j) ⊟ reg (running_at 1 j) ⊞ num (bit (ltb hi lo))) }
 {
-    let d = sub_mod(
-        register(column, FIRST + j),
-        register(column, SECOND + j),
-    );
+    let d = sub_mod(register(column, FIRST + j), register(column, SECOND + j));
     add_mod(d, mul_mod(weight, u32::from(hi < lo)))
 }
 
@@ -358,7 +353,13 @@ pub fn insides_value(column: &[u32; PLACES], weight: u32, known: Context) -> u32
 }
 
 // Round 6: ρ + g × (K − number), of the group of a coefficient. HIGH: the number is its count of zeros; BOUND: that of the insides.
-pub fn open_check(column: &[u32; PLACES], weight: u32, shape: Shape, group: usize, number: u32) -> u32
+pub fn open_check(
+    column: &[u32; PLACES],
+    weight: u32,
+    shape: Shape,
+    group: usize,
+    number: u32,
+) -> u32
     requires shape_ready { ShapeReady shape }
     requires group_in { group < shape.n }
     ensures { (f : Form) → number ≡ value q weight (registers column.now) f → result
