@@ -1,7 +1,7 @@
 -- What the functions of a round hold in lent lists: a side's numbers for the openings, and the running registers after the round.
-use Rattle.std.specs.Prelude.{ℕ, ◌+◌, ◌-◌, ◌*◌, ◌/◌, ◌%◌, ◌≤◌, ◌<◌, ◌≡◌, Bool, true, cond, ◌&&◌, List, eqb, length, get_or}
+use Rattle.std.specs.Prelude.{ℕ, ◌+◌, ◌-◌, ◌*◌, ◌/◌, ◌%◌, ◌<◌, ◌≡◌, Bool, true, cond, ◌&&◌, List, eqb, length, get_or}
 use Rattle.settings.specs.Sets.{scale_of}
-use Rattle.settings.specs.Sizes.{openings, most_openings, places}
+use Rattle.settings.specs.Sizes.{openings, most_openings}
 use Rattle.field.specs.Field.{q}
 use Rattle.field.specs.Forms.{value}
 use Rattle.slice.specs.Layout.{column, masked_in}

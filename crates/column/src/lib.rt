@@ -23,7 +23,7 @@ mod numbers;
 pub use choice::{ChosenColumns, Column, ColumnChoice};
 use lists::copy_numbers;
 use numbers::RoundNumbers;
-use settings::{MOST_OPENINGS, PLACES, Settings, WIDTH, openings_in, top_digits_0, top_digits_1};
+use settings::{MOST_OPENINGS, PLACES, Settings, WIDTH, openings_in, top_digits};
 use slice::{FIRST, MASKED, OWN, SECOND, Weighted, register, rises_into};
 use steps::{
     Context, Factors, Gate, after_check, column_of, context_of, gate_of, gate_value, insides_value,
@@ -126,7 +126,13 @@ fn prepare_gates(out: &mut [u32], columns: ChosenColumns, known: Context, rises:
         let x = split_place(shape.kind, g);
         let split = known.splits[x];
         let gate = gate_of(shape, split, g, i);
-        into_columns(out, 2 * g, MOST_OPENINGS, count, |f| open_u(column_of(work, columns.at(f).index), gate));
+        into_columns(
+            out,
+            2 * g,
+            MOST_OPENINGS,
+            count,
+            |f| open_u(column_of(work, columns.at(f).index), gate),
+        );
         into_columns(out, 2 * g + 1, MOST_OPENINGS, count, |f| {
             open_v(column_of(work, columns.at(f).index), gate, rises)
         });
@@ -161,8 +167,7 @@ fn prepare_last<const N: usize>(
     prepare_gates(out, columns, known, &rises);
 }
 
-// The same, with the list of the set where the round reads one. It is taken once for all gates; the two lists are arrays of different
-// lengths, so that each is lent by a branch of its own.
+// The same, with the list of the set where the round reads one. What it grows by fills an array, whose length is the set's.
 fn prepare_digits(out: &mut [u32], columns: ChosenColumns, known: Context)
     requires ready { Ready known.settings × SplitsBelow known }
     requires out_long { most_openings * columns.choice.count ≤ length out.old }
@@ -175,11 +180,12 @@ fn prepare_digits(out: &mut [u32], columns: ChosenColumns, known: Context)
         prepare_gates(out, columns, known, &[]);
         return;
     }
+    let tops = top_digits(shape.set as usize);
     if shape.set == 0 {
-        prepare_last::<89>(out, columns, known, &top_digits_0());
+        prepare_last::<89>(out, columns, known, tops);
         return;
     }
-    prepare_last::<33>(out, columns, known, &top_digits_1());
+    prepare_last::<33>(out, columns, known, tops);
 }
 
 // A side's numbers for the openings of a round, in a choice of columns: 32 places of `out` for each. Crate opening asks for round 1 to 7,
@@ -306,11 +312,7 @@ fn digit_registers(next: &mut [u32], numbers: RoundNumbers, known: Context)
         gate_registers(next, numbers, known, &[]);
         return;
     }
-    if shape.set == 0 {
-        gate_registers(next, numbers, known, &top_digits_0());
-        return;
-    }
-    gate_registers(next, numbers, known, &top_digits_1());
+    gate_registers(next, numbers, known, top_digits(shape.set as usize));
 }
 
 // Gate g's register in a column after round 6 or 7: round 6 changes the first registers.

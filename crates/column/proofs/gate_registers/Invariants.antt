@@ -2,7 +2,6 @@
 use Rattle.column.specs.Held.{Made}
 use Rattle.steps.specs.Context.{public_by, ContextOf}
 use Prim.Native.Nat.{ℕ}
-use lib.ListN.{get_or}
 use Rattle.column.proofs.gate_registers.Given as goal
 
 abbrev pub invariant-loop-g : goal.invariant-loop-g

@@ -1,10 +1,7 @@
 -- `column::late_registers` meets its contract. Assumes nothing.
 use Rattle.column.specs.Held.{Made}
 use Rattle.steps.specs.Context.{public_by}
-use mathlib.Core.List.{List}
 use Prim.Native.Nat.{ℕ}
-use mathlib.Core.Path.{◌≡◌}
-use lib.ListN.{length, get_or}
 use Rattle.column.proofs.late_registers.Given as goal
 
 abbrev pub invariant-loop-g : goal.invariant-loop-g

@@ -1,7 +1,6 @@
 -- `column::prepare_gates` meets its contract. Assumes nothing.
 use Rattle.column.specs.Held.{Holds}
 use Rattle.steps.specs.Context.{public_by, ContextOf}
-use mathlib.Core.List.{List}
 use Prim.Native.Nat.{ℕ, ◌*◌}
 use Rattle.column.proofs.prepare_gates.Given as goal
 
