@@ -18,14 +18,13 @@ use Rattle.settings.specs.Schedule.{round_ok, round_after}
 use Rattle.settings.proofs.Schedule.{round_ok_lem}
 use Rattle.settings.proofs.Ready.{settings-pass, settings_rest}
 use Rattle.rounding.specs.declared.HighLow.{HighLow}
-use Rattle.rounding.specs.declared.Decomposition.TheVariants as Decomposition
-use Rattle.rounding.specs.declared.Verdict.TheVariants as Verdict
+use Rattle.settings.specs.Refusals.{Gives, No}
 use Rattle.rounding.specs.Plain.{high_low_of, verdict}
 use Rattle.rounding.specs.Calls.{parts_no, verdict_no, parts_call, verdict_call}
 use Rattle.message.specs.Message.{ask_form, form_no}
 use Rattle.dealer.specs.Deal.{deal_no, deal_call}
 use Rattle.stock.specs.Stock.{ask_stocks, choose_no, chosen}
-use Rattle.generator.specs.declared.Seeded.TheVariants as Seeded
+use Rattle.generator.specs.declared.Generator.{Generator}
 use Rattle.generator.specs.Calls.{seed_call, draw_no, draw_call}
 use Rattle.ring.specs.Calls.{called, ring_no, ring_call, transform_no, transform_call, transformed_call}
 use Rattle.state.specs.declared.Side.{Side}
@@ -35,7 +34,7 @@ use Rattle.side.specs.Side.{handed_no, begin_no, begin_call, begun_side, send_no
 use Rattle.refusals.specs.Questions.{Question, parts_questions, verdict_questions, form_questions, deal_questions, choose_questions}
 use Rattle.refusals.specs.Questions.{seed_questions, draw_questions, ring_questions, transform_questions}
 use Rattle.refusals.specs.Questions.{begin_questions, send_questions, take_questions, answer_questions}
-use Rattle.refusals.specs.Demands.{Decides, Refuses, RefusesSide, parts_refusal, verdict_refusal, seed_refusal, Demand1}
+use Rattle.refusals.specs.Demands.{Decides, Refuses, RefusesSide, refusal_of, Demand1}
 use Rattle.refusals.proofs.Deciding.{first_no, joined, decides, never_thirteen}
 use Rattle.refusals.proofs.Leaving.{went, refused, went_on, kept, stops, not_stopped, done-runs}
 
@@ -50,20 +49,20 @@ unfolding verdict_no first_no every
 verdict-decides set bound ws = decides (verdict_questions set bound ws) refl
 
 -- the number in a call's answer is its first no
-parts-number : (set w : ℕ) → parts_refusal (parts_call set w) ≡ parts_no set w
+parts-number : (set w : ℕ) → refusal_of (parts_call set w) ≡ parts_no set w
 unfolding parts_call
 parts-number set w = by (high_low_of (scale_of set) w) (eqb (parts_no set w) 0) refl
   where
     by : (parts : HighLow) (b : Bool) → eqb (parts_no set w) 0 ≡ b
-        → parts_refusal (cond b (Decomposition.Parts parts) (Decomposition.No (parts_no set w))) ≡ parts_no set w
+        → refusal_of (cond b (Gives parts) (No (parts_no set w))) ≡ parts_no set w
     by parts true e = sym (eqb-true (parts_no set w) 0 e)
     by parts false e = refl
 
-verdict-number : (set bound : ℕ) (ws : List ℕ) → verdict_refusal (verdict_call set bound ws) ≡ verdict_no set bound ws
+verdict-number : (set bound : ℕ) (ws : List ℕ) → refusal_of (verdict_call set bound ws) ≡ verdict_no set bound ws
 unfolding verdict_call
 verdict-number set bound ws = by (verdict q bound ws) (verdict_no set bound ws) (eqb (verdict_no set bound ws) 0) refl
   where
-    by : (is refusal : ℕ) (b : Bool) → eqb refusal 0 ≡ b → verdict_refusal (cond b (Verdict.Is is) (Verdict.No refusal)) ≡ refusal
+    by : (is refusal : ℕ) (b : Bool) → eqb refusal 0 ≡ b → refusal_of (cond b (Gives is) (No refusal)) ≡ refusal
     by is refusal true e = sym (eqb-true refusal 0 e)
     by is refusal false e = refl
 
@@ -110,15 +109,15 @@ choose_refuses k a first second last =
 
 -- ---- The generator for tests
 
-seed-number : (seed : ℕ) → seed_refusal (seed_call seed) ≡ ask (ltb 0 seed) 16 0
+seed-number : (seed : ℕ) → refusal_of (seed_call seed) ≡ ask (ltb 0 seed) 16 0
 unfolding seed_call ask
 seed-number seed = by (ltb 0 seed)
   where
-    by : (b : Bool) → seed_refusal (cond b (Seeded.Ready (record { state = seed })) (Seeded.No 16)) ≡ ask b 16 0
+    by : (b : Bool) → refusal_of {A = Generator} (cond b (Gives (record { state = seed })) (No 16)) ≡ ask b 16 0
     by true = refl
     by false = refl
 
-seed-decides : (seed : ℕ) → Decides (seed_questions seed) (seed_refusal (seed_call seed))
+seed-decides : (seed : ℕ) → Decides (seed_questions seed) (refusal_of (seed_call seed))
 unfolding first_no every
 seed-decides seed = rw (seed-number seed) (decides (seed_questions seed) refl)
 

@@ -3,13 +3,11 @@
 use Rattle.std.specs.Prelude.{ℕ, ◌<◌, ◌≡◌, ◌≢◌, Bool, true, false, not, ◌||◌, List, [], length, get_or}
 use Rattle.settings.specs.declared.Shape.{Shape}
 use Rattle.settings.specs.declared.Settings.{Settings}
-use Rattle.rounding.specs.declared.Decomposition.{Decomposition}
-use Rattle.rounding.specs.declared.Verdict.{Verdict}
+use Rattle.settings.specs.Refusals.{Outcome, Gives, No}
 use Rattle.rounding.specs.Calls.{parts_call, verdict_call}
 use Rattle.message.specs.Message.{form_no}
 use Rattle.dealer.specs.Deal.{deal_call}
 use Rattle.stock.specs.Stock.{choose_no, chosen}
-use Rattle.generator.specs.declared.Seeded.{Seeded}
 use Rattle.generator.specs.Calls.{seed_call, draw_call}
 use Rattle.ring.specs.Calls.{ring_call, transform_call, transformed_call}
 use Rattle.state.specs.declared.Side.{Side}
@@ -64,23 +62,14 @@ pub record RefusesSide (questions : List Question) (refusal : ℕ) (before after
 
 -- ---- Demand 1, k keys a side
 
--- the refusal of a plain call, or 0
-abbrev pub parts_refusal : Decomposition → ℕ
-parts_refusal (Decomposition.Parts parts) = 0
-parts_refusal (Decomposition.No n) = n
-
-abbrev pub verdict_refusal : Verdict → ℕ
-verdict_refusal (Verdict.Is v) = 0
-verdict_refusal (Verdict.No n) = n
-
--- that of the call that makes a generator
-abbrev pub seed_refusal : Seeded → ℕ
-seed_refusal (Seeded.Ready generator) = 0
-seed_refusal (Seeded.No n) = n
+-- the number of the first no of a call, or 0
+abbrev pub refusal_of : {A : Type 0} → Outcome A → ℕ
+refusal_of (Gives x) = 0
+refusal_of (No n) = n
 
 pub record Demand1 (k : ℕ) : Type 0 where
-  pub parts : (set w : ℕ) → Decides (parts_questions set w) (parts_refusal (parts_call set w))
-  pub verdict : (set bound : ℕ) (ws : List ℕ) → Decides (verdict_questions set bound ws) (verdict_refusal (verdict_call set bound ws))
+  pub parts : (set w : ℕ) → Decides (parts_questions set w) (refusal_of (parts_call set w))
+  pub verdict : (set bound : ℕ) (ws : List ℕ) → Decides (verdict_questions set bound ws) (refusal_of (verdict_call set bound ws))
   pub form : (receiver : ℕ) (s : Settings) (round serial : ℕ) (message : List ℕ)
       → Decides (form_questions k receiver s round serial message) (form_no k receiver s round serial message)
   pub deal : (a : Shape) (keys0 keys1 draw server phone : List ℕ)
@@ -88,7 +77,7 @@ pub record Demand1 (k : ℕ) : Type 0 where
       Refuses (deal_questions k a keys0 keys1 draw server phone) r.refused ((r.server ≡ server) × (r.phone ≡ phone))
   pub choose : (a : Shape) (first second : List ℕ) (last : ℕ)
       → Refuses (choose_questions k a first second last) (choose_no k a first second last) (chosen k a first second last ≡ [])
-  pub seed : (seed : ℕ) → Decides (seed_questions seed) (seed_refusal (seed_call seed))
+  pub seed : (seed : ℕ) → Decides (seed_questions seed) (refusal_of (seed_call seed))
   pub draw : (state : ℕ) (a : Shape) (out : List ℕ)
       → let r = draw_call k state a out in
       Refuses (draw_questions k a out) r.refused ((r.state ≡ state) × (r.out ≡ out))
