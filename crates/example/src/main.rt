@@ -3,8 +3,7 @@
 #![tactic(auto)]
 
 use dealer::deal;
-use lists::least;
-use settings::{KEYS, LENGTH, MOST_BYTES, ROUNDS, Settings, Shape, WIDTH, WORK_LENGTH};
+use settings::{KEYS, MOST_BYTES, ROUNDS, Refusal, Settings, Shape, WIDTH, WORK_LENGTH};
 use side::{Run, begin, send, take};
 use state::{Side, answer, fresh};
 use std::io;
@@ -12,6 +11,12 @@ use stock::{choose, choose_no};
 use text::{put_byte, put_bytes, put_numbers};
 
 // Set 0, HIGH, N = 8: what book_size, draw_size and input_size of crate settings give.
+const SHAPE: Shape = Shape {
+    set: 0,
+    kind: 0,
+    n: 8,
+};
+
 const BOOK_LENGTH: usize = 1320 * WIDTH;
 
 const DRAW_LENGTH: usize = BOOK_LENGTH + 144;
@@ -21,90 +26,75 @@ const INPUT_LENGTH: usize = 8 * WIDTH;
 // Room for the line of an answer.
 const SHOWN: usize = 4096;
 
-// Both sides of a run.
-#[derive(Clone, Copy)]
-struct Sides {
-    server: Side,
-    phone: Side,
-}
-
-// The two sides of a message, after it was taken.
-#[derive(Clone, Copy)]
-struct Passed {
-    sender: Side,
-    receiver: Side,
+// What a device keeps for its run: its side and its working slice.
+#[derive(Drop)]
+struct Device {
+    side: Side,
+    work: [u32; WORK_LENGTH],
 }
 
 // ---- Level Two
 
+// A device begins, with its own keys, inputs and book. All its inputs are one number.
+fn begin_run(
+    device: &mut Device,
+    number: u32,
+    serial: u32,
+    input: u32,
+    book: &[u32],
+) -> Result<(), Refusal> {
+    let run = Run {
+        number,
+        settings: Settings {
+            shape: SHAPE,
+            bound: 0,
+        },
+        keys: [1u32; KEYS],
+        serial,
+    };
+    let inputs = [input; INPUT_LENGTH];
+    begin(&mut device.side, run, &inputs, book, &mut device.work)
+}
+
 // One message: a side sends, the other takes.
-fn pass(
-    sender: Side,
-    receiver: Side,
-    work0: &[u32],
-    work1: &mut [u32],
-    bytes: &mut [u8],
-) -> Passed {
-    let sent = send(sender, work0, bytes);
-    let length = least(sent.length, bytes.len());
-    let taken = take(receiver, work1, &bytes[..length]);
-    let sender = sent.side;
-    let receiver = taken.side;
-    Passed { sender, receiver }
+fn pass(sender: &mut Device, receiver: &mut Device, bytes: &mut [u8]) -> Result<(), Refusal> {
+    let length = send(&mut sender.side, &sender.work, bytes)?;
+    let length = length.min(bytes.len());
+    take(&mut receiver.side, &mut receiver.work, &bytes[..length])
 }
 
-// One round: the server sends and the phone takes; the phone sends and the server takes.
-fn run_round(sides: Sides, work0: &mut [u32], work1: &mut [u32], bytes: &mut [u8]) -> Sides {
-    let server = sides.server;
-    let phone = sides.phone;
-    let there = pass(server, phone, work0, work1, bytes);
-    let server = there.sender;
-    let phone = there.receiver;
-    let back = pass(phone, server, work1, work0, bytes);
-    let server = back.receiver;
-    let phone = back.sender;
-    Sides { server, phone }
-}
-
-// The seven rounds.
-fn run_rounds(sides: Sides, work0: &mut [u32], work1: &mut [u32]) -> Sides {
+// The seven rounds: in each the server sends and the phone takes; then the phone sends and the server takes.
+fn run_rounds(server: &mut Device, phone: &mut Device) -> Result<(), Refusal> {
     let mut bytes = [0u8; MOST_BYTES];
-    let mut here = sides;
     for _ in 0..ROUNDS {
-        here = run_round(here, work0, work1, &mut bytes);
+        pass(server, phone, &mut bytes)?;
+        pass(phone, server, &mut bytes)?;
     }
-    here
+    Ok(())
 }
 
 // The answer of a side after its run.
 fn show_answer(rt: &impl Print, side: Side) -> io::Result<()> {
     let mut numbers = [0u32; 8];
-    let result = answer(side, &mut numbers);
-    let length = least(result.length, numbers.len());
+    let length = answer(side, &mut numbers).unwrap_or(0).min(numbers.len());
     let mut out = [0u8; SHOWN];
     let word = put_bytes(&mut out, 0, b"answer");
     let put = put_numbers(&mut out, word, &numbers[..length]);
-    let end = put_byte(&mut out, put, b'\n');
-    let shown = least(end, out.len());
-    rt.write_all(&out[..shown])
+    let end = put_byte(&mut out, put, b'\n').min(out.len());
+    rt.write_all(&out[..end])
 }
 
 // ---- Level Three
 
 // Two books from one draw, behind the serials of two stocks.
-fn deal_books(shape: Shape, draw: &[u32], stock0: &mut [u32], stock1: &mut [u32]) -> u32 {
-    let keys0 = [1u32; KEYS];
-    let keys1 = [1u32; KEYS];
-    if stock0.len() == 0 {
-        return LENGTH;
-    }
-    if stock1.len() == 0 {
-        return LENGTH;
+fn deal_books(draw: &[u32], stock0: &mut [u32], stock1: &mut [u32]) -> Result<(), Refusal> {
+    if stock0.is_empty() || stock1.is_empty() {
+        return Err(Refusal::Length);
     }
     deal(
-        shape,
-        keys0,
-        keys1,
+        SHAPE,
+        [1u32; KEYS],
+        [1u32; KEYS],
         draw,
         &mut stock0[1..],
         &mut stock1[1..],
@@ -128,85 +118,53 @@ fn next_book<'a>(
 
 // ---- Both
 
-// Both sides begin, each with its own keys, inputs and book.
-fn begin_both(
+// Both devices begin with their books, and go through the rounds.
+fn run_both(
+    server: &mut Device,
+    phone: &mut Device,
+    serial: u32,
     book0: &[u32],
     book1: &[u32],
-    serial: u32,
-    work0: &mut [u32],
-    work1: &mut [u32],
-) -> Sides {
-    let shape = Shape {
-        set: 0,
-        kind: 0,
-        n: 8,
-    };
-    let settings = Settings { shape, bound: 0 };
-    let inputs0 = [95233u32; INPUT_LENGTH];
-    let inputs1 = [0u32; INPUT_LENGTH];
-    let run0 = Run {
-        number: 0,
-        settings,
-        keys: [1u32; KEYS],
-        serial,
-    };
-    let run1 = Run {
-        number: 1,
-        settings,
-        keys: [1u32; KEYS],
-        serial,
-    };
-    let begun0 = begin(fresh(), run0, &inputs0, book0, work0);
-    let begun1 = begin(fresh(), run1, &inputs1, book1, work1);
-    let server = begun0.side;
-    let phone = begun1.side;
-    Sides { server, phone }
+) -> Result<(), Refusal> {
+    begin_run(server, 0, serial, 95233, book0)?;
+    begin_run(phone, 1, serial, 0, book1)?;
+    run_rounds(server, phone)
 }
 
 // A whole run with a book for each side, in which the serial stands first.
-fn run(rt: &impl Print, book0: &[u32], book1: &[u32]) -> io::Result<()> {
-    if book0.len() == 0 {
+fn run(rt: &(impl Print + Eprint), book0: &[u32], book1: &[u32]) -> io::Result<()> {
+    if book0.is_empty() || book1.is_empty() {
         return Ok(());
     }
-    if book1.len() == 0 {
-        return Ok(());
+    let mut server = Device {
+        side: fresh(),
+        work: [0u32; WORK_LENGTH],
+    };
+    let mut phone = Device {
+        side: fresh(),
+        work: [0u32; WORK_LENGTH],
+    };
+    if let Err(no) = run_both(&mut server, &mut phone, book0[0], &book0[1..], &book1[1..]) {
+        let _ = eprintln!(rt; "run: {}", no.number());
     }
-    let serial = book0[0];
-    let mut work0 = [0u32; WORK_LENGTH];
-    let mut work1 = [0u32; WORK_LENGTH];
-    let begun = begin_both(&book0[1..], &book1[1..], serial, &mut work0, &mut work1);
-    let done = run_rounds(begun, &mut work0, &mut work1);
-    let server = done.server;
-    let phone = done.phone;
-    show_answer(rt, server)?;
-    show_answer(rt, phone)
+    show_answer(rt, server.side)?;
+    show_answer(rt, phone.side)
 }
 
 // A run with the next book of each side. Its first stock is empty, and no serial has been used.
-fn run_next(
-    rt: &(impl Print + Eprint),
-    shape: Shape,
-    stock0: &[u32],
-    stock1: &[u32],
-) -> io::Result<()> {
-    let book0 = next_book(rt, shape, &stock0[..0], stock0, 0);
-    let book1 = next_book(rt, shape, &stock1[..0], stock1, 0);
+fn run_next(rt: &(impl Print + Eprint), stock0: &[u32], stock1: &[u32]) -> io::Result<()> {
+    let book0 = next_book(rt, SHAPE, &stock0[..0], stock0, 0);
+    let book1 = next_book(rt, SHAPE, &stock1[..0], stock1, 0);
     run(rt, book0, book1)
 }
 
 // A stock of one book at each side, with serial 1.
 fn main(rt: HostRuntime) -> io::Result<()> {
-    let shape = Shape {
-        set: 0,
-        kind: 0,
-        n: 8,
-    };
     let draw = [0u32; DRAW_LENGTH];
     let mut stock0 = [1u32; 1 + BOOK_LENGTH];
     let mut stock1 = [1u32; 1 + BOOK_LENGTH];
-    let refused = deal_books(shape, &draw, &mut stock0, &mut stock1);
-    if refused != 0 {
-        let _ = eprintln!(rt; "deal: {refused}");
+    if let Err(no) = deal_books(&draw, &mut stock0, &mut stock1) {
+        let _ = eprintln!(rt; "deal: {}", no.number());
     }
-    run_next(&rt, shape, &stock0, &stock1)
+    run_next(&rt, &stock0, &stock1)
 }
