@@ -22,8 +22,8 @@ use Rattle.settings.specs.declared.Shape.{Shape}
 use Rattle.settings.specs.Sizes.{key_count, width, draw_size}
 use Rattle.settings.proofs.Sizes.{shared-most}
 use Rattle.settings.proofs.Ready.{shape-ready}
-use Rattle.rounding.specs.declared.Decomposition.{Decomposition}
-use Rattle.rounding.specs.declared.Verdict.{Verdict}
+use Rattle.settings.specs.Refusals.{Outcome, Gives, No}
+use Rattle.rounding.specs.declared.HighLow.{HighLow}
 use Rattle.rounding.specs.Calls.{parts_call, verdict_call}
 use Rattle.stock.specs.Stock.{stocked_size, books_of, both_stocks, is_least, first_of, best_of, ask_stocks, choose_no, chosen}
 use Rattle.stock.proofs.Meaning.{choice}
@@ -116,16 +116,16 @@ unfolding signed_text
 length_signed (pos n) = omega (arith, length-decimal n)
 length_signed (negsuc n) = omega (arith, length-decimal (suc n))
 
-length_decomposed : (r : Decomposition) → length (decomposed_text r) ≤ longest_result
+length_decomposed : (r : Outcome HighLow) → length (decomposed_text r) ≤ longest_result
 unfolding decomposed_text high_low_text
-length_decomposed (Decomposition.Parts parts) =
+length_decomposed (Gives parts) =
     omega (arith, length-append (decimal parts.high) (32 ∷ signed_text parts.low), length-decimal parts.high, length_signed parts.low)
-length_decomposed (Decomposition.No n) = omega (arith, length-refusal n)
+length_decomposed (No n) = omega (arith, length-refusal n)
 
-length-verdict : (r : Verdict) → length (verdict_text r) ≤ longest_result
+length-verdict : (r : Outcome ℕ) → length (verdict_text r) ≤ longest_result
 unfolding verdict_text
-length-verdict (Verdict.Is n) = omega (arith, length-decimal n)
-length-verdict (Verdict.No n) = omega (arith, length-refusal n)
+length-verdict (Gives n) = omega (arith, length-decimal n)
+length-verdict (No n) = omega (arith, length-refusal n)
 
 length_part : (ns : List ℕ) → Below ns → length (part_text ns) ≤ length ns * 11
 unfolding part_text

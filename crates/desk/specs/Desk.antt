@@ -8,8 +8,7 @@ use Rattle.text.specs.Text.{decimal, numbers_text}
 use Rattle.settings.specs.declared.Shape.{Shape}
 use Rattle.settings.specs.Sizes.{key_count, width, draw_size}
 use Rattle.rounding.specs.declared.HighLow.{HighLow}
-use Rattle.rounding.specs.declared.Decomposition.{Decomposition}
-use Rattle.rounding.specs.declared.Verdict.{Verdict}
+use Rattle.settings.specs.Refusals.{Outcome, Gives, No}
 use Rattle.rounding.specs.Calls.{parts_call, verdict_call}
 use Rattle.stock.specs.Stock.{choose_no, chosen}
 use Rattle.generator.specs.declared.Seeded.{Seeded}
@@ -70,13 +69,13 @@ unfoldable pub high_low_text : HighLow → List ℕ
 high_low_text parts = decimal parts.high ++ 32 ∷ signed_text parts.low
 
 -- "print the value or `!` and the refusal": both parts, or a verdict
-unfoldable pub decomposed_text : Decomposition → List ℕ
-decomposed_text (Decomposition.Parts parts) = high_low_text parts
-decomposed_text (Decomposition.No refused) = refusal_text refused
+unfoldable pub decomposed_text : Outcome HighLow → List ℕ
+decomposed_text (Gives parts) = high_low_text parts
+decomposed_text (No refused) = refusal_text refused
 
-unfoldable pub verdict_text : Verdict → List ℕ
-verdict_text (Verdict.Is verdict) = decimal verdict
-verdict_text (Verdict.No refused) = refusal_text refused
+unfoldable pub verdict_text : Outcome ℕ → List ℕ
+verdict_text (Gives verdict) = decimal verdict
+verdict_text (No refused) = refusal_text refused
 
 -- the numbers of a part, one blank between
 unfoldable pub part_text : List ℕ → List ℕ

@@ -7,7 +7,7 @@ ghost use Rattle.desk.specs.Desk.{refusal_text, malformed_text, signed_text, hig
 
 use crate::words::CallName;
 use generator::{Advance, Seeded, draw_by, make_generator};
-use rounding::{Decomposition, HighLow, Verdict, bound_verdict, parts};
+use rounding::{HighLow, bound_verdict, parts};
 use settings::{FIELDS, Shape, WIDTH, draw_size};
 use stock::{choose, choose_no};
 use text::{put_byte, put_number, put_numbers};
@@ -84,8 +84,8 @@ fn put_parts(out: &mut [u8], at: usize, numbers: &[u32]) -> usize
         return put_malformed(out, at);
     }
     match parts(numbers[0], numbers[1]) {
-        Decomposition::Parts(pair) => put_high_low(out, at, pair),
-        Decomposition::No(no) => put_refusal(out, at, no),
+        Ok(pair) => put_high_low(out, at, pair),
+        Err(no) => put_refusal(out, at, no.number()),
     }
 }
 
@@ -97,8 +97,8 @@ fn put_verdict(out: &mut [u8], at: usize, numbers: &[u32]) -> usize
         return put_malformed(out, at);
     }
     match bound_verdict(numbers[0], numbers[1], &numbers[2..]) {
-        Verdict::Is(verdict) => put_number(out, at, verdict as u64),
-        Verdict::No(no) => put_refusal(out, at, no),
+        Ok(inside) => put_number(out, at, u64::from(inside)),
+        Err(no) => put_refusal(out, at, no.number()),
     }
 }
 

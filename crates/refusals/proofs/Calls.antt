@@ -17,8 +17,7 @@ use Rattle.settings.specs.Questions.{is_bit, ask_shape, ask_settings, keys_ok}
 use Rattle.settings.specs.Schedule.{round_ok, round_after}
 use Rattle.settings.proofs.Schedule.{round_ok_lem}
 use Rattle.settings.proofs.Ready.{settings-pass, settings_rest}
-use Rattle.rounding.specs.declared.HighLow.{HighLow}
-use Rattle.settings.specs.Refusals.{Gives, No}
+use Rattle.settings.specs.Refusals.{Outcome, Gives, No}
 use Rattle.rounding.specs.Plain.{high_low_of, verdict}
 use Rattle.rounding.specs.Calls.{parts_no, verdict_no, parts_call, verdict_call}
 use Rattle.message.specs.Message.{ask_form, form_no}
@@ -49,22 +48,20 @@ unfolding verdict_no first_no every
 verdict-decides set bound ws = decides (verdict_questions set bound ws) refl
 
 -- the number in a call's answer is its first no
+number-is : {A : Type 0} (value : A) (refusal : ℕ) → refusal_of (cond (eqb refusal 0) (Gives value) (No refusal)) ≡ refusal
+number-is value refusal = by (eqb refusal 0) refl
+  where
+    by : (b : Bool) → eqb refusal 0 ≡ b → refusal_of (cond b (Gives value) (No refusal)) ≡ refusal
+    by true e = sym (eqb-true refusal 0 e)
+    by false e = refl
+
 parts-number : (set w : ℕ) → refusal_of (parts_call set w) ≡ parts_no set w
 unfolding parts_call
-parts-number set w = by (high_low_of (scale_of set) w) (eqb (parts_no set w) 0) refl
-  where
-    by : (parts : HighLow) (b : Bool) → eqb (parts_no set w) 0 ≡ b
-        → refusal_of (cond b (Gives parts) (No (parts_no set w))) ≡ parts_no set w
-    by parts true e = sym (eqb-true (parts_no set w) 0 e)
-    by parts false e = refl
+parts-number set w = number-is (high_low_of (scale_of set) w) (parts_no set w)
 
 verdict-number : (set bound : ℕ) (ws : List ℕ) → refusal_of (verdict_call set bound ws) ≡ verdict_no set bound ws
 unfolding verdict_call
-verdict-number set bound ws = by (verdict q bound ws) (verdict_no set bound ws) (eqb (verdict_no set bound ws) 0) refl
-  where
-    by : (is refusal : ℕ) (b : Bool) → eqb refusal 0 ≡ b → refusal_of (cond b (Gives is) (No refusal)) ≡ refusal
-    by is refusal true e = sym (eqb-true refusal 0 e)
-    by is refusal false e = refl
+verdict-number set bound ws = number-is (verdict q bound ws) (verdict_no set bound ws)
 
 -- ---- Messages
 
@@ -111,11 +108,11 @@ choose_refuses k a first second last =
 
 seed-number : (seed : ℕ) → refusal_of (seed_call seed) ≡ ask (ltb 0 seed) 16 0
 unfolding seed_call ask
-seed-number seed = by (ltb 0 seed)
+seed-number seed = by (record { state = seed }) (ltb 0 seed)
   where
-    by : (b : Bool) → refusal_of {A = Generator} (cond b (Gives (record { state = seed })) (No 16)) ≡ ask b 16 0
-    by true = refl
-    by false = refl
+    by : (generator : Generator) (b : Bool) → refusal_of (cond b (Gives generator) (No 16)) ≡ ask b 16 0
+    by generator true = refl
+    by generator false = refl
 
 seed-decides : (seed : ℕ) → Decides (seed_questions seed) (refusal_of (seed_call seed))
 unfolding first_no every

@@ -8,10 +8,10 @@ pub returns-then-numbers-ne2 : goal.returns-then-numbers-ne2
 unfolding parts_result
 returns-then-numbers-ne2 c = rw (ne_eqb (length c.args.numbers.now) 2 c.if-numbers-ne2.true) c.put_malformed.ensures
 
-pub returns-in-Parts : goal.returns-in-Parts
+pub returns-in-Ok : goal.returns-in-Ok
 unfolding parts_result decomposed_text
-returns-in-Parts c = rw (eq-eqb (length c.args.numbers.now) 2 c.if-numbers-ne2.false, ← c.in-Parts.ensures.value) c.put_high_low.ensures
+returns-in-Ok c = rw (eq-eqb (length c.args.numbers.now) 2 c.if-numbers-ne2.false, ← c.in-Ok.ensures.value) c.put_high_low.ensures
 
-pub returns-in-No : goal.returns-in-No
+pub returns-in-Err : goal.returns-in-Err
 unfolding parts_result decomposed_text
-returns-in-No c = rw (eq-eqb (length c.args.numbers.now) 2 c.if-numbers-ne2.false, ← c.in-No.ensures.value) c.put_refusal.ensures
+returns-in-Err c = rw (eq-eqb (length c.args.numbers.now) 2 c.if-numbers-ne2.false, ← c.in-Err.ensures.value) c.put_refusal.ensures
