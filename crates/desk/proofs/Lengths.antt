@@ -27,7 +27,7 @@ use Rattle.rounding.specs.declared.HighLow.{HighLow}
 use Rattle.rounding.specs.Calls.{parts_call, verdict_call}
 use Rattle.stock.specs.Stock.{stocked_size, books_of, both_stocks, is_least, first_of, best_of, ask_stocks, choose_no, chosen}
 use Rattle.stock.proofs.Meaning.{choice}
-use Rattle.generator.specs.declared.Seeded.{Seeded}
+use Rattle.generator.specs.declared.Generator.{Generator}
 use Rattle.generator.specs.Step.{outputs}
 use Rattle.generator.specs.Calls.{seed_call, draw_no, Drew, draw_call}
 use Rattle.generator.proofs.Steps.{inside, outputs_length, outputs_below}
@@ -188,11 +188,11 @@ length-draw state a s = go (eqb (draw_no key_count a zeros) 0) refl
 
 length_seeded : (seed : ℕ) (a : Shape) → seed < too_large → length (draw_text (seed_call seed) a) ≤ longest_result
 unfolding seed_call draw_text
-length_seeded seed a s = go (ltb 0 seed)
+length_seeded seed a s = go (record { state = seed }) s (ltb 0 seed)
   where
-    go : (t : Bool) → length (draw_text (cond t (Seeded.Ready (record { state = seed })) (Seeded.No 16)) a) ≤ longest_result
-    go true = length-draw seed a s
-    go false = omega (arith, length-refusal 16)
+    go : (generator : Generator) → generator.state < too_large → (t : Bool) → length (draw_text (cond t (Gives generator) (No 16)) a) ≤ longest_result
+    go generator l true = length-draw generator.state a l
+    go generator l false = omega (arith, length-refusal 16)
 
 -- ---- calls
 

@@ -11,7 +11,7 @@ use Rattle.rounding.specs.declared.HighLow.{HighLow}
 use Rattle.settings.specs.Refusals.{Outcome, Gives, No}
 use Rattle.rounding.specs.Calls.{parts_call, verdict_call}
 use Rattle.stock.specs.Stock.{choose_no, chosen}
-use Rattle.generator.specs.declared.Seeded.{Seeded}
+use Rattle.generator.specs.declared.Generator.{Generator}
 use Rattle.generator.specs.Calls.{seed_call, Drew, draw_call}
 use Rattle.syntax.specs.Line.{words, values_of}
 use Rattle.desk.specs.declared.words.CallName.{CallName}
@@ -94,9 +94,9 @@ unfoldable pub drawn_text : Drew → List ℕ
 drawn_text drew = cond (eqb drew.refused 0) (part_text drew.out ++ 32 ∷ decimal drew.state) (refusal_text drew.refused)
 
 -- the draw of the generator that a seed makes, in a slice of zeros of the draw's size; or `!` and the seed's refusal
-unfoldable pub draw_text : Seeded → Shape → List ℕ
-draw_text (Seeded.Ready generator) shape = drawn_text (draw_call key_count generator.state shape (replicate (draw_size shape) 0))
-draw_text (Seeded.No refused) shape = refusal_text refused
+unfoldable pub draw_text : Outcome Generator → Shape → List ℕ
+draw_text (Gives generator) shape = drawn_text (draw_call key_count generator.state shape (replicate (draw_size shape) 0))
+draw_text (No refused) shape = refusal_text refused
 
 -- ---- Calls
 

@@ -6,7 +6,7 @@ ghost use Rattle.generator.specs.Calls.{draw_call};
 ghost use Rattle.desk.specs.Desk.{refusal_text, malformed_text, signed_text, high_low_text, parts_result, verdict_result, part_text, choose_text, stocks_text, choose_result, drawn_text, draw_result, call_result};
 
 use crate::words::CallName;
-use generator::{Advance, Seeded, draw_by, make_generator};
+use generator::{Generator, draw, make_generator};
 use rounding::{HighLow, bound_verdict, parts};
 use settings::{FIELDS, Shape, WIDTH, draw_size};
 use stock::{choose, choose_no};
@@ -159,33 +159,31 @@ fn put_choose(out: &mut [u8], at: usize, numbers: &[u32]) -> usize
     )
 }
 
-// The numbers of a draw and the state after it, or its refusal.
-fn put_drawn(out: &mut [u8], at: usize, drawn: Advance, numbers: &[u32]) -> usize
-    ensures { text_at out.new result ≡ puts (text_at out.old at) (drawn_text (record { refused = drawn.refused; state = drawn.state; out = numbers.now })) }
+// The numbers of a generator's draw, made in a lent slice, and the state after it; or its refusal.
+fn put_draw_in(
+    out: &mut [u8],
+    at: usize,
+    generator: &mut Generator,
+    shape: Shape,
+    numbers: &mut [u32],
+) -> usize
+    ensures { text_at out.new result ≡ puts (text_at out.old at) (drawn_text (draw_call key_count generator.old.state shape numbers.old)) }
 {
-    if drawn.refused != 0 {
-        return put_refusal(out, at, drawn.refused);
+    if let Err(no) = draw(generator, shape, numbers) {
+        return put_refusal(out, at, no.number());
     }
     let blank = put_part(out, at, numbers);
     let end = put_byte(out, blank, b' ');
-    put_number(out, end, drawn.state as u64)
-}
-
-// The draw of a generator's state, made in a lent slice.
-fn put_draw_in(out: &mut [u8], at: usize, state: u32, shape: Shape, numbers: &mut [u32]) -> usize
-    ensures { text_at out.new result ≡ puts (text_at out.old at) (drawn_text (draw_call key_count state shape numbers.old)) }
-{
-    let drawn = draw_by(state, shape, numbers);
-    put_drawn(out, at, drawn, numbers)
+    put_number(out, end, generator.state as u64)
 }
 
 // The same in a slice of the draw's size.
-fn put_draw_of(out: &mut [u8], at: usize, state: u32, shape: Shape) -> usize
-    ensures { text_at out.new result ≡ puts (text_at out.old at) (drawn_text (draw_call key_count state shape (replicate (draw_size shape) 0))) }
+fn put_draw_of(out: &mut [u8], at: usize, mut generator: Generator, shape: Shape) -> usize
+    ensures { text_at out.new result ≡ puts (text_at out.old at) (drawn_text (draw_call key_count generator.state shape (replicate (draw_size shape) 0))) }
 {
     let mut numbers = [0u32; MOST_DRAW];
     let n = draw_size(shape);
-    put_draw_in(out, at, state, shape, &mut numbers[..n])
+    put_draw_in(out, at, &mut generator, shape, &mut numbers[..n])
 }
 
 // `draw SEED SET KIND N`
@@ -201,8 +199,8 @@ fn put_draw(out: &mut [u8], at: usize, numbers: &[u32]) -> usize
         n: numbers[3],
     };
     match make_generator(numbers[0]) {
-        Seeded::Ready(generator) => put_draw_of(out, at, generator.state, shape),
-        Seeded::No(no) => put_refusal(out, at, no),
+        Ok(generator) => put_draw_of(out, at, generator, shape),
+        Err(no) => put_refusal(out, at, no.number()),
     }
 }
 

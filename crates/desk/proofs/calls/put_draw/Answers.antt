@@ -8,10 +8,10 @@ pub returns-then-numbers-ne4 : goal.returns-then-numbers-ne4
 unfolding draw_result
 returns-then-numbers-ne4 c = rw (ne_eqb (length c.args.numbers.now) 4 c.if-numbers-ne4.true) c.put_malformed.ensures
 
-pub returns-in-Ready : goal.returns-in-Ready
+pub returns-in-Ok : goal.returns-in-Ok
 unfolding draw_result draw_text
-returns-in-Ready c = rw (eq-eqb (length c.args.numbers.now) 4 c.if-numbers-ne4.false, ← c.in-Ready.ensures) c.put_draw_of.ensures
+returns-in-Ok c = rw (eq-eqb (length c.args.numbers.now) 4 c.if-numbers-ne4.false, ← c.in-Ok.ensures) c.put_draw_of.ensures
 
-pub returns-in-No : goal.returns-in-No
+pub returns-in-Err : goal.returns-in-Err
 unfolding draw_result draw_text
-returns-in-No c = rw (eq-eqb (length c.args.numbers.now) 4 c.if-numbers-ne4.false, ← c.in-No.ensures) c.put_refusal.ensures
+returns-in-Err c = rw (eq-eqb (length c.args.numbers.now) 4 c.if-numbers-ne4.false, ← c.in-Err.ensures) c.put_refusal.ensures
