@@ -2,13 +2,14 @@
 ghost use Rattle.std.specs.Prelude.{◌≡◌, nat_abs, replicate};
 ghost use Rattle.text.specs.Text.{text_at, puts};
 ghost use Rattle.settings.specs.Sizes.{key_count, draw_size};
+ghost use Rattle.settings.specs.Refusals.{number_of};
 ghost use Rattle.generator.specs.Calls.{draw_call};
 ghost use Rattle.desk.specs.Desk.{refusal_text, malformed_text, signed_text, high_low_text, parts_result, verdict_result, part_text, choose_text, stocks_text, choose_result, drawn_text, draw_result, call_result};
 
 use crate::words::CallName;
 use generator::{Generator, draw, make_generator};
 use rounding::{HighLow, bound_verdict, parts};
-use settings::{FIELDS, Shape, WIDTH, draw_size};
+use settings::{Refusal, Shape, WIDTH, draw_size};
 use stock::{choose, choose_no};
 use text::{put_byte, put_number, put_numbers};
 
@@ -18,35 +19,25 @@ pub const MOST_DRAW: usize = 1320 * WIDTH + 144;
 // ---- Results
 
 // `!` and the refusal.
-fn put_refusal(out: &mut [u8], at: usize, no: u32) -> usize
-    ensures { text_at out.new result ≡ puts (text_at out.old at) (refusal_text no) }
+fn put_refusal(out: &mut [u8], at: usize, no: Refusal) -> usize
+    ensures { text_at out.new result ≡ puts (text_at out.old at) (refusal_text (number_of no)) }
 {
     let next = put_byte(out, at, b'!');
-    put_number(out, next, no as u64)
+    put_number(out, next, no.number() as u64)
 }
 
 // The result of a malformed line.
 pub fn put_malformed(out: &mut [u8], at: usize) -> usize
     ensures { text_at out.new result ≡ puts (text_at out.old at) malformed_text }
 {
-    put_refusal(out, at, FIELDS)
-}
-
-// The size of a signed number.
-fn magnitude(value: i32) -> u64
-    ensures { result ≡ nat_abs value }
-{
-    if value < 0 {
-        return (0 - value as i64) as u64;
-    }
-    value as u64
+    put_refusal(out, at, Refusal::Fields)
 }
 
 // A signed number: `-` in front of a negative one.
 fn put_signed(out: &mut [u8], at: usize, value: i32) -> usize
     ensures { text_at out.new result ≡ puts (text_at out.old at) (signed_text value) }
 {
-    let size = magnitude(value);
+    let size = u64::from(value.unsigned_abs());
     if value < 0 {
         let next = put_byte(out, at, b'-');
         return put_number(out, next, size);
@@ -85,7 +76,7 @@ fn put_parts(out: &mut [u8], at: usize, numbers: &[u32]) -> usize
     }
     match parts(numbers[0], numbers[1]) {
         Ok(pair) => put_high_low(out, at, pair),
-        Err(no) => put_refusal(out, at, no.number()),
+        Err(no) => put_refusal(out, at, no),
     }
 }
 
@@ -98,7 +89,7 @@ fn put_verdict(out: &mut [u8], at: usize, numbers: &[u32]) -> usize
     }
     match bound_verdict(numbers[0], numbers[1], &numbers[2..]) {
         Ok(inside) => put_number(out, at, u64::from(inside)),
-        Err(no) => put_refusal(out, at, no.number()),
+        Err(no) => put_refusal(out, at, no),
     }
 }
 
@@ -113,8 +104,7 @@ fn put_choice<'a>(
 ) -> usize
     ensures { text_at out.new result ≡ puts (text_at out.old at) (choose_text shape first.now second.now last) }
 {
-    let no = choose_no(shape, first, second, last);
-    if no != 0 {
+    if let Err(no) = choose_no(shape, first, second, last) {
         return put_refusal(out, at, no);
     }
     put_part(out, at, choose(shape, first, second, last))
@@ -170,7 +160,7 @@ fn put_draw_in(
     ensures { text_at out.new result ≡ puts (text_at out.old at) (drawn_text (draw_call key_count generator.old.state shape numbers.old)) }
 {
     if let Err(no) = draw(generator, shape, numbers) {
-        return put_refusal(out, at, no.number());
+        return put_refusal(out, at, no);
     }
     let blank = put_part(out, at, numbers);
     let end = put_byte(out, blank, b' ');
@@ -200,7 +190,7 @@ fn put_draw(out: &mut [u8], at: usize, numbers: &[u32]) -> usize
     };
     match make_generator(numbers[0]) {
         Ok(generator) => put_draw_of(out, at, generator, shape),
-        Err(no) => put_refusal(out, at, no.number()),
+        Err(no) => put_refusal(out, at, no),
     }
 }
 
