@@ -8,18 +8,25 @@ use native.Mathlib.Omega.{arith}
 use native.Mathlib.Decide.{dec_lt}
 use lib.Dec.{ltb}
 use borrow.Author.Tests.{lt-ltb, le-ltb}
-use lib.ListN.{length, get_or, set, take, drop, length-set, drop_of_length-le}
-use lib.Seq.{drop-cons, take-suc-set}
-use Rattle.text.specs.Text.{Text, text_at, put, puts, decimal, numbers_text, hex_byte, hex_bytes}
+use lib.ListN.{length, get_or, set, take, length-set}
+use lib.Seq.{take-suc-set}
+use Rattle.std.proofs.lemmas.List.{take_more}
+use Rattle.text.specs.declared.TextBuffer.{TextBuffer}
+use Rattle.text.specs.Text.{Text, text_at, text_of, put, puts, Puts, decimal, numbers_text, hex_byte, hex_bytes}
 
 pub puts_append : (t : Text) (xs bs : List ℕ) → puts (puts t xs) bs ≡ puts t (xs ++ bs)
 unfolding puts
 puts_append t [] bs = refl
 puts_append t (a ∷ xs) bs = puts_append (put t a) xs bs
 
--- one part behind another
-pub put_then : {a b : Text} (s : Text) (xs ys : List ℕ) → a ≡ puts s xs → b ≡ puts a ys → b ≡ puts s (xs ++ ys)
-put_then s xs ys p q = q ∙ ap (λ (t : Text). puts t ys) p ∙ puts_append s xs ys
+-- nothing, and one part behind another
+pub put_none : (s : TextBuffer) → Puts s s []
+unfolding puts
+put_none s = record { same_slice = refl; text = refl }
+
+pub put_then : {s a b : TextBuffer} (xs ys : List ℕ) → Puts s a xs → Puts a b ys → Puts s b (xs ++ ys)
+put_then {s = s} xs ys p q =
+    record { same_slice = q.same_slice ∙ p.same_slice; text = q.text ∙ ap (λ (t : Text). puts t ys) p.text ∙ puts_append (text_of s) xs ys }
 
 -- ---- room
 
@@ -92,30 +99,27 @@ module _ (out : List ℕ) (at : ℕ) (bs now : List ℕ) (r : ℕ) (e : text_at 
   pub front-put : at + length bs ≤ length out → take r now ≡ take at out ++ bs
   front-put h = rw (at-put h) (ap (λ (t : Text). take (at + length bs) t.bytes) e ∙ puts-front out at bs h)
 
--- ---- the loops
+-- ---- the loops: what has been put, of all that is to be put
 
-pub puts-more : (s r t : Text) (bytes : List ℕ) (i : ℕ) → i < length bytes → puts s (drop i bytes) ≡ t → r ≡ puts s (get_or bytes i 0 ∷ []) → puts r (drop (i + 1) bytes) ≡ t
-unfolding puts
-puts-more s r t bytes i h e p = rw (p, add-one) (rw (drop-cons bytes i 0 h) at e)
-
-pub puts-done : (s t : Text) (bytes : List ℕ) (i : ℕ) → length bytes ≤ i → puts s (drop i bytes) ≡ t → s ≡ t
-unfolding puts
-puts-done s t bytes i h e = rw (drop_of_length-le bytes h) at e
-
-pub numbers_more : (s r t : Text) (ns : List ℕ) (i : ℕ) → i < length ns → puts s (numbers_text (drop i ns)) ≡ t
-    → r ≡ puts s (32 ∷ decimal (get_or ns i 0)) → puts r (numbers_text (drop (i + 1) ns)) ≡ t
+numbers_push : (ns : List ℕ) (n : ℕ) → numbers_text (ns ++ n ∷ []) ≡ numbers_text ns ++ (32 ∷ decimal n)
 unfolding numbers_text
-numbers_more s r t ns i h e p = rw (p, add-one, puts_append) (rw (drop-cons ns i 0 h) at e)
+numbers_push [] n = append-nil (32 ∷ decimal n)
+numbers_push (m ∷ ns) n = ap (λ (r : List ℕ). (32 ∷ decimal m) ++ r) (numbers_push ns n) ∙ sym (append_assoc (32 ∷ decimal m) (numbers_text ns) (32 ∷ decimal n))
 
-pub numbers-done : (s t : Text) (ns : List ℕ) (i : ℕ) → length ns ≤ i → puts s (numbers_text (drop i ns)) ≡ t → s ≡ t
-unfolding numbers_text puts
-numbers-done s t ns i h e = rw (drop_of_length-le ns h) at e
-
-pub hex_more : (s r t : Text) (bytes : List ℕ) (i : ℕ) → i < length bytes → puts s (hex_bytes (drop i bytes)) ≡ t
-    → r ≡ puts s (hex_byte (get_or bytes i 0)) → puts r (hex_bytes (drop (i + 1) bytes)) ≡ t
+hex_push : (bs : List ℕ) (b : ℕ) → hex_bytes (bs ++ b ∷ []) ≡ hex_bytes bs ++ hex_byte b
 unfolding hex_bytes
-hex_more s r t bytes i h e p = rw (p, add-one, puts_append) (rw (drop-cons bytes i 0 h) at e)
+hex_push [] b = append-nil (hex_byte b)
+hex_push (d ∷ bs) b = ap (λ (r : List ℕ). hex_byte d ++ r) (hex_push bs b) ∙ sym (append_assoc (hex_byte d) (hex_bytes bs) (hex_byte b))
 
-pub hex_done : (s t : Text) (bytes : List ℕ) (i : ℕ) → length bytes ≤ i → puts s (hex_bytes (drop i bytes)) ≡ t → s ≡ t
-unfolding hex_bytes puts
-hex_done s t bytes i h e = rw (drop_of_length-le bytes h) at e
+pub bytes_more : {s a b : TextBuffer} (bytes : List ℕ) (i : ℕ) → i < length bytes → Puts s a (take i bytes) → Puts a b (get_or bytes i 0 ∷ []) → Puts s b (take (i + 1) bytes)
+bytes_more bytes i h p q = rw (take_more bytes i 0 h) (put_then (take i bytes) (get_or bytes i 0 ∷ []) p q)
+
+pub numbers_more : {s a b d : TextBuffer} (ns : List ℕ) (i : ℕ) → i < length ns → Puts s a (numbers_text (take i ns)) → Puts a b (32 ∷ [])
+    → Puts b d (decimal (get_or ns i 0)) → Puts s d (numbers_text (take (i + 1) ns))
+numbers_more ns i h p q r =
+    let n : ℕ = get_or ns i 0 in
+    rw (take_more ns i 0 h, numbers_push) (put_then (numbers_text (take i ns)) (32 ∷ decimal n) p (put_then (32 ∷ []) (decimal n) q r))
+
+pub hex_more : {s a b : TextBuffer} (bytes : List ℕ) (i : ℕ) → i < length bytes → Puts s a (hex_bytes (take i bytes)) → Puts a b (hex_byte (get_or bytes i 0))
+    → Puts s b (hex_bytes (take (i + 1) bytes))
+hex_more bytes i h p q = rw (take_more bytes i 0 h, hex_push) (put_then (hex_bytes (take i bytes)) (hex_byte (get_or bytes i 0)) p q)

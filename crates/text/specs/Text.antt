@@ -1,5 +1,6 @@
 -- Text that is put into a lent slice, byte behind byte; numbers and bytes as text.
-use Rattle.std.specs.Prelude.{ℕ, zero, suc, ◌+◌, ◌/◌, ◌%◌, cond, List, [], ◌∷◌, ◌++◌, ltb, length, set}
+use Rattle.std.specs.Prelude.{◌≡◌, ℕ, zero, suc, ◌+◌, ◌/◌, ◌%◌, cond, List, [], ◌∷◌, ◌++◌, ltb, length, set}
+use Rattle.text.specs.declared.TextBuffer.{TextBuffer}
 
 -- the slice, and the place of the next byte
 pub record Text : Type 0 where
@@ -9,6 +10,10 @@ pub record Text : Type 0 where
 abbrev pub text_at : List ℕ → ℕ → Text
 text_at bytes at = record { bytes = bytes; at = at }
 
+-- what a buffer has: its slice, and the place of the next byte
+abbrev pub text_of : TextBuffer → Text
+text_of buffer = text_at buffer.out.now buffer.at
+
 -- one byte more, if there is room
 unfoldable pub put : Text → ℕ → Text
 put t b = cond (ltb t.at (length t.bytes)) (record { bytes = set t.bytes t.at b; at = t.at + 1 }) t
@@ -17,6 +22,11 @@ put t b = cond (ltb t.at (length t.bytes)) (record { bytes = set t.bytes t.at b;
 unfoldable pub puts : Text → List ℕ → Text
 puts t [] = t
 puts t (b ∷ bs) = puts (put t b) bs
+
+-- a buffer over the same slice, with some bytes more
+pub record Puts (before after : TextBuffer) (bs : List ℕ) : Type 0 where
+  pub same_slice : after.out.ghost_name ≡ before.out.ghost_name
+  pub text : text_of after ≡ puts (text_of before) bs
 
 -- the last digit
 abbrev pub last_digit : ℕ → ℕ

@@ -1,12 +1,12 @@
 // Text: decimal numbers read from a word, or byte by byte from an input of any size; and bytes, numbers and hexadecimal put into a lent
-// slice. A function that puts takes the place of the next byte and gives back the place behind what it put; what finds no room is left out.
+// slice.
 #![tactic(auto)]
 
 ghost use Rattle.std.specs.Prelude.{◌≡◌, [], ◌∷◌, ◌<◌, length};
 ghost use Rattle.std.specs.Option.{option_map_or};
 ghost use Rattle.text.specs.Decimal.{no_digits, with_digit, number_read, number_in};
 ghost use Rattle.text.specs.Numbers.{start_numbers, with_number_digit, numbers_ended, after_byte, after_bytes, stored, kept, kept_over};
-ghost use Rattle.text.specs.Text.{text_at, puts, last_digit, decimal_in, decimal, numbers_text, hex_digit, hex_byte, hex_bytes};
+ghost use Rattle.text.specs.Text.{text_at, text_of, Puts, last_digit, decimal_in, decimal, numbers_text, hex_digit, hex_byte, hex_bytes};
 
 // ---- A number in a word
 
@@ -173,75 +173,102 @@ pub fn feed_numbers(read: NumbersRead, bytes: &[u8], numbers: &mut [u32]) -> Opt
 
 // ---- Putting
 
-// One byte.
-#[tactic(auto, unfolding(crate::specs::Text::put, crate::specs::Text::puts))]
-pub fn put_byte(out: &mut [u8], at: usize, byte: u8) -> usize
-    ensures { text_at out.new result ≡ puts (text_at out.old at) (byte ∷ []) }
-{
-    if at < out.len() {
-        out[at] = byte;
-        return at + 1;
+// Text that is put into a lent slice: the slice, and the place of the next byte. What finds no room is left out.
+#[derive(Drop)]
+pub struct TextBuffer<'a> {
+    out: &'a mut [u8],
+    at: usize,
+}
+
+impl<'a> TextBuffer<'a> {
+    // What is put stands from place `at` on.
+    pub fn new(out: &'a mut [u8], at: usize) -> TextBuffer<'a>
+        ensures same_slice { result.out.ghost_name ≡ out.entry.ghost_name }
+        ensures text { text_of result ≡ text_at out.old at }
+    {
+        TextBuffer { out, at }
     }
-    at
-}
 
-// Some bytes.
-pub fn put_bytes(out: &mut [u8], at: usize, bytes: &[u8]) -> usize
-    ensures { text_at out.new result ≡ puts (text_at out.old at) bytes.now }
-{
-    let mut next = at;
-    for byte in bytes {
-        next = put_byte(out, next, *byte);
+    // The place of the next byte.
+    pub fn at(&self) -> usize
+        ensures { result ≡ self.now.at }
+    {
+        self.at
     }
-    next
-}
 
-fn put_last_digit(out: &mut [u8], at: usize, number: u64) -> usize
-    ensures { text_at out.new result ≡ puts (text_at out.old at) (last_digit number ∷ []) }
-{
-    put_byte(out, at, b'0' + (number % 10) as u8)
-}
-
-// A number in decimal, of at most `more` digits more than one.
-fn put_digits(out: &mut [u8], at: usize, number: u64, more: u32) -> usize
-    ensures { text_at out.new result ≡ puts (text_at out.old at) (decimal_in more number) }
-{
-    if more == 0 {
-        return put_last_digit(out, at, number);
+    // One byte.
+    #[tactic(auto, unfolding(crate::specs::Text::put, crate::specs::Text::puts))]
+    pub fn put_byte(&mut self, byte: u8)
+        ensures { Puts self.old self.new (byte ∷ []) }
+    {
+        if self.at < self.out.len() {
+            self.out[self.at] = byte;
+            self.at += 1;
+        }
     }
-    if number < 10 {
-        return put_last_digit(out, at, number);
+
+    // Some bytes.
+    pub fn put_bytes(&mut self, bytes: &[u8])
+        ensures { Puts self.old self.new bytes.now }
+    {
+        for byte in bytes {
+            self.put_byte(*byte);
+        }
     }
-    let next = put_digits(out, at, number / 10, more - 1);
-    put_last_digit(out, next, number)
-}
 
-// A number in decimal.
-#[tactic(auto, unfolding(crate::specs::Text::decimal))]
-pub fn put_number(out: &mut [u8], at: usize, number: u64) -> usize
-    ensures { text_at out.new result ≡ puts (text_at out.old at) (decimal number) }
-{
-    put_digits(out, at, number, 19)
-}
-
-// A blank, then a number.
-#[tactic(auto, unfolding(crate::specs::Text::puts))]
-fn put_next_number(out: &mut [u8], at: usize, number: u32) -> usize
-    ensures { text_at out.new result ≡ puts (text_at out.old at) (32 ∷ decimal number) }
-{
-    let next = put_byte(out, at, b' ');
-    put_number(out, next, number as u64)
-}
-
-// Numbers in decimal, a blank before each.
-pub fn put_numbers(out: &mut [u8], at: usize, numbers: &[u32]) -> usize
-    ensures { text_at out.new result ≡ puts (text_at out.old at) (numbers_text numbers.now) }
-{
-    let mut next = at;
-    for number in numbers {
-        next = put_next_number(out, next, *number);
+    fn put_last_digit(&mut self, number: u64)
+        ensures { Puts self.old self.new (last_digit number ∷ []) }
+    {
+        self.put_byte(b'0' + (number % 10) as u8);
     }
-    next
+
+    // A number in decimal, of at most `more` digits more than one.
+    fn put_digits(&mut self, number: u64, more: u32)
+        ensures { Puts self.old self.new (decimal_in more number) }
+    {
+        if more == 0 || number < 10 {
+            self.put_last_digit(number);
+            return;
+        }
+        self.put_digits(number / 10, more - 1);
+        self.put_last_digit(number);
+    }
+
+    // A number in decimal.
+    #[tactic(auto, unfolding(crate::specs::Text::decimal))]
+    pub fn put_number(&mut self, number: u64)
+        ensures { Puts self.old self.new (decimal number) }
+    {
+        self.put_digits(number, 19);
+    }
+
+    // Numbers in decimal, a blank before each.
+    pub fn put_numbers(&mut self, numbers: &[u32])
+        ensures { Puts self.old self.new (numbers_text numbers.now) }
+    {
+        for number in numbers {
+            self.put_byte(b' ');
+            self.put_number(*number as u64);
+        }
+    }
+
+    // A byte as two hexadecimal digits.
+    #[tactic(auto, unfolding(crate::specs::Text::puts))]
+    fn put_hex_byte(&mut self, byte: u8)
+        ensures { Puts self.old self.new (hex_byte byte) }
+    {
+        self.put_byte(hex_digit(byte / 16));
+        self.put_byte(hex_digit(byte % 16));
+    }
+
+    // Bytes in hexadecimal.
+    pub fn put_hex(&mut self, bytes: &[u8])
+        ensures { Puts self.old self.new (hex_bytes bytes.now) }
+    {
+        for byte in bytes {
+            self.put_hex_byte(*byte);
+        }
+    }
 }
 
 // The digit of a number below 16.
@@ -254,24 +281,4 @@ fn hex_digit(digit: u8) -> u8
         return b'0' + digit;
     }
     b'a' - 10 + digit
-}
-
-// A byte as two hexadecimal digits.
-#[tactic(auto, unfolding(crate::specs::Text::puts))]
-fn put_hex_byte(out: &mut [u8], at: usize, byte: u8) -> usize
-    ensures { text_at out.new result ≡ puts (text_at out.old at) (hex_byte byte) }
-{
-    let next = put_byte(out, at, hex_digit(byte / 16));
-    put_byte(out, next, hex_digit(byte % 16))
-}
-
-// Bytes in hexadecimal.
-pub fn put_hex(out: &mut [u8], at: usize, bytes: &[u8]) -> usize
-    ensures { text_at out.new result ≡ puts (text_at out.old at) (hex_bytes bytes.now) }
-{
-    let mut next = at;
-    for byte in bytes {
-        next = put_hex_byte(out, next, *byte);
-    }
-    next
 }
