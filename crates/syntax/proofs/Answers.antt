@@ -1,4 +1,4 @@
--- An output line: its parts put one behind another, and its length.
+-- The length of an output line.
 use Prim.Native.Nat.{ℕ, ◌≤◌, ◌<◌}
 use mathlib.Core.Path.{◌≡◌, sym, ap, ◌∙◌}
 use mathlib.Core.Bool.{Bool, true, false, cond}
@@ -7,20 +7,9 @@ use native.Mathlib.Omega.{arith}
 use lib.Dec.{eqb}
 use lib.ListN.{length, get_or, length-append}
 use Rattle.text.specs.Decimal.{too_large}
-use Rattle.text.specs.Text.{Text, puts, decimal, numbers_text}
-use Rattle.text.proofs.Puts.{puts_append}
+use Rattle.text.specs.Text.{decimal, numbers_text}
 use Rattle.text.proofs.Decimals.{length-decimal, length_decimal_32, length-numbers}
 use Rattle.syntax.specs.Answer.{refusal_text, answer_part, answer_text}
-
--- the line number, the answer and the line end
-pub answer-parts : (number refused : ℕ) (ns : List ℕ) (s a b d : Text) → a ≡ puts s (decimal number) → b ≡ puts a (answer_part refused ns) → d ≡ puts b (10 ∷ [])
-    → d ≡ puts s (answer_text number refused ns)
-unfolding answer_text
-answer-parts number refused ns s a b d pa pb pd =
-    rw (pd, pb, pa)
-    (puts_append (puts s (decimal number)) (answer_part refused ns) (10 ∷ [])
-    ∙ puts_append s (decimal number) (answer_part refused ns ++ 10 ∷ [])
-    ∙ ap (puts s) (sym (append_assoc (decimal number) (answer_part refused ns) (10 ∷ []))))
 
 -- no output line is longer
 pub length-answer : (number refused : ℕ) (ns : List ℕ) → length ns ≤ 8 → refused < too_large → ((i : ℕ) → get_or ns i 0 < too_large)

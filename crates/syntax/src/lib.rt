@@ -2,13 +2,13 @@
 #![tactic(auto)]
 
 ghost use Rattle.std.specs.Prelude.{◌≡◌, ◌≤◌, length, set, IfSome};
-ghost use Rattle.text.specs.Text.{text_at, puts};
+ghost use Rattle.text.specs.Text.{Puts};
 ghost use Rattle.syntax.specs.Line.{kind_in, set_in, field_at, words, requested, line_of};
 ghost use Rattle.syntax.specs.Reading.{start_words, with_words, finish};
 ghost use Rattle.syntax.specs.Answer.{refusal_text, answer_part, answer_text};
 
 use lists::length_before;
-use text::{number_in, put_byte, put_number, put_numbers};
+use text::{TextBuffer, number_in};
 
 // The most bytes of an input line, without its line end.
 pub const LONGEST_INPUT_LINE: usize = 1024;
@@ -137,29 +137,30 @@ pub fn read_line(line: &[u8]) -> Option<Request>
 // ---- An output line
 
 // A blank, `!` and the refusal.
-fn put_refusal(out: &mut [u8], at: usize, refused: u32) -> usize
-    ensures { text_at out.new result ≡ puts (text_at out.old at) (refusal_text refused) }
+fn put_refusal(text: &mut TextBuffer, refused: u32)
+    ensures { Puts text.old text.new (refusal_text refused) }
 {
-    let blank = put_byte(out, at, b' ');
-    let mark = put_byte(out, blank, b'!');
-    put_number(out, mark, refused as u64)
+    text.put_bytes(b" !");
+    text.put_number(refused as u64);
 }
 
 // What stands behind the line number: the numbers, or the refusal where it is not 0.
-fn put_result(out: &mut [u8], at: usize, refused: u32, numbers: &[u32]) -> usize
-    ensures { text_at out.new result ≡ puts (text_at out.old at) (answer_part refused numbers.now) }
+#[tactic(auto, unfolding(crate::specs::Answer::answer_part))]
+fn put_result(text: &mut TextBuffer, refused: u32, numbers: &[u32])
+    ensures { Puts text.old text.new (answer_part refused numbers.now) }
 {
     if refused == 0 {
-        return put_numbers(out, at, numbers);
+        text.put_numbers(numbers);
+    } else {
+        put_refusal(text, refused);
     }
-    put_refusal(out, at, refused)
 }
 
-// The output line for a line number, at the place `at`; the place behind it. It is cut where there is no room for all of it.
-pub fn put_answer(out: &mut [u8], at: usize, number: u64, refused: u32, numbers: &[u32]) -> usize
-    ensures { text_at out.new result ≡ puts (text_at out.old at) (answer_text number refused numbers.now) }
+// The output line for a line number. It is cut where there is no room for all of it.
+pub fn put_answer(text: &mut TextBuffer, number: u64, refused: u32, numbers: &[u32])
+    ensures { Puts text.old text.new (answer_text number refused numbers.now) }
 {
-    let numbered = put_number(out, at, number);
-    let answered = put_result(out, numbered, refused, numbers);
-    put_byte(out, answered, b'\n')
+    text.put_number(number);
+    put_result(text, refused, numbers);
+    text.put_byte(b'\n');
 }

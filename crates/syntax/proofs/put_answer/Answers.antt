@@ -1,10 +1,8 @@
 -- `syntax::put_answer` meets its contract.
-use Rattle.syntax.proofs.Answers.{answer-parts}
+use Rattle.text.proofs.Puts.{put_then}
+use Rattle.syntax.specs.Answer.{answer_text}
 use Rattle.syntax.proofs.put_answer.Goals as goal
 
 pub returns : goal.returns
-returns c =
-    let a = c.args in
-    answer-parts a.number a.refused a.numbers.now _ _ _ _
-    c.put_number-numbered.ensures
-    c.put_result-answered.ensures c.put_byte.ensures
+unfolding answer_text
+returns c = put_then _ _ (put_then _ _ c.put_number.ensures c.put_result.ensures) c.put_byte.ensures

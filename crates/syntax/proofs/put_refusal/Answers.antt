@@ -1,8 +1,9 @@
 -- `syntax::put_refusal` meets its contract.
-use Rattle.text.specs.Text.{puts}
+use Rattle.std.proofs.Common.{[], ◌∷◌}
+use Rattle.text.proofs.Puts.{put_then}
 use Rattle.syntax.specs.Answer.{refusal_text}
 use Rattle.syntax.proofs.put_refusal.Goals as goal
 
 pub returns : goal.returns
-unfolding puts refusal_text
-returns c = cc
+unfolding refusal_text
+returns c = put_then (32 ∷ 33 ∷ []) _ c.put_bytes.ensures c.put_number.ensures
