@@ -20,13 +20,17 @@ puts_append t [] bs = refl
 puts_append t (a ∷ xs) bs = puts_append (put t a) xs bs
 
 -- nothing, and one part behind another
-pub put_none : (s : TextBuffer) → Puts s s []
+pub puts_none : (s : TextBuffer) → Puts s s []
 unfolding puts
-put_none s = record { same_slice = refl; text = refl }
+puts_none s = record { same_slice = refl; text = refl }
 
-pub put_then : {s a b : TextBuffer} (xs ys : List ℕ) → Puts s a xs → Puts a b ys → Puts s b (xs ++ ys)
-put_then {s = s} xs ys p q =
+pub puts_then : {s a b : TextBuffer} (xs ys : List ℕ) → Puts s a xs → Puts a b ys → Puts s b (xs ++ ys)
+puts_then {s = s} xs ys p q =
     record { same_slice = q.same_slice ∙ p.same_slice; text = q.text ∙ ap (λ (t : Text). puts t ys) p.text ∙ puts_append (text_of s) xs ys }
+
+-- the same of a slice and a place, until no crate above needs it
+pub put_then : {a b : Text} (s : Text) (xs ys : List ℕ) → a ≡ puts s xs → b ≡ puts a ys → b ≡ puts s (xs ++ ys)
+put_then s xs ys p q = q ∙ ap (λ (t : Text). puts t ys) p ∙ puts_append s xs ys
 
 -- ---- room
 
@@ -112,14 +116,14 @@ hex_push [] b = append-nil (hex_byte b)
 hex_push (d ∷ bs) b = ap (λ (r : List ℕ). hex_byte d ++ r) (hex_push bs b) ∙ sym (append_assoc (hex_byte d) (hex_bytes bs) (hex_byte b))
 
 pub bytes_more : {s a b : TextBuffer} (bytes : List ℕ) (i : ℕ) → i < length bytes → Puts s a (take i bytes) → Puts a b (get_or bytes i 0 ∷ []) → Puts s b (take (i + 1) bytes)
-bytes_more bytes i h p q = rw (take_more bytes i 0 h) (put_then (take i bytes) (get_or bytes i 0 ∷ []) p q)
+bytes_more bytes i h p q = rw (take_more bytes i 0 h) (puts_then (take i bytes) (get_or bytes i 0 ∷ []) p q)
 
 pub numbers_more : {s a b d : TextBuffer} (ns : List ℕ) (i : ℕ) → i < length ns → Puts s a (numbers_text (take i ns)) → Puts a b (32 ∷ [])
     → Puts b d (decimal (get_or ns i 0)) → Puts s d (numbers_text (take (i + 1) ns))
 numbers_more ns i h p q r =
     let n : ℕ = get_or ns i 0 in
-    rw (take_more ns i 0 h, numbers_push) (put_then (numbers_text (take i ns)) (32 ∷ decimal n) p (put_then (32 ∷ []) (decimal n) q r))
+    rw (take_more ns i 0 h, numbers_push) (puts_then (numbers_text (take i ns)) (32 ∷ decimal n) p (puts_then (32 ∷ []) (decimal n) q r))
 
 pub hex_more : {s a b : TextBuffer} (bytes : List ℕ) (i : ℕ) → i < length bytes → Puts s a (hex_bytes (take i bytes)) → Puts a b (hex_byte (get_or bytes i 0))
     → Puts s b (hex_bytes (take (i + 1) bytes))
-hex_more bytes i h p q = rw (take_more bytes i 0 h, hex_push) (put_then (hex_bytes (take i bytes)) (hex_byte (get_or bytes i 0)) p q)
+hex_more bytes i h p q = rw (take_more bytes i 0 h, hex_push) (puts_then (hex_bytes (take i bytes)) (hex_byte (get_or bytes i 0)) p q)

@@ -1,7 +1,7 @@
 -- `text::TextBuffer::put_digits` meets its contract.
 use Rattle.std.proofs.Common.{◌∙◌, ap, ℕ}
 use Rattle.text.specs.Text.{decimal_in}
-use Rattle.text.proofs.Puts.{put_then}
+use Rattle.text.proofs.Puts.{puts_then}
 use Rattle.text.proofs.Decimals.{decimal-none, decimal-below, decimal-more}
 use Rattle.text.proofs.TextBuffer.+put_digits.Goals as goal
 use Rattle.text.proofs.TextBuffer.+put_digits.Goals.{then-more-eq0-via-then-more-eq0, then-more-eq0-via-else-more-eq0+then-number-lt10}
@@ -13,4 +13,4 @@ returns-then-more-eq0 t c =
 
 pub returns : goal.returns
 returns t c =
-    rw (decimal-more c.args.more c.args.number c.if-more-eq0.false c.if-number-lt10.false) (put_then _ _ c.put_digits.ensures c.put_last_digit-2.ensures)
+    rw (decimal-more c.args.more c.args.number c.if-more-eq0.false c.if-number-lt10.false) (puts_then _ _ c.put_digits.ensures c.put_last_digit-2.ensures)
