@@ -1,40 +1,39 @@
 -- The lines of a page put one behind another, and how long a page is.
 use Prim.Native.Nat.{ℕ, zero, suc, ◌+◌, ◌≤◌, ◌<◌}
-use mathlib.Core.Path.{◌≡◌, refl, sym, ◌∙◌}
-use mathlib.Core.Bool.{Bool, true, false, cond}
-use mathlib.Core.List.{List}
-use native.Mathlib.Numerals.{add-one}
+use mathlib.Core.Path.{◌≡◌, refl, sym, ap, ◌∙◌}
+use mathlib.Core.Bool.{cond}
+use mathlib.Core.List.{List, [], ◌∷◌, ◌++◌, append_assoc, append-nil}
 use native.Mathlib.Omega.{arith}
 use native.Mathlib.Decide.{dec_lt}
 use lib.Dec.{ltb}
-use lib.ListN.{length, get_or, take, drop, drop_of_length-le}
-use lib.Seq.{drop-cons}
+use lib.ListN.{length, get_or, take}
+use lib.Seq.{length-take-le}
+use Rattle.std.proofs.lemmas.List.{take_more}
 use borrow.Author.Tests.{leb-true, lt-ltb, le-ltb}
 use Rattle.lists.specs.Lists.{list_from}
-use Rattle.text.specs.Text.{Text, text_at, puts, decimal, decimal_in}
+use Rattle.text.specs.declared.TextBuffer.{TextBuffer}
+use Rattle.text.specs.Text.{text_at, puts, Puts, decimal, decimal_in}
 use Rattle.text.specs.Decimal.{number_in}
 use Rattle.std.proofs.Common.{Option, Some, None}
 use Rattle.std.specs.Option.{option_map_or}
-use Rattle.text.proofs.Puts.{puts_append, put_then, front-put, within-put}
-use Rattle.settings.specs.Sets.{scale_of, top, top_digits}
+use Rattle.text.proofs.Puts.{puts_then, front-put, within-put}
+use Rattle.settings.specs.Sets.{top, top_digits}
 use Rattle.top_digits.specs.Page.{head_text, entry_line, entry_lines, page_text, refusal_line, page_for, page_length}
 
 -- ---- the loop over the list
 
-pub entries-more : (s r t : Text) (list : List ℕ) (d : ℕ) → d < length list → puts s (entry_lines d (drop d list)) ≡ t
-    → r ≡ puts s (entry_line d (get_or list d 0)) → puts r (entry_lines (d + 1) (drop (d + 1) list)) ≡ t
+entries-push : (i : ℕ) (ts : List ℕ) (t : ℕ) → entry_lines i (ts ++ t ∷ []) ≡ entry_lines i ts ++ entry_line (i + length ts) t
 unfolding entry_lines
-entries-more s r t list d h e p = rw (p, add-one, puts_append) (rw (drop-cons list d 0 h) at e)
+entries-push i [] t = let e : i + 0 ≡ i = omega arith in rw e (append-nil (entry_line i t))
+entries-push i (u ∷ ts) t =
+    let e : suc i + length ts ≡ i + suc (length ts) = omega arith in
+    ap (λ (r : List ℕ). entry_line i u ++ r) (rw e at (entries-push (suc i) ts t)) ∙ sym (append_assoc (entry_line i u) (entry_lines (suc i) ts) _)
 
-pub entries-done : (s t : Text) (list : List ℕ) (d : ℕ) → length list ≤ d → puts s (entry_lines d (drop d list)) ≡ t → s ≡ t
-unfolding entry_lines puts
-entries-done s t list d h e = rw (drop_of_length-le list h) at e
-
--- the head, and the list of the set behind it
-pub page_put : {a b : Text} (s : Text) (set : ℕ) (list : List ℕ) → list ≡ top_digits (scale_of set).parts
-    → a ≡ puts s (head_text set) → b ≡ puts a (entry_lines 0 list) → b ≡ puts s (page_text set)
-unfolding page_text
-page_put s set list e p q = rw (← e) (put_then s (head_text set) (entry_lines 0 list) p q)
+pub entries-more : {s a b : TextBuffer} (list : List ℕ) (d : ℕ) → d < length list → Puts s a (entry_lines 0 (take d list)) → Puts a b (entry_line d (get_or list d 0))
+    → Puts s b (entry_lines 0 (take (d + 1) list))
+entries-more list d h p q =
+    let l : 0 + length (take d list) ≡ d = omega (arith, length-take-le d list (omega arith)) in
+    rw (take_more list d 0 h, entries-push, l) (puts_then (entry_lines 0 (take d list)) (entry_line d (get_or list d 0)) p q)
 
 -- ---- lengths, computed
 
@@ -71,9 +70,9 @@ module _ (word : List ℕ) (set : ℕ) (e : Some set ≡ number_in word) where
   unfolding page_for
   page_printed h = rw (← e, lt-ltb set 2 h)
 
--- what is put is the page, and stands in front of a slice that is long enough
-pub in-front : (word out now bs : List ℕ) (r : ℕ) → page_length ≤ length out → page_for word ≡ bs → text_at now r ≡ puts (text_at out 0) bs
-    → (text_at now r ≡ puts (text_at out 0) (page_for word)) × ((take r now ≡ page_for word) × (r ≤ length now))
-in-front word out now bs r room e p =
-    let fits : length bs ≤ page_length = rw e at (page_fits word) in
-    (rw e p, (front-put out 0 bs now r p (omega arith) ∙ sym e, within-put out 0 bs now r p (omega arith)))
+-- the page stands in front of a slice that is long enough
+pub in-front : (word out now : List ℕ) (r : ℕ) → page_length ≤ length out → text_at now r ≡ puts (text_at out 0) (page_for word)
+    → (take r now ≡ page_for word) × (r ≤ length now)
+in-front word out now r room p =
+    let fits : length (page_for word) ≤ page_length = page_fits word in
+    (front-put out 0 (page_for word) now r p (omega arith), within-put out 0 (page_for word) now r p (omega arith))

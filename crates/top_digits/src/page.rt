@@ -1,76 +1,83 @@
 // The page for a word: put into a lent slice.
 ghost use Rattle.std.specs.Prelude.{◌≡◌, ◌≤◌, ◌<◌, length, take};
-ghost use Rattle.text.specs.Text.{text_at, puts};
+ghost use Rattle.settings.specs.Refusals.{number_of};
+ghost use Rattle.text.specs.Text.{text_at, puts, Puts};
 ghost use Rattle.top_digits.specs.Page.{head_text, entry_line, entry_lines, page_text, refusal_line, page_for, page_length};
 
-use settings::{FIELDS, SIDE_SET_OR_KIND, top_digits_0, top_digits_1};
-use text::{number_in, put_byte, put_bytes, put_number};
+use settings::{Refusal, top_digits};
+use text::{TextBuffer, number_in};
 
 // The most bytes of a page.
 pub const PAGE_LENGTH: usize = 1024;
 
 // The lines at the head.
-fn put_head(out: &mut [u8], set: u32) -> usize
-    ensures { text_at out.new result ≡ puts (text_at out.old 0) (head_text set) }
+fn put_head(text: &mut TextBuffer, set: u32)
+    ensures { Puts text.old text.new (head_text set) }
 {
-    let number = put_bytes(out, 0, b"set ");
-    let next = put_number(out, number, set as u64);
-    put_bytes(out, next, b"\nd t(d)\n")
+    text.put_bytes(b"set ");
+    text.put_number(set as u64);
+    text.put_bytes(b"\nd t(d)\n");
 }
 
 // A line of the list.
-fn put_entry(out: &mut [u8], at: usize, d: usize, t: u32) -> usize
-    ensures { text_at out.new result ≡ puts (text_at out.old at) (entry_line d t) }
+fn put_entry(text: &mut TextBuffer, d: usize, t: u32)
+    ensures { Puts text.old text.new (entry_line d t) }
 {
-    let blank = put_number(out, at, d as u64);
-    let number = put_byte(out, blank, b' ');
-    let end = put_number(out, number, t as u64);
-    put_byte(out, end, b'\n')
+    text.put_number(d as u64);
+    text.put_byte(b' ');
+    text.put_number(t as u64);
+    text.put_byte(b'\n');
 }
 
 // All lines of a list.
-fn put_entries(out: &mut [u8], at: usize, list: &[u32]) -> usize
-    ensures { text_at out.new result ≡ puts (text_at out.old at) (entry_lines 0 list.now) }
+fn put_entries(text: &mut TextBuffer, list: &[u32])
+    ensures { Puts text.old text.new (entry_lines 0 list.now) }
 {
-    let mut next = at;
     for (d, t) in list.iter().enumerate() {
-        next = put_entry(out, next, d, *t);
+        put_entry(text, d, *t);
     }
-    next
 }
 
 // The page of a set.
-fn put_page(out: &mut [u8], set: u32) -> usize
+fn put_page(text: &mut TextBuffer, set: u32)
     requires { set < 2 }
-    ensures { text_at out.new result ≡ puts (text_at out.old 0) (page_text set) }
+    ensures { Puts text.old text.new (page_text set) }
 {
-    let next = put_head(out, set);
-    if set == 0 {
-        return put_entries(out, next, &top_digits_0());
-    }
-    put_entries(out, next, &top_digits_1())
+    put_head(text, set);
+    put_entries(text, top_digits(set as usize));
 }
 
 // A refusal in the place of a page.
-fn put_refusal(out: &mut [u8], no: u32) -> usize
-    ensures { text_at out.new result ≡ puts (text_at out.old 0) (refusal_line no) }
+fn put_refusal(text: &mut TextBuffer, refusal: Refusal)
+    ensures { Puts text.old text.new (refusal_line (number_of refusal)) }
 {
-    let number = put_byte(out, 0, b'!');
-    let end = put_number(out, number, no as u64);
-    put_byte(out, end, b'\n')
+    text.put_byte(b'!');
+    text.put_number(refusal.number() as u64);
+    text.put_byte(b'\n');
 }
 
-// The page for a word, in front of `out`, whose rest stays: how many bytes it has. The caller lends PAGE_LENGTH bytes.
+// The page for a word.
+fn put_page_for(text: &mut TextBuffer, word: &[u8])
+    ensures { Puts text.old text.new (page_for word.now) }
+{
+    let Some(set) = number_in(word) else {
+        put_refusal(text, Refusal::Fields);
+        return;
+    };
+    if set >= 2 {
+        put_refusal(text, Refusal::SideSetOrKind);
+        return;
+    }
+    put_page(text, set);
+}
+
+// The same in front of `out`, whose rest stays: how many bytes it has. The caller lends PAGE_LENGTH bytes.
 pub fn page_for(word: &[u8], out: &mut [u8]) -> usize
     requires { page_length ≤ length out.old }
     ensures result_after { text_at out.new result ≡ puts (text_at out.old 0) (page_for word.now) }
     ensures out_after { (take result out.new ≡ page_for word.now) × (result ≤ length out.new) }
 {
-    let Some(set) = number_in(word) else {
-        return put_refusal(out, FIELDS);
-    };
-    if set >= 2 {
-        return put_refusal(out, SIDE_SET_OR_KIND);
-    }
-    put_page(out, set)
+    let mut text = TextBuffer::new(out, 0);
+    put_page_for(&mut text, word);
+    text.at()
 }

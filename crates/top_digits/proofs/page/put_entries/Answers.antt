@@ -1,15 +1,13 @@
--- A turn puts the next line; at the end none is left.
+-- A turn puts the next line.
 use Rattle.std.proofs.Common.{arith}
-use Rattle.text.specs.Text.{text_at}
-use Rattle.top_digits.proofs.Pages.{entries-more, entries-done}
+use Rattle.text.proofs.Puts.{puts_none}
+use Rattle.top_digits.specs.Page.{entry_lines}
+use Rattle.top_digits.proofs.Pages.{entries-more}
 use Rattle.top_digits.proofs.page.put_entries.Goals as goal
 
-pub loop-d-preserved : goal.loop-d-preserved
-loop-d-preserved c =
-    let loop = c.loop-d in
-    entries-more (text_at loop.out loop.next) _ _ c.args.list.now loop.d (omega arith) loop.invariant c.put_entry-next.ensures
+pub loop-d-init : goal.loop-d-init
+unfolding entry_lines
+loop-d-init c = puts_none _
 
-pub returns : goal.returns
-returns c =
-    let loop = c.loop-d in
-    entries-done (text_at loop.out loop.next) _ c.args.list.now loop.d (omega arith) loop.invariant
+pub loop-d-preserved : goal.loop-d-preserved
+loop-d-preserved c = entries-more c.args.list.now c.loop-d.d (omega arith) c.loop-d.invariant c.put_entry.ensures

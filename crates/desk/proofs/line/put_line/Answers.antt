@@ -1,0 +1,14 @@
+-- `line::put_line` meets its contract.
+use Rattle.std.proofs.Common.{[], ◌∷◌, arith, length-append}
+use Rattle.text.proofs.Puts.{put_then}
+use Rattle.desk.specs.Desk.{line_result, desk_answer}
+use Rattle.desk.proofs.line.put_line.Goals as goal
+
+pub returns : goal.returns
+unfolding desk_answer
+returns c =
+    let put = c.put_result.ensures in
+    record {
+      text_after = put_then _ _ put.text_after c.put_byte.ensures;
+      line_len_bound = omega (arith, length-append (line_result c.args.line.now) (10 ∷ []), put.line_len_bound);
+    }
