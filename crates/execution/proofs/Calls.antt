@@ -6,7 +6,11 @@ use native.Mathlib.Omega.{arith}
 use lib.ListN.{length, take, drop}
 use lib.Seq.{drop-drop}
 use borrow.Author.Tests.{eqb-true, ne_eqb}
-use Rattle.std.specs.Prelude.{Option, None, Some, cond, Bool, true, false}
+use Rattle.std.specs.Prelude.{Option, None, Some, Result, Ok, Err, cond, Bool, true, false}
+use Rattle.std.specs.Result.{result_err}
+use Rattle.settings.specs.declared.Refusal.{Refusal}
+use Rattle.settings.specs.Refusals.{number_of, refused}
+use Rattle.settings.proofs.Refused.{number_nonzero}
 use lib.Dec.{eqb}
 use Rattle.settings.specs.declared.Settings.{Settings}
 use Rattle.settings.specs.Sizes.{key_count, most_bytes}
@@ -16,31 +20,55 @@ use Rattle.runs.specs.Records.{PartyInput, PartyState, JointState, Party as Role
 use Rattle.runs.specs.Records.Party.{observer, peer}
 use Rattle.runs.specs.Records.Call.{begin, send, take_latest}
 use Rattle.runs.specs.Demands.{scheduled}
-use Rattle.execution.specs.declared.RefusedCall.{RefusedCall}
 use Rattle.execution.specs.declared.Party.{Party}
 use Rattle.execution.specs.declared.CallKind.{CallKind}
 use Rattle.execution.specs.declared.Endpoint.{Endpoint}
 use Rattle.execution.specs.declared.Execution.{Execution}
 use Rattle.execution.specs.declared.WorkSpace.{WorkSpace}
 use Rattle.execution.specs.declared.CallKind.TheVariants.{Begin, Send, Take}
-use Rattle.execution.specs.Execution.{message_room, played_by, refused_call, refused_in, message_in, Carried, outcome_at, carry, carry_all, round_calls}
-use Rattle.execution.specs.Held.{party_of, carried_of, Stands, Fits, LeftBy, SendsAt, Carries, RoundsRun}
+use Rattle.execution.specs.Execution.{message_room, played_by, Refused, told, refused_call, refused_in, message_in, Carried, outcome_at, carry, carry_all, round_calls}
+use Rattle.execution.specs.Held.{party_of, carried_of, Stands, Fits, answer_at, LeftBy, SendsAt, Carries, RoundsRun}
 use Rattle.execution.proofs.Messages.{latest-kept}
 
 -- ---- Refusals
 
 -- no refusal means no number, and a refusal a number
-pub no-number : (kind : CallKind) (party : Party) (n : ℕ) → ◌≡◌ {A = Option RefusedCall} None (refused_call kind party n) → n ≡ 0
+pub no-number : (kind : CallKind) (party : Party) (n : ℕ) → ◌≡◌ {A = Option Refused} None (refused_call kind party n) → n ≡ 0
 unfolding refused_call
 no-number kind party n = by (eqb n 0) refl
   where
-    by : (b : Bool) → eqb n 0 ≡ b → ◌≡◌ {A = Option RefusedCall} None (cond b None (Some (record { call = kind; party = party; number = n }))) → n ≡ 0
+    by : (b : Bool) → eqb n 0 ≡ b → ◌≡◌ {A = Option Refused} None (cond b None (Some (record { call = kind; party = party; number = n }))) → n ≡ 0
     by true e f = eqb-true n 0 e
     by false e f = cc
 
-pub some-number : (kind : CallKind) (party : Party) (n : ℕ) (r : RefusedCall) → ◌≡◌ {A = Option RefusedCall} (Some r) (refused_call kind party n) → n ≡ 0 → ⊥
+pub some-number : (kind : CallKind) (party : Party) (n : ℕ) (r : Refused) → ◌≡◌ {A = Option Refused} (Some r) (refused_call kind party n) → n ≡ 0 → ⊥
 unfolding refused_call
-some-number kind party n r e z = let f : ◌≡◌ {A = Option RefusedCall} (Some r) None = rw z at e in cc
+some-number kind party n r e z = let f : ◌≡◌ {A = Option Refused} (Some r) None = rw z at e in cc
+
+-- a call's answer tells its refusal
+pub told-answer : {A : Type 0} (kind : CallKind) (party : Party) (r : Result A Refusal) → told (result_err (answer_at kind party r)) ≡ refused_call kind party (refused r)
+unfolding refused_call
+told-answer kind party (Ok x) = refl
+told-answer kind party (Err e) = rw (ne_eqb (number_of e) 0 (number_nonzero e))
+
+pub answer_ok : {A : Type 0} (kind : CallKind) (party : Party) (r : Result A Refusal) (x : A) → Ok x ≡ answer_at kind party r → r ≡ Ok x
+answer_ok kind party (Ok y) x e = cc
+answer_ok kind party (Err y) x e = cc
+
+pub none-refused : (kind : CallKind) (party : Party) → ◌≡◌ {A = Option Refused} None (refused_call kind party 0)
+unfolding refused_call
+none-refused kind party = refl
+
+-- a begin or a take
+pub left : (kind : CallKind) (party : Party) (e : Endpoint) (r : Result (Unit {0}) Refusal) (s : Side) (w : List ℕ) (a : After)
+    → ◌≡◌ {A = After} (record { done = record { refused = refused r; side = s }; work = w }) a
+    → LeftBy kind party a e (told (result_err (answer_at kind party r))) (record { side = s; from = e.from; to = e.to }) w
+left kind party e r s w a f =
+    record {
+      refused_is = told-answer kind party r ∙ ap (λ (x : After). refused_call kind party x.done.refused) f;
+      endpoint_is = ap (λ (x : After). record { side = x.done.side; from = e.from; to = e.to }) f;
+      work_is = ap (λ (x : After). x.work) f;
+    }
 
 -- ---- Places
 
@@ -68,11 +96,11 @@ abbrev pub input_at : Role → PartyInput → PartyInput → PartyInput
 input_at observer h o = h
 input_at peer h o = o
 
-abbrev pub so-far : Option RefusedCall → Role → PartyState → PartyState → List ℕ → Carried
+abbrev pub so-far : Option Refused → Role → PartyState → PartyState → List ℕ → Carried
 so-far refused role x y messages = record { refused = refused; parties = joint role x y; messages = messages }
 
 -- a run by its parts
-same-so_far : {f f' : Option RefusedCall} {x x' y y' : PartyState} {m m' : List ℕ} (role : Role) → f ≡ f' → x ≡ x' → y ≡ y' → m ≡ m' → so-far f role x y m ≡ so-far f' role x' y' m'
+same-so_far : {f f' : Option Refused} {x x' y y' : PartyState} {m m' : List ℕ} (role : Role) → f ≡ f' → x ≡ x' → y ≡ y' → m ≡ m' → so-far f role x y m ≡ so-far f' role x' y' m'
 same-so_far role e a b l = rw (e, a, b, l)
 
 module _ (s : Settings) (serial : ℕ) (h o : PartyInput) where
@@ -85,7 +113,7 @@ module _ (s : Settings) (serial : ℕ) (h o : PartyInput) where
   carried peer call x y messages = refl
 
   -- a begin
-  pub began : (role : Role) (e e' : Endpoint) (y : PartyState) (work after bytes messages : List ℕ) (refused : Option RefusedCall)
+  pub began : (role : Role) (e e' : Endpoint) (y : PartyState) (work after bytes messages : List ℕ) (refused : Option Refused)
       → LeftBy Begin (played_by role) (begin_at key_count s serial (input_at role h o) (party_of e work bytes)) e refused e' after
       → so-far refused role (party_of e' after bytes) y messages ≡ carry s serial h o (so-far None role (party_of e work bytes) y messages) role begin
   unfolding outcome
@@ -97,7 +125,7 @@ module _ (s : Settings) (serial : ℕ) (h o : PartyInput) where
       ∙ carried role begin (party_of e work bytes) y messages
 
   -- a take
-  pub took : (role : Role) (e e' : Endpoint) (y : PartyState) (work after bytes messages : List ℕ) (refused : Option RefusedCall)
+  pub took : (role : Role) (e e' : Endpoint) (y : PartyState) (work after bytes messages : List ℕ) (refused : Option Refused)
       → LeftBy Take (played_by role) (take_call key_count e.side work y.latest) e refused e' after
       → so-far refused role (party_of e' after bytes) y messages ≡ carry s serial h o (so-far None role (party_of e work bytes) y messages) role take_latest
   unfolding outcome
@@ -109,7 +137,7 @@ module _ (s : Settings) (serial : ℕ) (h o : PartyInput) where
       ∙ carried role take_latest (party_of e work bytes) y messages
 
   -- a send, beside a party whose latest message stands in front
-  pub sent : (role : Role) (e e' f : Endpoint) (work other before after : List ℕ) (at end : ℕ) (refused : Option RefusedCall)
+  pub sent : (role : Role) (e e' f : Endpoint) (work other before after : List ℕ) (at end : ℕ) (refused : Option Refused)
       → SendsAt (played_by role) e work before at refused e' end after
       → Stands f.from f.to at
       → so-far refused role (party_of e' work after) (party_of f other after) (take end after)
@@ -123,11 +151,11 @@ module _ (s : Settings) (serial : ℕ) (h o : PartyInput) where
 
   -- ---- Lists of calls
 
-  stopped : (refused : RefusedCall) (x : Carried) (role : Role) (call : Call) → x.refused ≡ Some refused → carry s serial h o x role call ≡ x
+  stopped : (refused : Refused) (x : Carried) (role : Role) (call : Call) → x.refused ≡ Some refused → carry s serial h o x role call ≡ x
   unfolding carry
   stopped refused x role call e = rw e
 
-  pub stopped_all : (refused : RefusedCall) (x : Carried) (ms : List ScheduledCall) → x.refused ≡ Some refused → carry_all s serial h o x ms ≡ x
+  pub stopped_all : (refused : Refused) (x : Carried) (ms : List ScheduledCall) → x.refused ≡ Some refused → carry_all s serial h o x ms ≡ x
   unfolding carry_all
   stopped_all refused x [] e = refl
   stopped_all refused x (m ∷ ms) e =
@@ -140,7 +168,7 @@ module _ (s : Settings) (serial : ℕ) (h o : PartyInput) where
 
   module _ (ms ns : List ScheduledCall) (a b : ℕ) (x y z : Execution) (u v w : WorkSpace) where
     -- more calls behind those that no call has refused
-    pub then : (refused : Option RefusedCall) → Carries s serial h o ms a x u None y v → Carries s serial h o ns b y v refused z w → Carries s serial h o (ms ++ ns) (a + b) x u refused z w
+    pub then : (refused : Option Refused) → Carries s serial h o ms a x u None y v → Carries s serial h o ns b y v refused z w → Carries s serial h o (ms ++ ns) (a + b) x u refused z w
     then refused p r =
         record {
           is = r.is ∙ ap (λ (c : Carried). carry_all s serial h o c ns) p.is ∙ sym (all-append ms ns (carried_of None x u));
@@ -151,7 +179,7 @@ module _ (s : Settings) (serial : ℕ) (h o : PartyInput) where
         }
 
   -- nothing is carried behind a refusal
-  pub ended : (ms ns : List ScheduledCall) (a b : ℕ) (x y : Execution) (u v : WorkSpace) (refused : RefusedCall)
+  pub ended : (ms ns : List ScheduledCall) (a b : ℕ) (x y : Execution) (u v : WorkSpace) (refused : Refused)
       → Carries s serial h o ms a x u (Some refused) y v → Carries s serial h o (ms ++ ns) (a + b) x u (Some refused) y v
   ended ms ns a b x y u v refused p =
       record {
@@ -164,7 +192,7 @@ module _ (s : Settings) (serial : ℕ) (h o : PartyInput) where
 
 -- ---- The calls as lists of one
 
-module _ (s : Settings) (serial : ℕ) (h o : PartyInput) (x : Execution) (w : WorkSpace) (refused : Option RefusedCall) (e : Endpoint) (after : List ℕ) where
+module _ (s : Settings) (serial : ℕ) (h o : PartyInput) (x : Execution) (w : WorkSpace) (refused : Option Refused) (e : Endpoint) (after : List ℕ) where
   pub server-begins : LeftBy Begin (played_by observer) (begin_at key_count s serial h (party_of x.server w.server w.messages)) x.server refused e after
       → Carries s serial h o (scheduled observer begin ∷ []) 0 x w refused (record x { server = e }) (record w { server = after })
   unfolding carry_all
@@ -247,10 +275,10 @@ module _ (x : Execution) (w : WorkSpace) (fit : Fits x w.messages 2) (one : Endp
   abbrev w₁ : WorkSpace
   w₁ = record w { messages = bytes }
 
-  abbrev First : Option RefusedCall → Type 0
+  abbrev First : Option Refused → Type 0
   First refused = SendsAt (played_by observer) x.server w.server w.messages x.length refused one end bytes
 
-  pub first_refused : (refusal : RefusedCall) → First (Some refusal) → RoundsRun 1 x w (Some refusal) x₁ w₁
+  pub first_refused : (refusal : Refused) → First (Some refusal) → RoundsRun 1 x w (Some refusal) x₁ w₁
   first_refused refusal l =
       record {
         carries = λ s serial h o.
@@ -265,16 +293,16 @@ module _ (x : Execution) (w : WorkSpace) (fit : Fits x w.messages 2) (one : Endp
     abbrev w₂ : WorkSpace
     w₂ = record w₁ { phone = work }
 
-    abbrev Second : Option RefusedCall → Type 0
+    abbrev Second : Option Refused → Type 0
     Second refused = LeftBy Take (played_by peer) (take_call key_count x.phone.side w.phone (take (one.to - one.from) (drop one.from bytes))) x.phone refused two work
 
-    both : (s : Settings) (serial : ℕ) (h o : PartyInput) (refused : Option RefusedCall) → Second refused
+    both : (s : Settings) (serial : ℕ) (h o : PartyInput) (refused : Option Refused) → Second refused
         → Carries s serial h o (scheduled observer (send message_room) ∷ scheduled peer take_latest ∷ []) 1 x w refused x₂ w₂
     both s serial h o refused l =
         then s serial h o (scheduled observer (send message_room) ∷ []) (scheduled peer take_latest ∷ []) 1 0 x x₁ x₂ w w₁ w₂ refused
         (server_sends s serial h o x w None one bytes end first fit.phone) (phone_takes s serial h o x₁ w₁ refused two work l)
 
-    pub second_refused : (refusal : RefusedCall) → Second (Some refusal) → RoundsRun 1 x w (Some refusal) x₂ w₂
+    pub second_refused : (refusal : Refused) → Second (Some refusal) → RoundsRun 1 x w (Some refusal) x₂ w₂
     second_refused refusal l =
         record {
           carries = λ s serial h o.
@@ -289,16 +317,16 @@ module _ (x : Execution) (w : WorkSpace) (fit : Fits x w.messages 2) (one : Endp
       abbrev w₃ : WorkSpace
       w₃ = record w₂ { messages = bytes' }
 
-      abbrev Third : Option RefusedCall → Type 0
+      abbrev Third : Option Refused → Type 0
       Third refused = SendsAt (played_by peer) two work bytes end refused three end' bytes'
 
-      all_three : (s : Settings) (serial : ℕ) (h o : PartyInput) (refused : Option RefusedCall) → Third refused
+      all_three : (s : Settings) (serial : ℕ) (h o : PartyInput) (refused : Option Refused) → Third refused
           → Carries s serial h o (scheduled observer (send message_room) ∷ scheduled peer take_latest ∷ scheduled peer (send message_room) ∷ []) 2 x w refused x₃ w₃
       all_three s serial h o refused l =
           then s serial h o (scheduled observer (send message_room) ∷ scheduled peer take_latest ∷ []) (scheduled peer (send message_room) ∷ []) 1 1 x x₂ x₃ w w₂ w₃ refused
           (both s serial h o None second) (phone_sends s serial h o x₂ w₂ refused three bytes' end' l first.stands)
 
-      pub third_refused : (refusal : RefusedCall) → Third (Some refusal) → RoundsRun 1 x w (Some refusal) x₃ w₃
+      pub third_refused : (refusal : Refused) → Third (Some refusal) → RoundsRun 1 x w (Some refusal) x₃ w₃
       third_refused refusal l =
           record {
             carries = λ s serial h o.
@@ -306,7 +334,7 @@ module _ (x : Execution) (w : WorkSpace) (fit : Fits x w.messages 2) (one : Endp
                 x x₃ w w₃ refusal (all_three s serial h o (Some refusal) l);
           }
 
-      pub round_run : Third None → (refused : Option RefusedCall) (four : Endpoint) (work' : List ℕ)
+      pub round_run : Third None → (refused : Option Refused) (four : Endpoint) (work' : List ℕ)
           → LeftBy Take (played_by observer) (take_call key_count one.side w.server (take (three.to - three.from) (drop three.from bytes'))) one refused four work'
           → RoundsRun 1 x w refused (record x₃ { server = four }) (record w₃ { server = work' })
       round_run third refused four work' l =
@@ -336,7 +364,7 @@ no_round x w =
       };
     }
 
-pub round-more : (n : ℕ) (x y z : Execution) (u v w : WorkSpace) (refused : Option RefusedCall) → RoundsRun n x u None y v → RoundsRun 1 y v refused z w → RoundsRun (n + 1) x u refused z w
+pub round-more : (n : ℕ) (x y z : Execution) (u v w : WorkSpace) (refused : Option Refused) → RoundsRun n x u None y v → RoundsRun 1 y v refused z w → RoundsRun (n + 1) x u refused z w
 round-more n x y z u v w refused a b =
     record {
       carries = λ s serial h o.
@@ -345,7 +373,7 @@ round-more n x y z u v w refused a b =
     }
 
 -- behind a refusal any further rounds change nothing
-pub rounds-ended : (n m : ℕ) (x y : Execution) (u v : WorkSpace) (refused : RefusedCall) → n ≤ m → RoundsRun n x u (Some refused) y v → RoundsRun m x u (Some refused) y v
+pub rounds-ended : (n m : ℕ) (x y : Execution) (u v : WorkSpace) (refused : Refused) → n ≤ m → RoundsRun n x u (Some refused) y v → RoundsRun m x u (Some refused) y v
 rounds-ended n m x y u v refused l a =
     record {
       carries = λ s serial h o.
@@ -358,5 +386,5 @@ rounds-ended n m x y u v refused l a =
 nobody : PartyInput
 nobody = record { number = 0; keys = []; inputs = []; book = [] }
 
-pub rounds-fit : (n more : ℕ) (x y : Execution) (u v : WorkSpace) (refused : Option RefusedCall) → RoundsRun n x u refused y v → Fits x u.messages (2 * n + more) → Fits y v.messages more
+pub rounds-fit : (n more : ℕ) (x y : Execution) (u v : WorkSpace) (refused : Option Refused) → RoundsRun n x u refused y v → Fits x u.messages (2 * n + more) → Fits y v.messages more
 rounds-fit n more x y u v refused p f = (p.carries x.server.side.settings 0 nobody nobody).fits more f

@@ -19,15 +19,26 @@ use Rattle.settings.specs.Sizes.{width, stride, shared, groups, draw_length, boo
 use Rattle.settings.proofs.Ready.{shape_ok_lem, ok_ready}
 use Rattle.execution.specs.declared.RunTerms.{RunTerms}
 use Rattle.execution.specs.declared.Execution.{Execution}
-use Rattle.execution.specs.Execution.{draw_in, books_given, server_given, phone_given, dealt_run, given_run, executed}
-use Rattle.execution.specs.declared.RefusedCall.{RefusedCall}
+use Rattle.execution.specs.Execution.{Refused, draw_in, books_given, server_given, phone_given, dealt_run, given_run, executed}
 use Rattle.execution.specs.declared.WorkSpace.{WorkSpace}
-use Rattle.std.specs.Prelude.{Option}
+use Rattle.std.specs.Prelude.{Option, Result, Ok, Err}
+use Rattle.std.specs.Result.{is_err}
+use Rattle.settings.specs.declared.Refusal.{Refusal}
+use Rattle.settings.specs.Refusals.{refused}
+use Rattle.settings.proofs.Refused.{number_nonzero}
 use Rattle.execution.specs.Held.{run_bytes, before_begin, Plays, EndsAs}
 use Rattle.execution.specs.Theorems.{DrawIsDealt}
 use Rattle.execution.proofs.Whole.{draw-drop, run_ends}
 
 -- ---- The test
+
+pub refused_some : {A : Type 0} (r : Result A Refusal) → is_err r ≡ true → refused r ≢ 0
+refused_some (Ok x) e = cc
+refused_some (Err n) e = number_nonzero n
+
+pub refused_none : {A : Type 0} (r : Result A Refusal) → is_err r ≡ false → refused r ≡ 0
+refused_none (Ok x) e = refl
+refused_none (Err n) e = cc
 
 module _ (a : Shape) (numbers : List ℕ) where
   -- no books for a shape that is refused
@@ -72,7 +83,7 @@ module _ (a : Shape) (numbers : List ℕ) (phone from : ℕ) (e : phone ≡ min 
 
 -- ---- The run
 
-pub given-run : (t : RunTerms) (numbers : List ℕ) (w : WorkSpace) (refused : Option RefusedCall) (x : Execution) (u : WorkSpace)
+pub given-run : (t : RunTerms) (numbers : List ℕ) (w : WorkSpace) (refused : Option Refused) (x : Execution) (u : WorkSpace)
     → run_bytes ≤ length w.messages → Plays t numbers (server_given t numbers).book (phone_given t numbers).book before_begin w refused x u
     → EndsAs (given_run t numbers w.server w.phone) refused x w.messages u.messages
 given-run t numbers w refused x u room p =

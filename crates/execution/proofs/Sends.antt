@@ -19,16 +19,14 @@ use Rattle.state.specs.declared.Side.{Side}
 use Rattle.state.specs.State.{send_due}
 use Rattle.state.proofs.States.{send-whole}
 use Rattle.opening.specs.Opening.{message}
-use Rattle.side.specs.declared.Sent.{Sent}
-use Rattle.side.specs.Side.{AfterSend, send_no, sent_side, after_send, send_call}
+use Rattle.side.specs.Side.{Sent, AfterSend, send_no, sent_side, after_send, send_call}
 use Rattle.side.proofs.Sending.{send-ready}
 use Rattle.runs.proofs.Laws.{message-sized}
 use Rattle.execution.specs.declared.Endpoint.{Endpoint}
 use Rattle.std.specs.Prelude.{Option, None, Some}
 use Rattle.execution.specs.declared.Party.{Party}
-use Rattle.execution.specs.declared.RefusedCall.{RefusedCall}
 use Rattle.execution.specs.declared.CallKind.TheVariants.{Send}
-use Rattle.execution.specs.Execution.{message_room, refused_call}
+use Rattle.execution.specs.Execution.{message_room, Refused, refused_call}
 use Rattle.execution.specs.Held.{party_of, Stands, send_of, message_sent, sent_party, SendsAt}
 use Rattle.execution.proofs.Calls.{no-number, some-number}
 use Rattle.execution.proofs.Messages.{front_stays, message-behind, message-stands, message-end}
@@ -158,7 +156,7 @@ module _ (party : Party) (e : Endpoint) (work before : List ℕ) (at : ℕ) (sta
         most = omega (arith, length_is, fits);
       }
 
-  pub refuses_at : (refused : RefusedCall) → Some refused ≡ refused_call Send party r.refused
+  pub refuses_at : (refused : Refused) → Some refused ≡ refused_call Send party r.refused
       → SendsAt party e work before at (Some refused) (record { side = r.side; from = e.from; to = e.to }) at after
   refuses_at refused f =
       let z : r.refused ≡ 0 → ⊥ = some-number Send party r.refused refused f in

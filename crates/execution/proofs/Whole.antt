@@ -31,7 +31,7 @@ use Rattle.execution.specs.declared.RefusedCall.{RefusedCall}
 use Rattle.execution.specs.declared.Endpoint.{Endpoint}
 use Rattle.execution.specs.declared.Execution.{Execution}
 use Rattle.execution.specs.declared.WorkSpace.{WorkSpace}
-use Rattle.execution.specs.Execution.{refused_call, Carried, round_calls, run_calls, server_inputs, phone_inputs, draw_in, server_input, phone_input, deal_no_of, run_after, dealt_run}
+use Rattle.execution.specs.Execution.{Refused, refused_call, Carried, round_calls, run_calls, server_inputs, phone_inputs, draw_in, server_input, phone_input, deal_no_of, run_after, dealt_run}
 use Rattle.execution.specs.Held.{carried_of, Fits, run_bytes, book_length, run_at, before_begin, LeftBy, RoundsRun, Carries, Plays, Deals, EndsAs}
 use Rattle.execution.proofs.Calls.{no-number, stays, stopped_all, then, ended, server-begins, phone-begins}
 
@@ -67,7 +67,7 @@ module _ (a : Shape) (numbers : List ℕ) (first second : ℕ) (e : first ≡ mi
 
 -- ---- The begins and the rounds
 
-module _ (t : RunTerms) (numbers book0 book1 : List ℕ) (x : Execution) (w : WorkSpace) (refused : Option RefusedCall) (one : Endpoint) (work0 : List ℕ)
+module _ (t : RunTerms) (numbers book0 book1 : List ℕ) (x : Execution) (w : WorkSpace) (refused : Option Refused) (one : Endpoint) (work0 : List ℕ)
     (begins : LeftBy Begin Server (begin_call key_count x.server.side (run_at t Server) (server_inputs t.settings.shape numbers) book0 w.server) x.server refused one work0) where
   abbrev x₁ : Execution
   x₁ = record x { server = one }
@@ -80,14 +80,14 @@ module _ (t : RunTerms) (numbers book0 book1 : List ℕ) (x : Execution) (w : Wo
     first-begun = server-begins t.settings t.serial h o x w refused one work0 (rw (hr, hi, hb) begins)
 
   -- the server's begin is refused
-  pub first_refused : (refusal : RefusedCall) → refused ≡ Some refusal → Plays t numbers book0 book1 x w refused x₁ w₁
+  pub first_refused : (refusal : Refused) → refused ≡ Some refusal → Plays t numbers book0 book1 x w refused x₁ w₁
   first_refused refusal e =
       record {
         carries = λ h o hr hi hb or oi ob.
             rw e (ended t.settings t.serial h o (scheduled observer begin ∷ []) (scheduled peer begin ∷ round_calls rounds) 0 (2 * rounds) x x₁ w w₁ refusal (rw e at (first-begun h o hr hi hb)));
       }
 
-  module _ (accepted : refused ≡ None) (refused' : Option RefusedCall) (two : Endpoint) (work1 : List ℕ)
+  module _ (accepted : refused ≡ None) (refused' : Option Refused) (two : Endpoint) (work1 : List ℕ)
       (begins' : LeftBy Begin Phone (begin_call key_count x.phone.side (run_at t Phone) (phone_inputs t.settings.shape numbers) book1 w.phone) x.phone refused' two work1) where
     abbrev x₂ : Execution
     x₂ = record x₁ { phone = two }
@@ -104,7 +104,7 @@ module _ (t : RunTerms) (numbers book0 book1 : List ℕ) (x : Execution) (w : Wo
           (phone-begins t.settings t.serial h o x₁ w₁ refused' two work1 (rw (or, oi, ob) begins'))
 
     -- the phone's begin is refused
-    pub second_refused : (refusal : RefusedCall) → refused' ≡ Some refusal → Plays t numbers book0 book1 x w refused' x₂ w₂
+    pub second_refused : (refusal : Refused) → refused' ≡ Some refusal → Plays t numbers book0 book1 x w refused' x₂ w₂
     second_refused refusal e =
         record {
           carries = λ h o hr hi hb or oi ob.
@@ -113,7 +113,7 @@ module _ (t : RunTerms) (numbers book0 book1 : List ℕ) (x : Execution) (w : Wo
               (rw e at (both-begun h o hr hi hb or oi ob)));
         }
 
-    pub plays : (last : Option RefusedCall) (z : Execution) (u : WorkSpace) → refused' ≡ None → RoundsRun rounds x₂ w₂ last z u → Plays t numbers book0 book1 x w last z u
+    pub plays : (last : Option Refused) (z : Execution) (u : WorkSpace) → refused' ≡ None → RoundsRun rounds x₂ w₂ last z u → Plays t numbers book0 book1 x w last z u
     plays last z u e ran =
         record {
           carries = λ h o hr hi hb or oi ob.
@@ -126,7 +126,7 @@ module _ (t : RunTerms) (numbers book0 book1 : List ℕ) (x : Execution) (w : Wo
 
 -- ---- The end
 
-pub ends : (c : Carried) (refused : Option RefusedCall) (x : Execution) (w : WorkSpace) (before : List ℕ) → carried_of refused x w ≡ c → x.length ≤ length w.messages
+pub ends : (c : Carried) (refused : Option Refused) (x : Execution) (w : WorkSpace) (before : List ℕ) → carried_of refused x w ≡ c → x.length ≤ length w.messages
     → length w.messages ≡ length before → drop x.length w.messages ≡ drop x.length before → EndsAs c refused x before w.messages
 ends c refused x w before e long same behind =
     let messages = ap (λ (y : Carried). y.messages) e in
@@ -143,9 +143,9 @@ ends c refused x w before e long same behind =
     }
 
 -- the first refusal may be noted in the execution
-pub ends-noted : (c : Carried) (refused : Option RefusedCall) (x : Execution) (before after : List ℕ) → EndsAs c refused x before after
-    → EndsAs c refused (record x { refused = refused }) before after
-ends-noted c refused x before after e =
+pub ends-noted : (c : Carried) (refused : Option Refused) (x : Execution) (before after : List ℕ) (noted : Option RefusedCall) → EndsAs c refused x before after
+    → EndsAs c refused (record x { refused = noted }) before after
+ends-noted c refused x before after noted e =
     record {
       refused_is = e.refused_is;
       server_is = e.server_is;
@@ -162,7 +162,7 @@ start_fits bytes room =
     record { server = record { begins = omega arith; ends = omega arith }; phone = record { begins = omega arith; ends = omega arith }; room = omega (arith, room) }
 
 -- a run with any books, from the first begin
-pub run_ends : (t : RunTerms) (numbers book0 book1 : List ℕ) (w : WorkSpace) (refused : Option RefusedCall) (x : Execution) (u : WorkSpace) (h o : PartyInput)
+pub run_ends : (t : RunTerms) (numbers book0 book1 : List ℕ) (w : WorkSpace) (refused : Option Refused) (x : Execution) (u : WorkSpace) (h o : PartyInput)
     → run_bytes ≤ length w.messages → Plays t numbers book0 book1 before_begin w refused x u
     → run_of t.settings t.serial h ≡ run_at t Server → h.inputs ≡ server_inputs t.settings.shape numbers → h.book ≡ book0
     → run_of t.settings t.serial o ≡ run_at t Phone → o.inputs ≡ phone_inputs t.settings.shape numbers → o.book ≡ book1
@@ -196,7 +196,7 @@ module _ (t : RunTerms) (draw b0 b1 : List ℕ) (e0 : length b0 ≡ book_size t.
       by n true e x y z w = sym (eqb-true n 0 e)
       by n false e x y z w = refl
 
-  module _ (refused : Option RefusedCall) (answer : refused ≡ refused_call Deal Server number) where
+  module _ (refused : Option Refused) (answer : refused ≡ refused_call Deal Server number) where
     none-asked : refused ≡ None → asked ≡ 0
     none-asked e = sym number-is ∙ no-number Deal Server number (sym e ∙ answer)
 
@@ -218,7 +218,7 @@ module _ (t : RunTerms) (draw b0 b1 : List ℕ) (e0 : length b0 ≡ book_size t.
         }
 
 -- a deal that is refused
-pub deal-refused : (t : RunTerms) (numbers book0 book1 : List ℕ) (refusal : RefusedCall) (w : WorkSpace) → Deals t (draw_in t.settings.shape numbers) (Some refusal) book0 book1
+pub deal-refused : (t : RunTerms) (numbers book0 book1 : List ℕ) (refusal : Refused) (w : WorkSpace) → Deals t (draw_in t.settings.shape numbers) (Some refusal) book0 book1
     → EndsAs (dealt_run t numbers w.server w.phone) (Some refusal) before_begin w.messages w.messages
 deal-refused t numbers book0 book1 refusal w d =
     ends (dealt_run t numbers w.server w.phone) (Some refusal) before_begin w w.messages
@@ -226,7 +226,7 @@ deal-refused t numbers book0 book1 refusal w d =
     (sym (stopped_all t.settings t.serial (server_input t numbers) (phone_input t numbers) refusal (carried_of (Some refusal) before_begin w) run_calls refl)))
     (omega arith) refl refl
 
-pub dealt_ends : (t : RunTerms) (numbers book0 book1 : List ℕ) (w : WorkSpace) (refused : Option RefusedCall) (x : Execution) (u : WorkSpace)
+pub dealt_ends : (t : RunTerms) (numbers book0 book1 : List ℕ) (w : WorkSpace) (refused : Option Refused) (x : Execution) (u : WorkSpace)
     → run_bytes ≤ length w.messages → Deals t (draw_in t.settings.shape numbers) None book0 book1
     → Plays t numbers (take (book_size t.settings.shape) book0) (take (book_size t.settings.shape) book1) before_begin w refused x u
     → EndsAs (dealt_run t numbers w.server w.phone) refused x w.messages u.messages

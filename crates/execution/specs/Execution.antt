@@ -4,6 +4,7 @@ use Rattle.std.specs.Option.{is_some}
 use Rattle.settings.specs.declared.Shape.{Shape}
 use Rattle.settings.specs.declared.Settings.{Settings}
 use Rattle.settings.specs.Questions.{shape_ok}
+use Rattle.settings.specs.Refusals.{number_of}
 use Rattle.settings.specs.Sizes.{key_count, most_bytes, book_size, input_size}
 use Rattle.settings.specs.Schedule.{rounds}
 use Rattle.dealer.specs.Deal.{deal_no}
@@ -51,12 +52,26 @@ abbrev pub played_by : Role → Party
 played_by observer = Server
 played_by peer = Phone
 
--- the call, the party (the server for the dealer) and the number of the first no; number 0: no refusal
-unfoldable pub refused_call : CallKind → Party → ℕ → Option RefusedCall
+-- a refused call: the call, the party (the server for the dealer) and the number of the first no
+pub record Refused : Type 0 where
+  pub call : CallKind
+  pub party : Party
+  pub number : ℕ
+
+-- the same as the code holds it
+abbrev pub told_call : RefusedCall → Refused
+told_call r = record { call = r.call; party = r.party; number = number_of r.refusal }
+
+abbrev pub told : Option RefusedCall → Option Refused
+told None = None
+told (Some r) = Some (told_call r)
+
+-- what a call gave; number 0: no refusal
+unfoldable pub refused_call : CallKind → Party → ℕ → Option Refused
 refused_call call party number = cond (eqb number 0) None (Some (record { call = call; party = party; number = number }))
 
 -- what a party's call adds to its record, as a refusal, and as a message sent
-abbrev pub refused_in : Party → Observation → Option RefusedCall
+abbrev pub refused_in : Party → Observation → Option Refused
 refused_in party (began r) = refused_call Begin party r
 refused_in party (sent r m) = refused_call Send party r
 refused_in party (took r m) = refused_call Take party r
@@ -74,7 +89,7 @@ message_in (counted n) = []
 
 -- the first refusal, both parties, and all messages sent, one behind the other
 pub record Carried : Type 0 where
-  pub refused : Option RefusedCall
+  pub refused : Option Refused
   pub parties : JointState
   pub messages : List ℕ
 
@@ -146,7 +161,7 @@ abbrev pub fresh_party : List ℕ → PartyState
 fresh_party work = record { side = fresh_side; work = work; latest = [] }
 
 -- after a deal, before the first begin, with the server's working slice and the phone's
-abbrev pub not_begun : Option RefusedCall → List ℕ → List ℕ → Carried
+abbrev pub not_begun : Option Refused → List ℕ → List ℕ → Carried
 not_begun refused work0 work1 =
     record { refused = refused; parties = record { observer = fresh_party work0; peer = fresh_party work1 }; messages = [] }
 

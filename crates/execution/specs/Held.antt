@@ -1,9 +1,10 @@
 -- What the code holds of a run under way, as the run carried so far.
-use Rattle.std.specs.Prelude.{ℕ, ◌+◌, ◌*◌, ◌-◌, ◌≤◌, min, ◌≡◌, cond, Option, None, List, ◌++◌, eqb, length, take, drop, replicate}
+use Rattle.std.specs.Prelude.{ℕ, ◌+◌, ◌*◌, ◌-◌, ◌≤◌, min, ◌≡◌, cond, Option, None, Result, Ok, Err, List, ◌++◌, eqb, length, take, drop, replicate}
 use Rattle.lists.specs.Lists.{in_front}
 use Rattle.settings.specs.declared.Shape.{Shape}
 use Rattle.settings.specs.declared.Settings.{Settings}
 use Rattle.settings.specs.Sizes.{key_count, width_of, most_bytes, book_size, input_size}
+use Rattle.settings.specs.declared.Refusal.{Refusal}
 use Rattle.settings.specs.Schedule.{rounds}
 use Rattle.dealer.specs.Deal.{deal_no}
 use Rattle.state.specs.declared.Side.{Side}
@@ -21,13 +22,13 @@ use Rattle.execution.specs.declared.WorkSpace.{WorkSpace}
 use Rattle.execution.specs.declared.Cuts.{Cuts}
 use Rattle.execution.specs.declared.CallKind.{CallKind}
 use Rattle.execution.specs.declared.CallKind.TheVariants.{Deal, Send}
-use Rattle.execution.specs.Execution.{message_room, side_number, refused_call, Carried, carry_all, round_calls, run_calls, server_inputs, phone_inputs}
+use Rattle.execution.specs.Execution.{message_room, side_number, Refused, told, refused_call, Carried, carry_all, round_calls, run_calls, server_inputs, phone_inputs}
 
 -- a party: its side, its working slice, and its latest message, which stands among the messages
 abbrev pub party_of : Endpoint → List ℕ → List ℕ → PartyState
 party_of e work bytes = record { side = e.side; work = work; latest = take (e.to - e.from) (drop e.from bytes) }
 
-abbrev pub carried_of : Option RefusedCall → Execution → WorkSpace → Carried
+abbrev pub carried_of : Option Refused → Execution → WorkSpace → Carried
 carried_of refused x w =
     record {
       refused = refused;
@@ -71,8 +72,13 @@ silent_endpoint = record { side = fresh_side; from = 0; to = 0 }
 abbrev pub before_begin : Execution
 before_begin = record { refused = None; server = silent_endpoint; phone = silent_endpoint; length = 0 }
 
+-- a call's answer, with the call and its party where it was refused
+abbrev pub answer_at : {A : Type 0} → CallKind → Party → Result A Refusal → Result A RefusedCall
+answer_at call party (Ok x) = Ok x
+answer_at call party (Err refusal) = Err (record { call = call; party = party; refusal = refusal })
+
 -- a begin or a take, which gives a: the endpoint goes from e to e', the working slice to `after`
-pub record LeftBy (kind : CallKind) (party : Party) (a : After) (e : Endpoint) (refused : Option RefusedCall) (e' : Endpoint) (after : List ℕ) : Type 0 where
+pub record LeftBy (kind : CallKind) (party : Party) (a : After) (e : Endpoint) (refused : Option Refused) (e' : Endpoint) (after : List ℕ) : Type 0 where
   pub refused_is : refused ≡ refused_call kind party a.done.refused
   pub endpoint_is : e' ≡ record { side = a.done.side; from = e.from; to = e.to }
   pub work_is : after ≡ a.work
@@ -90,7 +96,7 @@ sent_party x =
     record { side = a.sent.side; work = x.work; latest = cond (eqb a.sent.refused 0) (message_sent x.side x.work) x.latest }
 
 -- a send: the messages go from `before` to `after`, of which the first `at`, then the first `end` bytes are sent
-pub record SendsAt (party : Party) (e : Endpoint) (work before : List ℕ) (at : ℕ) (refused : Option RefusedCall) (e' : Endpoint) (end : ℕ) (after : List ℕ) : Type 0 where
+pub record SendsAt (party : Party) (e : Endpoint) (work before : List ℕ) (at : ℕ) (refused : Option Refused) (e' : Endpoint) (end : ℕ) (after : List ℕ) : Type 0 where
   pub refused_is : refused ≡ refused_call Send party (send_of e.side work).sent.refused
   pub party_is : party_of e' work after ≡ sent_party (party_of e work before)
   pub messages_are : take end after ≡ take at before ++ message_sent e.side work
@@ -105,7 +111,7 @@ pub record SendsAt (party : Party) (e : Endpoint) (work before : List ℕ) (at :
 
 -- calls, among them so many sends
 pub record Carries (s : Settings) (serial : ℕ) (own other : PartyInput) (calls : List ScheduledCall) (sends : ℕ) (x : Execution) (w : WorkSpace)
-    (refused : Option RefusedCall) (x' : Execution) (w' : WorkSpace) : Type 0 where
+    (refused : Option Refused) (x' : Execution) (w' : WorkSpace) : Type 0 where
   pub is : carried_of refused x' w' ≡ carry_all s serial own other (carried_of None x w) calls
   pub fits : (more : ℕ) → Fits x w.messages (sends + more) → Fits x' w'.messages more
   pub size : length w'.messages ≡ length w.messages
@@ -113,11 +119,11 @@ pub record Carries (s : Settings) (serial : ℕ) (own other : PartyInput) (calls
   pub grows : x.length ≤ x'.length
 
 -- n rounds, in any run
-pub record RoundsRun (n : ℕ) (x : Execution) (w : WorkSpace) (refused : Option RefusedCall) (x' : Execution) (w' : WorkSpace) : Type 0 where
+pub record RoundsRun (n : ℕ) (x : Execution) (w : WorkSpace) (refused : Option Refused) (x' : Execution) (w' : WorkSpace) : Type 0 where
   pub carries : (s : Settings) (serial : ℕ) (own other : PartyInput) → Carries s serial own other (round_calls n) (2 * n) x w refused x' w'
 
 -- both begins and the rounds; own and other: what the begins are handed
-pub record Plays (terms : RunTerms) (numbers book0 book1 : List ℕ) (x : Execution) (w : WorkSpace) (refused : Option RefusedCall) (x' : Execution) (w' : WorkSpace) : Type 0 where
+pub record Plays (terms : RunTerms) (numbers book0 book1 : List ℕ) (x : Execution) (w : WorkSpace) (refused : Option Refused) (x' : Execution) (w' : WorkSpace) : Type 0 where
   pub carries : (own other : PartyInput)
       → run_of terms.settings terms.serial own ≡ run_at terms Server → own.inputs ≡ server_inputs terms.settings.shape numbers → own.book ≡ book0
       → run_of terms.settings terms.serial other ≡ run_at terms Phone → other.inputs ≡ phone_inputs terms.settings.shape numbers → other.book ≡ book1
@@ -132,7 +138,7 @@ pub record CutsAt (a : Shape) (count : ℕ) (r : Cuts) : Type 0 where
   pub within : r.draw ≤ count
 
 -- a deal into the front of two lent books
-pub record Deals (t : RunTerms) (draw : List ℕ) (refused : Option RefusedCall) (book0 book1 : List ℕ) : Type 0 where
+pub record Deals (t : RunTerms) (draw : List ℕ) (refused : Option Refused) (book0 book1 : List ℕ) : Type 0 where
   pub refused_is : refused
       ≡ refused_call Deal Server
       (deal_no key_count t.settings.shape t.keys0 t.keys1 draw (replicate (book_size t.settings.shape) 0) (replicate (book_size t.settings.shape) 0))
@@ -140,7 +146,7 @@ pub record Deals (t : RunTerms) (draw : List ℕ) (refused : Option RefusedCall)
   pub phone_is : refused ≡ None → take (book_size t.settings.shape) book1 ≡ book_of key_count t.settings 1 t.keys0 t.keys1 draw
 
 -- the end of a run c: refusal, sides, where each side's latest message stands, and the messages in front of the lent slice
-pub record EndsAs (c : Carried) (refused : Option RefusedCall) (x : Execution) (before after : List ℕ) : Type 0 where
+pub record EndsAs (c : Carried) (refused : Option Refused) (x : Execution) (before after : List ℕ) : Type 0 where
   pub refused_is : refused ≡ c.refused
   pub server_is : x.server.side ≡ c.parties.observer.side
   pub phone_is : x.phone.side ≡ c.parties.peer.side
@@ -152,4 +158,4 @@ pub record EndsAs (c : Carried) (refused : Option RefusedCall) (x : Execution) (
 
 -- what is given back of it
 abbrev pub Executes : Carried → Execution → List ℕ → List ℕ → Type 0
-Executes c x before after = EndsAs c x.refused x before after
+Executes c x before after = EndsAs c (told x.refused) x before after

@@ -7,12 +7,13 @@ ghost use Rattle.std.specs.Result.{result_err};
 ghost use Rattle.settings.specs.Sizes.{key_count, most_bytes, work_length, book_size};
 ghost use Rattle.settings.specs.Schedule.{rounds};
 ghost use Rattle.side.specs.Side.{begin_call, take_call};
-ghost use Rattle.execution.specs.Execution.{side_number, refused_call, draw_in, books_given, dealt_run, given_run, executed};
-ghost use Rattle.execution.specs.Held.{Stands, Fits, run_at, before_begin, LeftBy, SendsAt, RoundsRun, Plays, book_length, CutsAt, Deals, EndsAs, Executes};
+ghost use Rattle.execution.specs.Execution.{side_number, told, draw_in, books_given, dealt_run, given_run, executed};
+ghost use Rattle.execution.specs.Held.{Stands, Fits, run_at, before_begin, answer_at, LeftBy, SendsAt, RoundsRun, Plays, book_length, CutsAt, Deals, EndsAs, Executes};
 
 use dealer::deal;
 use settings::{
-    KEYS, MOST_BYTES, ROUNDS, Settings, Shape, WIDTH, WORK_LENGTH, book_size, input_size, shape_no,
+    KEYS, MOST_BYTES, ROUNDS, Refusal, Settings, Shape, WIDTH, WORK_LENGTH, ask_shape, book_size,
+    input_size,
 };
 use side::{Run, begin, send, take};
 use state::{Side, fresh};
@@ -48,12 +49,12 @@ pub enum Party {
     Phone,
 }
 
-// A call that refused, its party, and the number of its first no.
+// A call that refused, its party, and its refusal.
 #[derive(Clone, Copy, Debug, PartialEq, Eq)]
 pub struct RefusedCall {
     pub call: CallKind,
     pub party: Party,
-    pub number: u32,
+    pub refusal: Refusal,
 }
 
 // A side, and where its latest message stands among the messages.
@@ -130,19 +131,22 @@ impl Party {
     }
 }
 
-// A call's answer, from the number of its first no, or 0.
-#[tactic(auto, unfolding(crate::specs::Execution::refused_call))]
-fn answer_of(call: CallKind, party: Party, number: u32) -> Result<(), RefusedCall>
-    ensures { result_err result ≡ refused_call call party number }
+// A call's answer, with the call and its party where it was refused.
+fn answer_at<T: Drop>(
+    call: CallKind,
+    party: Party,
+    answer: Result<T, Refusal>,
+) -> Result<T, RefusedCall>
+    ensures { result ≡ answer_at call party answer }
 {
-    if number == 0 {
-        return Ok(());
+    match answer {
+        Ok(value) => Ok(value),
+        Err(refusal) => Err(RefusedCall {
+            call,
+            party,
+            refusal,
+        }),
     }
-    Err(RefusedCall {
-        call,
-        party,
-        number,
-    })
 }
 
 // ---- The calls of one side
@@ -172,11 +176,10 @@ fn begin_at(
     book: &[u32],
     work: &mut [u32],
 ) -> Result<(), RefusedCall>
-    ensures { LeftBy CallKind.Begin party (begin_call key_count e.old.side run inputs.now book.now work.old) e.old (result_err result) e.new work.new }
+    ensures { LeftBy CallKind.Begin party (begin_call key_count e.old.side run inputs.now book.now work.old) e.old (told (result_err result)) e.new work.new }
 {
-    let done = begin(e.side, run, inputs, book, work);
-    e.side = done.side;
-    answer_of(CallKind::Begin, party, done.refused)
+    let done = begin(&mut e.side, run, inputs, book, work);
+    answer_at(CallKind::Begin, party, done)
 }
 
 // It sends, behind the messages so far, of which there are `total` bytes.
@@ -188,15 +191,14 @@ fn send_at(
     total: &mut usize,
 ) -> Result<(), RefusedCall>
     requires { Stands e.old.from e.old.to total.old × (total.old + most_bytes key_count ≤ length messages.old) }
-    ensures { SendsAt party e.old work.now messages.old total.old (result_err result) e.new total.new messages.new }
+    ensures { SendsAt party e.old work.now messages.old total.old (told (result_err result)) e.new total.new messages.new }
 {
     let at = *total;
-    let sent = send(e.side, work, &mut messages[at..]);
-    e.side = sent.side;
-    answer_of(CallKind::Send, party, sent.refused)?;
+    let sent = send(&mut e.side, work, &mut messages[at..]);
+    let length = answer_at(CallKind::Send, party, sent)?;
     e.from = at;
-    e.to = at + sent.length;
-    *total = at + sent.length;
+    e.to = at + length;
+    *total = at + length;
     Ok(())
 }
 
@@ -209,11 +211,10 @@ fn take_at(
     messages: &[u8],
 ) -> Result<(), RefusedCall>
     requires { Stands heard.from heard.to (length messages.now) }
-    ensures { LeftBy CallKind.Take party (take_call key_count e.old.side work.old (slice_range messages.now heard.from heard.to)) e.old (result_err result) e.new work.new }
+    ensures { LeftBy CallKind.Take party (take_call key_count e.old.side work.old (slice_range messages.now heard.from heard.to)) e.old (told (result_err result)) e.new work.new }
 {
-    let done = take(e.side, work, &messages[heard.from..heard.to]);
-    e.side = done.side;
-    answer_of(CallKind::Take, party, done.refused)
+    let done = take(&mut e.side, work, &messages[heard.from..heard.to]);
+    answer_at(CallKind::Take, party, done)
 }
 
 // ---- The whole run
@@ -245,11 +246,11 @@ fn deal_at(
     book1: &mut [u32],
 ) -> Result<(), RefusedCall>
     requires { (book_length ≤ length book0.old) × (book_length ≤ length book1.old) }
-    ensures { Deals terms draw.now (result_err result) book0.new book1.new }
+    ensures { Deals terms draw.now (told (result_err result)) book0.new book1.new }
 {
     let shape = terms.settings.shape;
     let size = book_size(shape);
-    let refused = deal(
+    let dealt = deal(
         shape,
         terms.keys0,
         terms.keys1,
@@ -257,7 +258,7 @@ fn deal_at(
         &mut book0[..size],
         &mut book1[..size],
     );
-    answer_of(CallKind::Deal, Party::Server, refused)
+    answer_at(CallKind::Deal, Party::Server, dealt)
 }
 
 impl Execution {
@@ -281,7 +282,7 @@ impl Execution {
     // One round: the server sends and the phone takes, then the phone sends and the server takes.
     fn run_round(&mut self, space: &mut WorkSpace) -> Result<(), RefusedCall>
         requires { Fits self.old space.old.messages 2 }
-        ensures { RoundsRun 1 self.old space.old (result_err result) self.new space.new }
+        ensures { RoundsRun 1 self.old space.old (told (result_err result)) self.new space.new }
     {
         send_at(
             &mut self.server,
@@ -318,7 +319,7 @@ impl Execution {
     // The seven rounds.
     fn run_rounds(&mut self, space: &mut WorkSpace) -> Result<(), RefusedCall>
         requires { Fits self.old space.old.messages (2 * rounds) }
-        ensures { RoundsRun rounds self.old space.old (result_err result) self.new space.new }
+        ensures { RoundsRun rounds self.old space.old (told (result_err result)) self.new space.new }
     {
         for _ in 0..ROUNDS {
             self.run_round(space)?;
@@ -336,7 +337,7 @@ impl Execution {
         space: &mut WorkSpace,
     ) -> Result<(), RefusedCall>
         requires { Fits self.old space.old.messages (2 * rounds) }
-        ensures { Plays terms numbers.now book0.now book1.now self.old space.old (result_err result) self.new space.new }
+        ensures { Plays terms numbers.now book0.now book1.now self.old space.old (told (result_err result)) self.new space.new }
     {
         let cuts = cuts_of(terms.settings.shape, numbers.len());
         let first = cuts.phone;
@@ -369,7 +370,7 @@ impl Execution {
         space: &mut WorkSpace,
     ) -> Result<(), RefusedCall>
         requires { Fits self.old space.old.messages (2 * rounds) }
-        ensures { self.old ≡ before_begin → EndsAs (dealt_run terms numbers.now space.old.server space.old.phone) (result_err result) self.new space.old.messages space.new.messages }
+        ensures { self.old ≡ before_begin → EndsAs (dealt_run terms numbers.now space.old.server space.old.phone) (told (result_err result)) self.new space.old.messages space.new.messages }
     {
         let shape = terms.settings.shape;
         let size = book_size(shape);
@@ -406,7 +407,7 @@ fn execute_dealt(
 fn books_given(shape: Shape, numbers: &[u32]) -> bool
     ensures { result ≡ books_given shape numbers.now }
 {
-    if shape_no(shape) != 0 {
+    if ask_shape(shape).is_err() {
         return false;
     }
     let cuts = cuts_of(shape, numbers.len());

@@ -22,4 +22,4 @@ returns-clause-run c =
       phone_half a.terms.settings.shape a.numbers.now _ _ cut.phone_is cut.draw_is _ second,
     ) at
     c.play.ensures in
-    rw c.err-x.ensures.value (ends-noted _ _ c.play.new.self _ _ (given-run a.terms a.numbers.now a.space.now _ c.play.new.self c.play.new.space room played))
+    rw c.err-x.ensures.value (ends-noted _ _ c.play.new.self _ _ _ (given-run a.terms a.numbers.now a.space.now _ c.play.new.self c.play.new.space room played))
