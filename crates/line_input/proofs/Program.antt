@@ -11,13 +11,13 @@ use Rattle.stream.specs.Input.{lines_of, carried_from, carried_over}
 use Rattle.stream.specs.Theorems.{LooksAt}
 use Rattle.stream.proofs.Parts.{writes_the_output}
 use Rattle.lines.specs.Plain.{line_draws, line_state}
-use Rattle.lines.proofs.Cut.{cut_line, cut_state}
 use Rattle.line_input.specs.Answers.{kept_length, line_handler, state_line, closed}
+use Rattle.line_input.specs.Kept.{looks_at_kept}
 use Rattle.line_input.specs.Theorems.{AnswersEachLine, AdvancesByDraws, NoLastLine, HasLastLine, state_over, draws_from}
 
 -- a line is answered by its first 1,025 bytes
 looks_at : (kept : List ℕ) → length kept ≡ kept_length → LooksAt ℕ (length kept) line_handler
-looks_at kept l = record { answer_cut = λ k line. rw l (cut_line k line); carry_cut = λ k line state. rw l (cut_state k line state) }
+looks_at kept l = rw l looks_at_kept
 
 pub answers_each_line : AnswersEachLine
 answers_each_line state kept l parts few = ap closed (writes_the_output ℕ line_handler state kept (omega arith) (looks_at kept l) parts few)

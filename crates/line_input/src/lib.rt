@@ -6,7 +6,9 @@
 // a contract cannot say what the system read or wrote.
 #![tactic(auto)]
 
-ghost use Rattle.line_input.specs.Answers.{kept_length, line_handler, state_line};
+ghost use Rattle.line_input.specs.Answers.{line_handler, state_line};
+ghost use Rattle.line_input.specs.Kept.{looks_at_kept};
+ghost use Rattle.std.proofs.Common.{rules};
 
 use lines::LineRunner;
 use std::io;
@@ -26,7 +28,7 @@ struct LineInput {
     runner: LineRunner,
 }
 
-impl LineAnswerer for LineInput {
+impl LineAnswerer<KEPT, OUT> for LineInput {
     type Carried = u32;
 
     ghost handler = { line_handler };
@@ -35,13 +37,13 @@ impl LineAnswerer for LineInput {
 
     ghost last_line = { state_line };
 
-    ghost KEPT = { kept_length };
-
     ghost LONGEST_ANSWER = { 112 };
 
     ghost LONGEST_LAST = { 11 };
 
-    const KEPT: usize = KEPT;
+    ghost looks_at = { looks_at_kept };
+
+    ghost has_room = { Prim.search rules };
 
     const LONGEST_ANSWER: usize = 112;
 
@@ -70,10 +72,8 @@ pub fn answer_inputs<R: Env + Files + Input + Print + Eprint>(
     rt: &R,
     state: u32,
 ) -> io::Result<()> {
-    let mut kept = [0u8; KEPT];
-    let mut out = [0u8; OUT];
     let mut lines = LineInput {
         runner: LineRunner::new(state),
     };
-    stream::answer_inputs(rt, &mut lines, state, &mut kept, &mut out)
+    stream::answer_inputs::<KEPT, OUT, R, LineInput>(rt, &mut lines, state)
 }

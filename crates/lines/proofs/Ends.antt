@@ -5,7 +5,8 @@ use mathlib.Core.Bool.{true, ◌&&◌}
 use mathlib.Core.List.{List, [], ◌++◌, append-nil, append_assoc}
 use native.Mathlib.Omega.{arith}
 use lib.Dec.{ltb}
-use Rattle.std.specs.Prelude.{Result, Ok, None}
+use Rattle.std.specs.Prelude.{None}
+use Rattle.settings.specs.Refusals.{Outcome, Gives}
 use lib.ListN.{length, take, drop, replicate, length-append, length-drop, length-replicate, replicate-append-replicate, drop_of_length-le}
 use lib.Seq.{take_all, take_at, drop_at}
 use borrow.Rule.Slice.PartMut.{mid_of, post_of, put_mid}
@@ -41,10 +42,10 @@ use Rattle.lines.proofs.Handed.{settings_pass_all, ones_ok, columns_long, column
 -- ---- The answer of a side that has ended
 
 module _ (s : Settings) (secret : List ℕ) (ready : Ready s) (long : length secret ≡ s.shape.n) where
-  answered-is : (x : PartyState) → Ended s secret x → answered_by x.side ≡ Ok (answer_of s secret)
+  answered-is : (x : PartyState) → Ended s secret x → answered_by x.side ≡ Gives (answer_of s secret)
   unfolding answered_by
   answered-is x e =
-      let wrap : List ℕ → Result (List ℕ) ℕ = λ l. Ok l in
+      let wrap : List ℕ → Outcome (List ℕ) = λ l. Gives l in
       rw (e.gives (replicate 8 0) (answer-most (params_in s) ready.shape.most))
       (ap wrap (take_at (answer_of s secret) _ (answer_places (params_in s)) (answer-length s secret long)))
 

@@ -1,9 +1,11 @@
 -- What a line gives: its refusal, or the answer by the plain meaning; and the state that it leaves a generator in.
-use Rattle.std.specs.Prelude.{ℕ, cond, Result, Ok, Err, List, [], eqb, leb, ltb, take}
+use Rattle.std.specs.Prelude.{ℕ, cond, List, [], eqb, leb, ltb, take}
+use Rattle.std.specs.Option.{option_map_or}
 use Rattle.lists.specs.Answers.{ask}
 use Rattle.lists.specs.Lists.{all_below}
 use Rattle.field.specs.Field.{q}
 use Rattle.settings.specs.Questions.{ask_settings}
+use Rattle.settings.specs.Refusals.{Outcome, Gives, No}
 use Rattle.settings.specs.declared.Settings.{Settings}
 use Rattle.settings.specs.Settings.{settings_with, params_in}
 use Rattle.settings.specs.Sizes.{width, draw_length}
@@ -33,24 +35,21 @@ request_no serial request =
     0))
 
 -- the high parts, or the verdict; or a refusal
-unfoldable pub result_for : ℕ → Request → Result (List ℕ) ℕ
+unfoldable pub result_for : ℕ → Request → Outcome (List ℕ)
 result_for serial request =
     let refusal = request_no serial request in
     cond (eqb refusal 0)
-    (Ok (answer_of (settings_of request) (secret_of request)))
-    (Err refusal)
+    (Gives (answer_of (settings_of request) (secret_of request)))
+    (No refusal)
 
 -- "malformed: `!12`, no run"; "serial = line number", and serials end at 2^32 − 1, so that no line beyond has a run
-unfoldable pub line_result : ℕ → List ℕ → Result (List ℕ) ℕ
-line_result number line =
-    let request = line_of line in
-    cond (leb too_large number) (Err 12)
-    (cond request.good (result_for number request) (Err 12))
+unfoldable pub line_result : ℕ → List ℕ → Outcome (List ℕ)
+line_result number line = cond (leb too_large number) (No 12) (option_map_or (result_for number) (line_of line) (No 12))
 
 -- "Each output line: line number, then high parts or verdict, or `!` and the refusal"
-abbrev pub result_answer : ℕ → Result (List ℕ) ℕ → List ℕ
-result_answer number (Ok numbers) = answer_text number 0 numbers
-result_answer number (Err refusal) = answer_text number refusal []
+abbrev pub result_answer : ℕ → Outcome (List ℕ) → List ℕ
+result_answer number (Gives numbers) = answer_text number 0 numbers
+result_answer number (No refusal) = answer_text number refusal []
 
 unfoldable pub line_answer : ℕ → List ℕ → List ℕ
 line_answer number line = result_answer number (line_result number line)
@@ -67,10 +66,7 @@ request_draws serial request = cond (eqb (request_no serial request) 0) (drawn_f
 
 -- how many a line draws: none where it asks for no run
 unfoldable pub line_draws : ℕ → List ℕ → ℕ
-line_draws number line =
-    let request = line_of line in
-    cond (leb too_large number) 0
-    (cond request.good (request_draws number request) 0)
+line_draws number line = cond (leb too_large number) 0 (option_map_or (request_draws number) (line_of line) 0)
 
 -- "one generator": the state that a line leaves it in
 unfoldable pub line_state : ℕ → List ℕ → ℕ → ℕ

@@ -2,6 +2,8 @@
 use Rattle.std.specs.Prelude.{ℕ, ◌+◌, ◌*◌, ◌/◌, cond, Result, Ok, Err, List, ◌++◌, eqb, length, get_or, take, replicate}
 use Rattle.lists.specs.Lists.{list_to}
 use Rattle.field.specs.Field.{q}
+use Rattle.settings.specs.declared.Refusal.{Refusal}
+use Rattle.settings.specs.Refusals.{Outcome, Gives, No, number_of}
 use Rattle.settings.specs.Sizes.{key_count, width}
 use Rattle.generator.specs.Step.{outputs}
 use Rattle.state.specs.declared.Side.{Side}
@@ -35,15 +37,15 @@ abbrev pub numbers_for : ℕ → Request → List ℕ
 numbers_for state request = in_columns (secret_of request) ++ (replicate (inputs_for request) 0 ++ outputs q state (drawn_for request))
 
 -- what a side's answer says: its numbers, or the refusal
-unfoldable pub answered_by : Side → Result (List ℕ) ℕ
+unfoldable pub answered_by : Side → Outcome (List ℕ)
 answered_by s =
     let a = answer_call s (replicate 8 0) in
-    cond (eqb a.result.refused 0) (Ok (take a.result.length a.out)) (Err a.result.refused)
+    cond (eqb a.result.refused 0) (Gives (take a.result.length a.out)) (No a.result.refused)
 
 -- the same as the code holds it, with zeros behind the numbers
-abbrev pub numbers_in : Result LineAnswer ℕ → Result (List ℕ) ℕ
-numbers_in (Ok a) = Ok (take a.length a.numbers)
-numbers_in (Err refusal) = Err refusal
+abbrev pub numbers_in : Result LineAnswer Refusal → Outcome (List ℕ)
+numbers_in (Ok a) = Gives (take a.length a.numbers)
+numbers_in (Err refusal) = No (number_of refusal)
 
 -- the numbers of a run, at most
 abbrev pub most_numbers : ℕ

@@ -5,6 +5,7 @@ ghost use Rattle.std.specs.Prelude.{◌≡◌, true, ◌-◌, ◌*◌, ◌≤◌
 ghost use Rattle.field.specs.Field.{q};
 ghost use Rattle.settings.specs.Settings.{params_of};
 ghost use Rattle.settings.specs.Questions.{shape_ok};
+ghost use Rattle.settings.specs.Refusals.{refused};
 ghost use Rattle.settings.specs.Sizes.{width, draw_length};
 ghost use Rattle.generator.specs.Step.{stepped, outputs};
 ghost use Rattle.text.specs.Text.{text_at, puts};
@@ -13,10 +14,8 @@ ghost use Rattle.lines.specs.Run.{terms_for, in_columns, count_for, numbers_for,
 
 use execution::{RunSpace, RunTerms, execute};
 use field::all_below_q;
-use generator::draw_by;
-use settings::{
-    FIELDS, KEYS, NOT_BELOW_Q, SERIAL, Settings, Shape, WIDTH, draw_length, settings_no,
-};
+use generator::{Generator, draw};
+use settings::{KEYS, Refusal, Settings, Shape, WIDTH, ask_settings, draw_length};
 use state::{Side, answer};
 use syntax::{Request, put_answer, read_line};
 use text::TOO_LARGE;
@@ -28,7 +27,7 @@ const ANSWER_PLACES: usize = 8;
 const RUN_NUMBERS: usize = 2 * 8 * WIDTH + 1320 * WIDTH + 144;
 
 // What a line that asks for no run is refused with.
-const MALFORMED: u32 = FIELDS;
+const MALFORMED: Refusal = Refusal::Fields;
 
 // The numbers of an answer: how many, and the numbers, with zeros behind.
 #[derive(Clone, Copy)]
@@ -53,23 +52,18 @@ fn settings_of(request: Request) -> Settings
     }
 }
 
-// The first no that the deal and the begins would give, or 0.
-fn request_no(serial: u32, request: Request) -> u32
-    ensures { result ≡ request_no serial request }
+// The questions of the deal and the begins, in their order.
+fn ask_request(serial: u32, request: Request) -> Result<(), Refusal>
+    ensures { refused result ≡ request_no serial request }
 {
-    let no = settings_no(0, settings_of(request));
-    if no != 0 {
-        return no;
-    }
-    let numbers = request.numbers;
-    let count = request.count as usize;
-    if !all_below_q(&numbers[..count]) {
-        return NOT_BELOW_Q;
+    ask_settings(0, settings_of(request))?;
+    if !all_below_q(&request.numbers[..request.count as usize]) {
+        return Err(Refusal::NotBelowQ);
     }
     if serial < 1 {
-        return SERIAL;
+        return Err(Refusal::Serial);
     }
-    0
+    Ok(())
 }
 
 // ---- The run
@@ -97,19 +91,13 @@ fn spread(out: &mut [u32], numbers: &[u32])
     }
 }
 
-// What the side's answer says: its numbers, or the number of the first no.
-fn answered_by(side: Side) -> Result<LineAnswer, u32>
+// What the side's answer says.
+fn answered_by(side: Side) -> Result<LineAnswer, Refusal>
     ensures { numbers_in result ≡ answered_by side }
 {
     let mut numbers = [0u32; ANSWER_PLACES];
-    let result = answer(side, &mut numbers);
-    if result.refused != 0 {
-        return Err(result.refused);
-    }
-    Ok(LineAnswer {
-        length: result.length,
-        numbers,
-    })
+    let length = answer(side, &mut numbers)?;
+    Ok(LineAnswer { length, numbers })
 }
 
 // The draw of a run, into zeros; the state behind it. State 0, which no seed leads to, gives zeros: they are left as they are.
@@ -122,7 +110,9 @@ fn draw_run(state: u32, shape: Shape, out: &mut [u32]) -> u32
     if state == 0 {
         return 0;
     }
-    draw_by(state, shape, out).state
+    let mut generator = Generator { state };
+    let _ = draw(&mut generator, shape, out);
+    generator.state
 }
 
 // The numbers of a run, into zeros; the state behind its draw.
@@ -163,7 +153,7 @@ fn run_in(
     request: Request,
     numbers: &mut [u32],
     space: &mut RunSpace,
-) -> Result<LineAnswer, u32>
+) -> Result<LineAnswer, Refusal>
     requires request_value { request_no serial request ≡ 0 }
     requires numbers_value { numbers.old ≡ replicate (count_for request) 0 }
     ensures result_value { numbers_in result ≡ result_for serial request }
@@ -185,7 +175,7 @@ fn run_request(
     request: Request,
     numbers: &mut [u32],
     space: &mut RunSpace,
-) -> Result<LineAnswer, u32>
+) -> Result<LineAnswer, Refusal>
     requires request_value { request_no serial request ≡ 0 }
     requires numbers_value { numbers.old ≡ replicate most_numbers 0 }
     ensures result_value { numbers_in result ≡ result_for serial request }
@@ -200,7 +190,7 @@ fn run_request(
 // ---- The whole line
 
 // The output line of a line that gives this.
-fn put_result(out: &mut [u8], at: usize, number: u64, res: Result<LineAnswer, u32>) -> usize
+fn put_result(out: &mut [u8], at: usize, number: u64, res: Result<LineAnswer, Refusal>) -> usize
     ensures result_after { text_at out.new result ≡ puts (text_at out.old at) (result_answer number (numbers_in res)) }
     ensures res_len_bound { length (result_answer number (numbers_in res)) ≤ 112 }
 {
@@ -209,7 +199,7 @@ fn put_result(out: &mut [u8], at: usize, number: u64, res: Result<LineAnswer, u3
             let count = answer.length.min(ANSWER_PLACES);
             put_answer(out, at, number, 0, &answer.numbers[..count])
         }
-        Err(refused) => put_answer(out, at, number, refused, &[]),
+        Err(refusal) => put_answer(out, at, number, refusal.number(), &[]),
     }
 }
 
@@ -236,22 +226,18 @@ impl LineRunner {
 
     // What a line without its line end gives. Its number is the serial of its run; a line beyond the last serial is malformed, and a refused one
     // draws nothing.
-    fn line_result(&mut self, number: u64, line: &[u8]) -> Result<LineAnswer, u32>
+    fn line_result(&mut self, number: u64, line: &[u8]) -> Result<LineAnswer, Refusal>
         ensures result_value { numbers_in result ≡ line_result number line.now }
         ensures state_value { self.new.state ≡ line_state number line.now self.old.state }
     {
         if number >= TOO_LARGE {
             return Err(MALFORMED);
         }
-        let request = read_line(line);
-        if !request.good {
+        let Some(request) = read_line(line) else {
             return Err(MALFORMED);
-        }
+        };
         let serial = number as u32;
-        let refused = request_no(serial, request);
-        if refused != 0 {
-            return Err(refused);
-        }
+        ask_request(serial, request)?;
         run_request(
             &mut self.state,
             serial,

@@ -18,8 +18,7 @@ use Rattle.state.proofs.States.{answer-ready}
 use Rattle.std.specs.Prelude.{Option, None, Some}
 use Rattle.execution.specs.declared.Party.{Party}
 use Rattle.execution.specs.declared.Party.TheVariants.{Server, Phone}
-use Rattle.execution.specs.declared.RefusedCall.{RefusedCall}
-use Rattle.execution.specs.Execution.{side_number}
+use Rattle.execution.specs.Execution.{side_number, Refused}
 use Rattle.execution.specs.declared.CallKind.{CallKind}
 use Rattle.execution.specs.declared.CallKind.TheVariants.{Deal, Begin, Send, Take, Answer}
 use Rattle.execution.specs.Held.{run_bytes}
@@ -67,7 +66,7 @@ length-party Send party = length-decimal (side_number party)
 length-party Take party = length-decimal (side_number party)
 length-party Answer party = length-decimal (side_number party)
 
-length-refusal : (r : RefusedCall) → length (refusal_line r) ≤ 60
+length-refusal : (r : Refused) → length (refusal_line r) ≤ 60
 unfolding refusal_line
 length-refusal r = simp length-append (omega (arith, length_name r.call, length-party r.call r.party, length-decimal r.number))
 
@@ -110,7 +109,7 @@ length_answers : (server phone : Side) → length (answers_text server phone) �
 unfolding answers_text
 length_answers server phone = omega (arith, length-append (answer_line Server server) (answer_line Phone phone), length-answer Server server, length-answer Phone phone)
 
-length-result : (refused : Option RefusedCall) (server phone : Side) → length (result_text refused server phone) ≤ 400
+length-result : (refused : Option Refused) (server phone : Side) → length (result_text refused server phone) ≤ 400
 unfolding result_text
 length-result None server phone = length_answers server phone
 length-result (Some refused) server phone = omega (arith, length-refusal refused)
@@ -119,7 +118,7 @@ length-openings : (party : Party) (side : Side) → length (openings_line party 
 unfolding openings_line
 length-openings party side = simp length-append (omega (arith, length-decimal (side_number party), length-decimal (count_call side)))
 
-pub length_run : (a : Shape) (refused : Option RefusedCall) (server phone : Side) (messages : List ℕ) → length messages ≤ run_bytes → length (run_text a refused server phone messages) ≤ out_length
+pub length_run : (a : Shape) (refused : Option Refused) (server phone : Side) (messages : List ℕ) → length messages ≤ run_bytes → length (run_text a refused server phone messages) ≤ out_length
 unfolding run_text
 length_run a refused server phone messages h =
     simp length-append

@@ -1,18 +1,17 @@
 -- The whole text: what stands in front of a slice that has room for any, and the text of an input.
 use Prim.Native.Nat.{ℕ, ◌-◌, ◌≤◌, ◌<◌, min}
 use mathlib.Core.Path.{◌≡◌, refl, ap}
-use mathlib.Core.Bool.{true, false}
+use Rattle.std.specs.Prelude.{Some}
 use mathlib.Core.List.{List}
 use native.Mathlib.Omega.{arith}
 use borrow.Author.Tests.{lt-ltb, le-ltb}
 use lib.ListN.{length, take, drop, length-drop}
 use lib.Seq.{take_all, take-append_seam}
 use Rattle.text.specs.Text.{text_at, puts}
-use Rattle.std.proofs.Common.{Some, None}
 use Rattle.text.proofs.Puts.{front-put, within-put}
 use Rattle.execution.specs.declared.RunTerms.{RunTerms}
 use Rattle.execution.specs.declared.Execution.{Execution}
-use Rattle.execution.specs.Execution.{Carried, executed}
+use Rattle.execution.specs.Execution.{told, Carried, executed}
 use Rattle.execution.specs.Held.{run_bytes, Executes}
 use Rattle.transcript.specs.Transcript.{malformed_line, head_length, run_terms_in, run_text, zero_work, transcript_of, text_for, out_length}
 use Rattle.transcript.proofs.Lengths.{length_run}
@@ -37,7 +36,7 @@ module _ (numbers : List ℕ) (h : head_length ≤ length numbers) (terms : RunT
   messages_are = rw (run.messages_are, run.length_is) (take-append_seam end.messages _)
 
   abbrev text : List ℕ
-  text = run_text terms.settings.shape x.refused x.server.side x.phone.side (take x.length after)
+  text = run_text terms.settings.shape (told x.refused) x.server.side x.phone.side (take x.length after)
 
   pub text_is : text ≡ transcript_of numbers
   unfolding transcript_of
@@ -47,14 +46,10 @@ module _ (numbers : List ℕ) (h : head_length ≤ length numbers) (terms : RunT
 
   pub text_fits : length before ≡ run_bytes → length text ≤ out_length
   text_fits l =
-      length_run terms.settings.shape x.refused x.server.side x.phone.side (take x.length after)
+      length_run terms.settings.shape (told x.refused) x.server.side x.phone.side (take x.length after)
       (rw messages_are (omega (arith, l, run.fits)))
 
 -- ---- An input that has been read
-
-pub bad_input : (numbers : List ℕ) → malformed_line ≡ text_for None numbers
-unfolding text_for
-bad_input numbers = refl
 
 pub good_input : (count : ℕ) (numbers : List ℕ) (n : ℕ) → n ≡ min count (length numbers) → transcript_of (take n numbers) ≡ text_for (Some count) numbers
 unfolding text_for

@@ -1,6 +1,5 @@
 -- The text of a transcript: what is written for an input.
 use Rattle.std.specs.Prelude.{ℕ, zero, suc, ◌+◌, ◌*◌, ◌/◌, ◌%◌, cond, Option, None, Some, List, [], ◌∷◌, ◌++◌, eqb, ltb, length, get_or, take, drop, replicate}
-use Rattle.std.specs.Option.{option_map_or}
 use Rattle.text.specs.Text.{decimal, numbers_text, hex_bytes}
 use Rattle.settings.specs.declared.Shape.{Shape}
 use Rattle.settings.specs.Settings.{settings_with}
@@ -11,10 +10,9 @@ use Rattle.state.specs.State.{AfterAnswer, answer_call, count_call}
 use Rattle.execution.specs.declared.RunTerms.{RunTerms}
 use Rattle.execution.specs.declared.Party.{Party}
 use Rattle.execution.specs.declared.Party.TheVariants.{Server, Phone}
-use Rattle.execution.specs.declared.RefusedCall.{RefusedCall}
 use Rattle.execution.specs.declared.CallKind.{CallKind}
 use Rattle.execution.specs.declared.CallKind.TheVariants.{Deal, Begin, Send, Take, Answer}
-use Rattle.execution.specs.Execution.{side_number, Carried, executed}
+use Rattle.execution.specs.Execution.{side_number, Refused, Carried, executed}
 use Rattle.execution.specs.Held.{run_bytes}
 
 -- ---- Words
@@ -81,7 +79,7 @@ party_text Take party = decimal (side_number party)
 party_text Answer party = decimal (side_number party)
 
 -- `refused CALL PARTY NUMBER`: the first refusal
-unfoldable pub refusal_line : RefusedCall → List ℕ
+unfoldable pub refusal_line : Refused → List ℕ
 refusal_line r = refused_word ++ call_name r.call ++ blank ++ party_text r.call r.party ++ blank ++ decimal r.number ++ line_end
 
 -- what a side's answer call leaves in eight places
@@ -114,12 +112,12 @@ openings_line party side = openings_word ++ decimal (side_number party) ++ blank
 -- ---- The whole text
 
 -- both answers; where a call before them was refused, its refusal
-unfoldable pub result_text : Option RefusedCall → Side → Side → List ℕ
+unfoldable pub result_text : Option Refused → Side → Side → List ℕ
 result_text None server phone = answers_text server phone
 result_text (Some refused) server phone = refusal_line refused
 
 -- every message, the result, both opening counts
-unfoldable pub run_text : Shape → Option RefusedCall → Side → Side → List ℕ → List ℕ
+unfoldable pub run_text : Shape → Option Refused → Side → Side → List ℕ → List ℕ
 run_text a refused server phone messages =
     message_lines a (2 * rounds) 0 messages ++ result_text refused server phone ++ openings_line Server server ++ openings_line Phone phone
 
@@ -153,7 +151,8 @@ transcript_of numbers =
 
 -- the text for an input that has been read to its end: its first `count` numbers, unless a byte was wrong
 unfoldable pub text_for : Option ℕ → List ℕ → List ℕ
-text_for count numbers = option_map_or (λ (n : ℕ). transcript_of (take n numbers)) count malformed_line
+text_for None numbers = malformed_line
+text_for (Some count) numbers = transcript_of (take count numbers)
 
 -- no text is longer: two digits for each byte of a message, and room for all else
 abbrev pub out_length : ℕ

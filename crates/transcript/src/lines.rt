@@ -1,12 +1,15 @@
 // The lines of a transcript, each put into a lent slice behind what stands there.
 ghost use Rattle.std.specs.Prelude.{◌≡◌, ◌*◌};
 ghost use Rattle.settings.specs.Schedule.{rounds};
+ghost use Rattle.settings.specs.Refusals.{refused};
+ghost use Rattle.state.specs.State.{written};
 ghost use Rattle.text.specs.Text.{text_at, puts};
+ghost use Rattle.execution.specs.Execution.{told_call};
 ghost use Rattle.transcript.specs.Transcript.{call_name, malformed_line, message_line, message_lines, party_text, refusal_line, numbers_line, answer_or_refusal, answers_text, openings_line};
 
 use execution::{CallKind, Party, RefusedCall};
-use settings::{ROUNDS, Shape, message_size};
-use state::{AnswerResult, Side, answer, opening_count};
+use settings::{ROUNDS, Refusal, Shape, message_size};
+use state::{Side, answer, opening_count};
 use text::{put_byte, put_bytes, put_hex, put_number, put_numbers};
 
 // The most numbers of an answer.
@@ -80,7 +83,7 @@ fn put_party(out: &mut [u8], at: usize, call: CallKind, party: Party) -> usize
 
 // The first refusal.
 pub fn put_refusal_line(out: &mut [u8], at: usize, refused: RefusedCall) -> usize
-    ensures { text_at out.new result ≡ puts (text_at out.old at) (refusal_line refused) }
+    ensures { text_at out.new result ≡ puts (text_at out.old at) (refusal_line (told_call refused)) }
 {
     let call = refused.call;
     let word = put_bytes(out, at, b"refused ");
@@ -88,7 +91,7 @@ pub fn put_refusal_line(out: &mut [u8], at: usize, refused: RefusedCall) -> usiz
     let blank = put_byte(out, first, b' ');
     let second = put_party(out, blank, call, refused.party);
     let next = put_byte(out, second, b' ');
-    let third = put_number(out, next, refused.number as u64);
+    let third = put_number(out, next, refused.refusal.number() as u64);
     put_byte(out, third, b'\n')
 }
 
@@ -109,21 +112,25 @@ fn put_answer_line(
     out: &mut [u8],
     at: usize,
     party: Party,
-    res: AnswerResult,
+    res: Result<usize, Refusal>,
     numbers: &[u32],
 ) -> usize
-    ensures { text_at out.new result ≡ puts (text_at out.old at) (answer_or_refusal party (record { result = res; out = numbers.now })) }
+    ensures { text_at out.new result ≡ puts (text_at out.old at) (answer_or_refusal party (record { result = record { refused = refused res; length = written res }; out = numbers.now })) }
 {
-    if res.refused != 0 {
-        let refused = RefusedCall {
-            call: CallKind::Answer,
-            party,
-            number: res.refused,
-        };
-        return put_refusal_line(out, at, refused);
+    match res {
+        Ok(length) => {
+            let length = length.min(numbers.len());
+            put_numbers_line(out, at, party, &numbers[..length])
+        }
+        Err(refusal) => {
+            let refused = RefusedCall {
+                call: CallKind::Answer,
+                party,
+                refusal,
+            };
+            put_refusal_line(out, at, refused)
+        }
     }
-    let length = res.length.min(numbers.len());
-    put_numbers_line(out, at, party, &numbers[..length])
 }
 
 // What both answer calls give, the server's first.

@@ -2,6 +2,7 @@
 ghost use Rattle.std.specs.Prelude.{◌≡◌, ◌+◌, ◌≤◌, length, take, drop};
 ghost use Rattle.settings.specs.Sizes.{key_count};
 ghost use Rattle.text.specs.Text.{text_at, puts};
+ghost use Rattle.execution.specs.Execution.{told};
 ghost use Rattle.transcript.specs.Transcript.{head_length, run_terms_in, result_text, run_text, transcript_of, text_for, out_length};
 
 use crate::lines::{put_answers, put_malformed, put_messages, put_openings, put_refusal_line};
@@ -70,7 +71,7 @@ fn put_end(
     server: Side,
     phone: Side,
 ) -> usize
-    ensures { text_at out.new result ≡ puts (text_at out.old at) (result_text refused server phone) }
+    ensures { text_at out.new result ≡ puts (text_at out.old at) (result_text (told refused) server phone) }
 {
     match refused {
         Some(call) => put_refusal_line(out, at, call),
@@ -80,7 +81,7 @@ fn put_end(
 
 // A run with its messages.
 fn put_run(out: &mut [u8], shape: Shape, x: Execution, messages: &[u8]) -> usize
-    ensures { text_at out.new result ≡ puts (text_at out.old 0) (run_text shape x.refused x.server.side x.phone.side messages.now) }
+    ensures { text_at out.new result ≡ puts (text_at out.old 0) (run_text shape (told x.refused) x.server.side x.phone.side messages.now) }
 {
     let server = x.server.side;
     let phone = x.phone.side;
@@ -105,15 +106,13 @@ fn transcript(numbers: &[u32], out: &mut [u8]) -> usize
     put_run(out, terms.settings.shape, x, &space.work.messages[..length])
 }
 
-// The text for an input that has so many numbers, or that is malformed, in front of `out`: how many bytes it has. The caller lends
-// OUT_LENGTH bytes.
+// The text for an input of so many numbers, or for one that has not its form, in front of `out`: how many bytes it has. The caller lends OUT_LENGTH bytes.
 pub fn text_for(count: Option<usize>, numbers: &[u32], out: &mut [u8]) -> usize
     requires { out_length ≤ length out.old }
     ensures { (take result out.new ≡ text_for count numbers.now) × (result ≤ length out.new) }
 {
-    let Some(count) = count else {
-        return put_malformed(out, 0);
-    };
-    let count = count.min(numbers.len());
-    transcript(&numbers[..count], out)
+    match count {
+        Some(count) => transcript(&numbers[..count.min(numbers.len())], out),
+        None => put_malformed(out, 0),
+    }
 }

@@ -14,7 +14,7 @@ returns-then-state-eq0 c =
 pub returns : goal.returns
 returns c =
     let all = let a = c.args in
-    drawn-run a.state a.shape a.out.now c.requires.out_value c.requires.shape_value _ c.draw_by.ensures in
+    drawn-run a.state a.shape a.out.now c.requires.out_value c.requires.shape_value _ c.draw.ensures in
     record {
       value = all.0;
       out_after = all.1;

@@ -20,5 +20,5 @@ returns-in-Ok-clause-res_len_bound c =
 
 pub returns-in-Err-clause-res_len_bound : goal.returns-in-Err-clause-res_len_bound
 returns-in-Err-clause-res_len_bound c =
-    let fits : Fits w32 c.in-Err.refused = search rules in
-    rw c.in-Err.is (length-answer c.args.number c.in-Err.refused _ (omega arith) (omega (arith, fits)) none_below)
+    let is = c.number.ensures in
+    rw c.in-Err.is (length-answer c.args.number _ _ (omega arith) (omega (arith, is.0, is.2)) none_below)

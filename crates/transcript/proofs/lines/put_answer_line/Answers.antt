@@ -1,18 +1,17 @@
--- `transcript::lines::put_answer_line` meets its contract. Assumes nothing.
-use borrow.Author.Tests.{eq-eqb, ne_eqb}
-use Rattle.transcript.specs.Transcript.{answer_or_refusal}
+-- `transcript::lines::put_answer_line` meets its contract.
+use borrow.Author.Tests.{ne_eqb}
 use Rattle.lists.proofs.Lists.{take_min}
+use Rattle.settings.specs.Refusals.{number_of}
+use Rattle.settings.proofs.Refused.{number_nonzero}
+use Rattle.transcript.specs.Transcript.{answer_or_refusal}
 use Rattle.transcript.proofs.lines.put_answer_line.Goals as goal
 
-pub returns-then-res-ne0 : goal.returns-then-res-ne0
+pub returns-in-Ok : goal.returns-in-Ok
 unfolding answer_or_refusal
-returns-then-res-ne0 c =
-    rw (ne_eqb c.args.res.refused 0 c.if-res-ne0.true)
-    c.put_refusal_line.ensures
+returns-in-Ok c =
+    rw c.in-Ok.is
+    (rw (take_min c.in-Ok.length c.min-length.result c.args.numbers.now c.min-length.ensures) at c.put_numbers_line.ensures)
 
-pub returns : goal.returns
+pub returns-in-Err : goal.returns-in-Err
 unfolding answer_or_refusal
-returns c =
-    let a = c.args in
-    rw (eq-eqb a.res.refused 0 c.if-res-ne0.false)
-    (rw (take_min a.res.length c.min-length.result a.numbers.now c.min-length.ensures) at c.put_numbers_line.ensures)
+returns-in-Err c = rw (c.in-Err.is, ne_eqb (number_of c.in-Err.refusal) 0 (number_nonzero c.in-Err.refusal)) c.put_refusal_line.ensures

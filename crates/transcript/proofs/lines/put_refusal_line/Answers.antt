@@ -7,7 +7,8 @@ pub returns : goal.returns
 unfolding refusal_line
 returns c =
     let d = c in
-    put_then _ _ _
+    rw (← c.number.ensures.0)
+    (put_then _ _ _
     (put_then _ _ _
     (put_then _ _ _
     (put_then _ _ _
@@ -19,4 +20,4 @@ returns c =
     d.put_party-second.ensures)
     c.put_byte-next.ensures)
     c.put_number-third.ensures)
-    c.put_byte.ensures
+    c.put_byte.ensures)

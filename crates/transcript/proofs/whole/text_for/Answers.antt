@@ -1,15 +1,12 @@
--- `transcript::whole::text_for` meets its contract. Assumes nothing.
-use Rattle.std.proofs.Common.{arith}
-use Rattle.transcript.specs.Transcript.{malformed_line}
-use Rattle.transcript.proofs.Texts.{in-front, bad_input, good_input}
+-- `transcript::whole::text_for` meets its contract.
+use native.Mathlib.Omega.{arith}
+use Rattle.transcript.specs.Transcript.{malformed_line, text_for}
+use Rattle.transcript.proofs.Texts.{in-front, good_input}
 use Rattle.transcript.proofs.whole.text_for.Goals as goal
 
-pub returns-in_default : goal.returns-in_default
-returns-in_default c =
-    let a = c.args in
-    rw c.in_default.is (rw (← bad_input a.numbers.now) (in-front a.out.now malformed_line _ _ c.put_malformed.ensures (omega arith) c.requires))
+pub returns-in-Some : goal.returns-in-Some
+returns-in-Some c = rw (c.in-Some.is, ← good_input c.in-Some.count c.args.numbers.now c.min.result c.min.ensures) c.transcript.ensures
 
-pub returns : goal.returns
-returns c =
-    let good = good_input c.in-Some.count c.args.numbers.now c.min-count.result c.min-count.ensures in
-    rw (c.in-Some.is, ← good) c.transcript.ensures
+pub returns-in-None : goal.returns-in-None
+unfolding text_for
+returns-in-None c = rw c.in-None.is (in-front c.args.out.now malformed_line _ _ c.put_malformed.ensures (omega arith) c.requires)
