@@ -20,10 +20,10 @@ use whole::{MOST_NUMBERS, OUT_LENGTH, text_for};
 // The most bytes that are read at once.
 const PART: usize = 4096;
 
-// Reads to the end of the input: how many numbers it has; nothing, where it has not its form. A read that fails counts as the input's end.
-// Nothing says that an input ends, so the reads are counted, up to a number that no run uses up.
+// Reads to the end of the input: how many numbers it has, unless it is malformed. A read that fails counts as the end. Nothing says that
+// an input ends, so the reads are counted, up to a number that no run uses up.
 fn read_all<R: Read>(input: &mut R, numbers: &mut [u32]) -> Option<usize> {
-    let mut read = start_numbers();
+    let mut read = Some(start_numbers());
     for _ in 0..u64::MAX {
         let mut chunk = [0u8; PART];
         let Ok(n) = input.read(&mut chunk) else {
@@ -32,9 +32,12 @@ fn read_all<R: Read>(input: &mut R, numbers: &mut [u32]) -> Option<usize> {
         if n == 0 {
             break;
         }
-        read = feed_numbers(read, &chunk[..n], numbers)?;
+        read = match read {
+            Some(here) => feed_numbers(here, &chunk[..n], numbers),
+            None => None,
+        };
     }
-    Some(end_numbers(read, numbers.len())?.count)
+    Some(end_numbers(read?, numbers.len())?.count)
 }
 
 // Reads one input, and writes the text for it.
