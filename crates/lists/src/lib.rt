@@ -1,20 +1,13 @@
 // The words for lists and answers in which the meaning of the product is written, and their laws; and the functions over slices that
-// several crates need: the smaller of two numbers, a test of every number, copying, and the length before a byte.
+// several crates need: a test of every number, copying, and the length before a byte.
 #![tactic(auto)]
 
-ghost use Rattle.std.specs.Prelude.{◌≡◌, not, ℕ, ◌+◌, ◌≤◌, min, eqb, length, get_or, drop};
+ghost use Rattle.std.specs.Prelude.{◌≡◌, not, ℕ, ◌+◌, ◌≤◌, eqb, length, get_or, drop};
 ghost use Rattle.std.proofs.Math.Seq.{paste};
 ghost use Rattle.lists.specs.Lists.{every, all_below, fill, length_before};
 
 // The bytes of a block: two of the vectors that every x86-64 has.
 const BLOCK: usize = 32;
-
-// The smaller of the two.
-pub fn least(a: usize, b: usize) -> usize
-    ensures { (result ≡ min a b) × (result ≤ a) × (result ≤ b) }
-{
-    a.min(b)
-}
 
 // Is every number below the limit? None is passed over after a first no, so that several are compared at a time.
 pub fn all_below(numbers: &[u32], limit: u32) -> bool
@@ -38,14 +31,6 @@ pub fn copy_numbers(to: &mut [u32], at: usize, from: &[u32], first: usize, n: us
     ensures { to.new ≡ fill to.old at n (λ (j : ℕ). get_or from.now (first + j) 0) }
 {
     copy_part(to, at, &from[first..first + n]);
-}
-
-// The first n bytes of `from`, to the places of `to` from `at` on. The caller knows that there are so many in both.
-pub fn copy_bytes(to: &mut [u8], at: usize, from: &[u8], n: usize)
-    requires { (at + n ≤ length to.old) × (n ≤ length from.now) }
-    ensures { to.new ≡ paste to.old at from.now n }
-{
-    copy_part(to, at, &from[..n]);
 }
 
 // How many bytes stand before the first that equals `byte`; all, where there is none.

@@ -8,9 +8,8 @@ ghost use Rattle.std.specs.Prelude.{◌≡◌, length};
 ghost use Rattle.lists.specs.Lists.{in_front};
 ghost use Rattle.stream.specs.Stream.{at_start, at_line, with_bytes, kept_after, next_line, is_left};
 
-use lists::{copy_bytes, length_before_by_blocks};
-
 pub use answers::LineAnswerer;
+use lists::{copy_part, length_before_by_blocks};
 pub use reading::answer_inputs;
 
 // Where an input stands: the number of the line that is being read, from 1; how many of its bytes are held; whether it has ended.
@@ -62,7 +61,7 @@ pub fn hold(kept: &mut [u8], held: usize, bytes: &[u8]) -> usize
 {
     let from = held.min(kept.len());
     let n = bytes.len().min(kept.len() - from);
-    copy_bytes(kept, from, bytes, n);
+    copy_part(kept, from, &bytes[..n]);
     from + n
 }
 
