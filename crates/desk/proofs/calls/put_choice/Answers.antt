@@ -1,12 +1,15 @@
 -- `calls::put_choice` meets its contract.
-use borrow.Author.Tests.{eq-eqb, ne_eqb}
+use borrow.Author.Tests.{ne_eqb}
+use Rattle.settings.specs.Refusals.{number_of}
+use Rattle.settings.proofs.Refused.{number_nonzero}
 use Rattle.desk.specs.Desk.{choose_text}
 use Rattle.desk.proofs.calls.put_choice.Goals as goal
 
-pub returns-then-no-ne0 : goal.returns-then-no-ne0
+pub returns-in-Err : goal.returns-in-Err
 unfolding choose_text
-returns-then-no-ne0 c = rw (← c.choose_no-no.ensures, ne_eqb c.choose_no-no.result 0 c.if-no-ne0.true) c.put_refusal.ensures
+returns-in-Err c =
+    rw (← c.in-Err.ensures, ne_eqb (number_of c.in-Err.no) 0 (number_nonzero c.in-Err.no)) c.put_refusal.ensures
 
 pub returns : goal.returns
 unfolding choose_text
-returns c = rw (← c.choose_no-no.ensures, eq-eqb c.choose_no-no.result 0 c.if-no-ne0.false, ← c.choose.ensures) c.put_part.ensures
+returns c = rw (← c.in_default.ensures, ← c.choose.ensures) c.put_part.ensures

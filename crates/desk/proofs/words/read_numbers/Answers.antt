@@ -4,7 +4,7 @@ use Rattle.std.specs.Option.{option_map}
 use Rattle.syntax.specs.Line.{values_of}
 use Rattle.syntax.proofs.Words.{rest_all}
 use Rattle.desk.specs.Desk.{fields_of}
-use Rattle.desk.proofs.Numbers.{numbers_from, read_some, read_bad, read_more, values-end}
+use Rattle.desk.proofs.Numbers.{read_some, read_bad, read_more, values-end}
 use Rattle.desk.proofs.words.read_numbers.Goals as goal
 
 whole : (o : Option (List ℕ)) → option_map (λ (vs : List ℕ). vs) o ≡ o
