@@ -19,7 +19,7 @@ pub struct ColumnChoice {
 
 impl ColumnChoice {
     // The column at place f.
-    fn place(self, f: usize) -> usize
+    pub fn place(self, f: usize) -> usize
         requires { (f < self.count) × (self.count + self.skip ≤ 4294967296) }
         ensures { (result ≡ column_at self.skip f) × (result < self.count + self.skip) }
     {

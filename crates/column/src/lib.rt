@@ -121,20 +121,16 @@ fn prepare_gates(out: &mut [u32], columns: ChosenColumns, known: Context, rises:
     let shape = known.settings.shape;
     let i = (known.round - 1) as usize;
     let work = columns.work;
-    let count = columns.choice.count;
+    let choice = columns.choice;
     for g in 0..2 * shape.n as usize {
         let x = split_place(shape.kind, g);
         let split = known.splits[x];
         let gate = gate_of(shape, split, g, i);
-        into_columns(
-            out,
-            2 * g,
-            MOST_OPENINGS,
-            count,
-            |f| open_u(column_of(work, columns.at(f).index), gate),
-        );
-        into_columns(out, 2 * g + 1, MOST_OPENINGS, count, |f| {
-            open_v(column_of(work, columns.at(f).index), gate, rises)
+        into_columns(out, 2 * g, MOST_OPENINGS, choice.count, |f| {
+            open_u(column_of(work, choice.place(f)), gate)
+        });
+        into_columns(out, 2 * g + 1, MOST_OPENINGS, choice.count, |f| {
+            open_v(column_of(work, choice.place(f)), gate, rises)
         });
     }
 }
