@@ -1,6 +1,6 @@
 -- The length before a byte.
-use Prim.Native.Nat.{ℕ, suc, ◌+◌, ◌-◌, ◌≤◌, ◌<◌}
-use mathlib.Core.Path.{◌≡◌, refl, sym, ap, ◌∙◌}
+use Prim.Native.Nat.{ℕ, suc, ◌+◌, ◌≤◌, ◌<◌}
+use mathlib.Core.Path.{◌≡◌, refl, sym, ◌∙◌}
 use mathlib.Core.Bool.{Bool, true, false, cond, not, true≢false}
 use Rattle.std.specs.List.{position, position_or_len}
 use Rattle.std.specs.Option.{unwrap_or}
@@ -10,8 +10,8 @@ use native.Mathlib.Nat.{zero-add}
 use native.Mathlib.Omega.{arith}
 use borrow.Author.Tests.{lt-ltb, le-ltb}
 use lib.Dec.{eqb}
-use lib.ListN.{length, take, drop, length-drop, take-append-drop}
-use lib.Seq.{drop-drop, length-take-le, take_all}
+use lib.ListN.{length, drop}
+use lib.Seq.{drop-append_seam, drop-drop}
 use Rattle.lists.specs.Lists.{every, length_before}
 
 -- ---- the length before a byte
@@ -57,14 +57,11 @@ length-behind b (x ∷ xs) ys e = go (eqb x b) refl (length-behind b xs ys)
     go true p ih = absurd (true≢false (sym (rw p at e)))
     go false p ih = rw p (omega (arith, ih (rw p at e)))
 
-pub length_skip : (b : ℕ) (s : List ℕ) (i n t : ℕ) → i + n ≤ length s → every (λ (x : ℕ). not (eqb x b)) (take n (drop i s)) ≡ true
-    → i + length_before b (drop i s) ≡ t → i + n + length_before b (drop (i + n) s) ≡ t
-length_skip b s i n t h e inv =
-    let l : length (take n (drop i s)) ≡ n = length-take-le n (drop i s) (omega (arith, length-drop i s)) in
-    let k : length_before b (drop i s) ≡ length (take n (drop i s)) + length_before b (drop (i + n) s) =
-    rw (← drop-drop n i s) (ap (length_before b) (sym (take-append-drop n (drop i s))) ∙ length-behind b _ _ e) in
-    omega (arith, l, k, inv)
-
-pub length_rest : (b : ℕ) (s : List ℕ) (i n : ℕ) → i + length_before b (drop i s) ≡ length_before b s → n ≡ length_before b (take (length s - i) (drop i s))
-    → i + n ≡ length_before b s
-length_rest b s i n e l = rw (l, take_all (length s - i) (drop i s) (omega (arith, length-drop i s))) e
+-- a block of other bytes is passed, of what is left behind `passed` bytes
+pub block_passed : (b : ℕ) (s block rest : List ℕ) (passed n t : ℕ) → passed ≤ length s → drop passed s ≡ block ++ rest → length block ≡ n
+    → every (λ (x : ℕ). not (eqb x b)) block ≡ true → passed + length_before b (drop passed s) ≡ t
+    → (rest ≡ drop (passed + n) s) × ((passed + n) + length_before b (drop (passed + n) s) ≡ t)
+block_passed b s block rest passed n t h e l k inv =
+    let r : rest ≡ drop (passed + n) s = sym (drop-append_seam block rest) ∙ rw (l, ← e) (drop-drop n passed s) in
+    let j : length_before b (drop passed s) ≡ length block + length_before b rest = rw e (length-behind b block rest k) in
+    (r, rw (← r) (omega (arith, j, l, inv)))

@@ -47,25 +47,16 @@ fn lacks(block: &[u8], byte: u8) -> bool
     !block.iter().fold(false, |found, x| found | (*x == byte))
 }
 
-// How many bytes stand in whole blocks before the first block with `byte` in it.
-fn blocks_before(bytes: &[u8], byte: u8) -> usize
-    ensures { (result + length_before byte (drop result bytes.now) ≡ length_before byte bytes.now) × (result ≤ length bytes.now) }
-{
-    let mut at = 0;
-    while bytes.len() - at >= BLOCK {
-        let end = at + BLOCK;
-        if !lacks(&bytes[at..end], byte) {
-            return at;
-        }
-        at = end;
-    }
-    at
-}
-
 // The same as `length_before`: faster where the byte is some blocks off, and slower where it is near.
 pub fn length_before_by_blocks(bytes: &[u8], byte: u8) -> usize
     ensures { (result ≡ length_before byte bytes.now) × (result ≤ length bytes.now) }
 {
-    let at = blocks_before(bytes, byte);
-    at + length_before(&bytes[at..], byte)
+    let mut passed = 0;
+    for block in bytes.chunks_exact(BLOCK) {
+        if !lacks(block, byte) {
+            break;
+        }
+        passed += BLOCK;
+    }
+    passed + length_before(&bytes[passed..], byte)
 }
