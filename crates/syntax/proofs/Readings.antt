@@ -1,5 +1,5 @@
 -- Words taken one by one give the request of all of them.
-use Prim.Native.Nat.{ℕ, suc, ◌+◌, ◌-◌, ◌≤◌, ◌<◌}
+use Prim.Native.Nat.{ℕ, suc, ◌+◌, ◌-◌, ◌≤◌}
 use mathlib.Core.Path.{◌≡◌, refl, sym, ap, ◌∙◌}
 use mathlib.Core.Bool.{Bool, true, false, cond}
 use mathlib.Core.List.{List, [], ◌∷◌, ◌++◌, append-nil, append_assoc}
@@ -9,16 +9,15 @@ use native.Mathlib.Numerals.{add-one}
 use native.Mathlib.Omega.{arith}
 use lib.Dec.{ltb}
 use borrow.Author.Tests.{le-ltb}
-use lib.ListN.{length, get_or, set, take, drop, length-append, length-drop}
-use lib.Seq.{get_or-drop, take_all}
-use Rattle.lists.specs.Lists.{list_from, length_before}
+use lib.ListN.{length, get_or, set, drop, length-append}
+use lib.Seq.{get_or-drop}
+use Rattle.lists.specs.Lists.{list_from}
 use Rattle.syntax.specs.Rows.{row}
 use Rattle.syntax.specs.Line.{field_at, fields_from, values_of, order_of, requested, words, line_of}
 use Rattle.syntax.specs.Reading.{start_words, with_word, with_words, finish}
 use Rattle.syntax.specs.declared.Request.{Request}
 use Rattle.syntax.specs.declared.WordsRead.{WordsRead}
 use Rattle.syntax.proofs.Rows.{set-row, get_d_row, row_cong}
-use Rattle.syntax.proofs.Words.{rest, rest_more, rest_end}
 
 abbrev pub reading : ℕ → List ℕ → WordsRead
 reading n vs = record { count = n; values = vs }
@@ -104,32 +103,17 @@ pub line_read : (line : List ℕ) → length line ≤ 1024 → option_and_then f
 unfolding line_of
 line_read line h = rw (le-ltb 1024 (length line) h) (read_all (words line))
 
--- ---- the loop over words
+-- ---- the loop over words: behind `count` words with these values, w is the next
 
-next_word : (s : WordsRead) (t : Option WordsRead) (line : List ℕ) (i n : ℕ) → i ≤ length line → n ≡ length_before 32 (take (length line - i) (drop i line))
-    → with_words s (rest line i) ≡ t → option_and_then (λ (r : WordsRead). with_words r (rest line (i + n + 1))) (with_word s (take (i + n - i) (drop i line))) ≡ t
+module _ (values : List ℕ) (count : ℕ) (w : List ℕ) (ws : List (List ℕ)) (t : Option WordsRead) (e : with_words (reading count values) (w ∷ ws) ≡ t) where
+  pub words_more : (v : ℕ) (placed : List ℕ) → Some v ≡ field_at count w → placed ≡ set values count v → with_words (reading (count + 1) placed) ws ≡ t
+  unfolding with_words with_word
+  words_more v placed p q = rw q (rw (← p) at e)
+
+  pub words_stop : None ≡ field_at count w → None ≡ t
+  unfolding with_words with_word
+  words_stop p = rw (← p) at e
+
+pub words-done : (s : WordsRead) (t : Option WordsRead) → with_words s [] ≡ t → Some s ≡ t
 unfolding with_words
-next_word s t line i n h l e =
-    let k : i + n + 1 ≡ i + suc n = omega arith in
-    let m : i + n - i ≡ n = omega arith in
-    let f : n ≡ length_before 32 (drop i line) = l ∙ ap (length_before 32) (take_all (length line - i) (drop i line) (omega (arith, length-drop i line))) in
-    rw (k, m) (rw (rest_more line i n h f) at e)
-
--- from byte i on, behind `count` words with these values: the next word, of n bytes
-module _ (line values : List ℕ) (count i n : ℕ) (t : Option WordsRead) (h : i ≤ length line)
-    (l : n ≡ length_before 32 (take (length line - i) (drop i line))) (e : with_words (reading count values) (rest line i) ≡ t) where
-  abbrev word : List ℕ
-  word = take (i + n - i) (drop i line)
-
-  pub words_more : (v : ℕ) (placed : List ℕ) → Some v ≡ field_at count word → placed ≡ set values count v
-      → with_words (reading (count + 1) placed) (rest line (i + n + 1)) ≡ t
-  unfolding with_word
-  words_more v placed p q = rw q (rw (← p) at (next_word (reading count values) t line i n h l e))
-
-  pub words_stop : None ≡ field_at count word → None ≡ t
-  unfolding with_word
-  words_stop p = rw (← p) at (next_word (reading count values) t line i n h l e)
-
-pub words-done : (s : WordsRead) (t : Option WordsRead) (line : List ℕ) (i : ℕ) → length line < i → with_words s (rest line i) ≡ t → Some s ≡ t
-unfolding with_words
-words-done s t line i h e = rw (rest_end line i h) at e
+words-done s t e = e

@@ -7,7 +7,6 @@ ghost use Rattle.syntax.specs.Line.{kind_in, set_in, field_at, words, requested,
 ghost use Rattle.syntax.specs.Reading.{start_words, with_words, finish};
 ghost use Rattle.syntax.specs.Answer.{refusal_text, answer_part, answer_text};
 
-use lists::length_before;
 use text::{TextBuffer, number_in};
 
 // The most bytes of an input line, without its line end.
@@ -84,13 +83,10 @@ fn read_words(line: &[u8]) -> Option<WordsRead>
 {
     let mut values = [0u32; 11];
     let mut count = 0;
-    let mut at = 0;
-    while at <= line.len() {
-        let end = at + length_before(&line[at..], b' ');
-        let value = field_at(count, &line[at..end])?;
+    for word in line.split(|byte| *byte == b' ') {
+        let value = field_at(count, word)?;
         place(&mut values, count, value);
         count += 1;
-        at = end + 1;
     }
     Some(WordsRead { count, values })
 }

@@ -1,16 +1,15 @@
 -- `syntax::read_words` meets its contract.
+use Rattle.std.proofs.Common.{◌≡◌, ◌+◌, length}
 use Rattle.syntax.specs.Line.{words}
 use Rattle.syntax.specs.Reading.{with_words, start_words}
-use Rattle.syntax.proofs.Words.{rest}
+use Rattle.syntax.proofs.Words.{left_by}
 use Rattle.syntax.proofs.Readings.{reading}
-use Prim.Native.Nat.{◌≤◌, ◌-◌, ◌+◌}
-use mathlib.Core.Path.{◌≡◌}
-use lib.ListN.{length}
 use Rattle.syntax.proofs.read_words.Given as goal
 
-abbrev pub invariant-loop-at : goal.invariant-loop-at
-invariant-loop-at l =
-    (l.at ≤ length l.line + 1) × (l.count ≤ l.at) × (length l.values ≡ 11) × (with_words (reading l.count l.values) (rest l.line l.at) ≡ with_words start_words (words l.line))
-
-abbrev pub decreases-loop-at : goal.decreases-loop-at
-decreases-loop-at l = length l.line + 1 - l.at
+abbrev pub invariant-loop-word : goal.invariant-loop-word
+invariant-loop-word l =
+    record {
+      places : length l.values ≡ 11;
+      room : l.count + length (left_by l.word-iterator) ≡ length (words l.line);
+      read : with_words (reading l.count l.values) (left_by l.word-iterator) ≡ with_words start_words (words l.line);
+    }
