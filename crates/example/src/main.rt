@@ -109,9 +109,8 @@ fn next_book<'a>(
     second: &'a [u32],
     last_serial: u32,
 ) -> &'a [u32] {
-    let no = choose_no(shape, first, second, last_serial);
-    if no != 0 {
-        let _ = eprintln!(rt; "choose: {no}");
+    if let Err(no) = choose_no(shape, first, second, last_serial) {
+        let _ = eprintln!(rt; "choose: {}", no.number());
     }
     choose(shape, first, second, last_serial)
 }

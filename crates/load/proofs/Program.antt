@@ -3,17 +3,11 @@ use mathlib.Core.Path.{ap, ◌∙◌}
 use mathlib.Core.List.{List, ◌++◌}
 use Prim.Native.Nat.{ℕ}
 use native.Mathlib.Omega.{arith}
-use Rattle.generator.specs.declared.Seeded.{Seeded}
 use Rattle.stream.specs.Input.{output_of}
 use Rattle.stream.specs.Theorems.{concatenated}
 use Rattle.lines.specs.Plain.{line_answer}
 use Rattle.line_input.proofs.Program.{answers_each_line, has_last_line}
 use Rattle.load.specs.Theorems.{load_seed, WritesAnswersAndState}
-
--- the state of a generator that was made
-abbrev pub state_of : Seeded → ℕ
-state_of (Seeded.Ready generator) = generator.state
-state_of (Seeded.No n) = 0
 
 pub writes_answers_and_state : WritesAnswersAndState
 writes_answers_and_state kept l parts few =

@@ -5,7 +5,7 @@
 ghost use Rattle.std.specs.Prelude.{◌≡◌};
 ghost use Rattle.load.specs.Theorems.{load_seed};
 
-use generator::{Seeded, make_generator};
+use generator::make_generator;
 use line_input::answer_inputs;
 use std::io;
 
@@ -15,10 +15,7 @@ const SEED: u32 = 1;
 fn first_state() -> u32
     ensures { result ≡ load_seed }
 {
-    let Seeded::Ready(generator) = make_generator(SEED) else {
-        return 0;
-    };
-    generator.state
+    make_generator(SEED).unwrap().state
 }
 
 fn main(rt: HostRuntime) -> io::Result<()> {

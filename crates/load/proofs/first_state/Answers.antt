@@ -1,13 +1,10 @@
 -- `first_state` meets its contract: no seed but 0 is refused.
-use Rattle.std.proofs.Common.{ap}
-use Rattle.generator.specs.Calls.{seed_call}
-use Rattle.load.proofs.Program.{state_of}
+use Rattle.std.proofs.Common.{lit<}
+use Rattle.generator.proofs.Door.{made}
 use Rattle.load.proofs.first_state.Goals as goal
 
-pub returns-in_default : goal.returns-in_default
-unfolding seed_call
-returns-in_default c = ap state_of c.in_default.ensures
+pub unwrap-requires : goal.unwrap-requires
+unwrap-requires c = rw (made _ (lit< tt) _ c.make_generator.ensures)
 
 pub returns : goal.returns
-unfolding seed_call
-returns c = ap state_of c.in-Ready.ensures
+returns c = let m = made _ (lit< tt) _ c.make_generator.ensures in cc
