@@ -1,4 +1,4 @@
--- The parts of a result put one behind another.
+-- The numbers of a part.
 use Prim.Native.Nat.{ℕ, ◌<◌}
 use mathlib.Core.Path.{◌≡◌, refl}
 use mathlib.Core.List.{List, [], ◌∷◌, ◌++◌}
@@ -6,10 +6,7 @@ use native.Mathlib.Omega.{arith}
 use lib.ListN.{length, get_or, drop}
 use Rattle.text.specs.Text.{decimal, numbers_text}
 use Rattle.desk.specs.Desk.{part_text}
--- one part behind another
-pub use Rattle.text.proofs.Puts.{put_then}
 
--- the numbers of a part
 pub part_none : (part : List ℕ) → length part ≡ 0 → part_text part ≡ []
 unfolding part_text
 part_none [] e = refl

@@ -10,7 +10,8 @@ use mir.Syntax.{w32}
 use mir.Val.{SFits, to_z, of_z}
 use mir.Facts.{to_z-of_z}
 use borrow.Author.Tests.{ltb-true}
-use Rattle.text.specs.Text.{Text, puts, decimal}
+use Rattle.text.specs.declared.TextBuffer.{TextBuffer}
+use Rattle.text.specs.Text.{text_of, puts, Puts, decimal}
 use Rattle.desk.specs.Desk.{signed_text}
 
 -- as the machine reads it back from its bits
@@ -19,8 +20,8 @@ module _ (z : ℤ) (f : SFits w32 z) where
   read = to_z-of_z f
 
   -- its text, put as the machine reads it back
-  pub put_read : (s t : Text) → t ≡ puts s (signed_text (to_z w32 (of_z w32 z))) → t ≡ puts s (signed_text z)
-  put_read s t e = e ∙ ap (λ (y : ℤ). puts s (signed_text y)) read
+  pub put_read : {s t : TextBuffer} → Puts s t (signed_text (to_z w32 (of_z w32 z))) → Puts s t (signed_text z)
+  put_read {s = s} e = record { same_slice = e.same_slice; text = e.text ∙ ap (λ (y : ℤ). puts (text_of s) (signed_text y)) read }
 
   pub text_below : lt_z (to_z w32 (of_z w32 z)) (pos 0) ≡ true → signed_text z ≡ 45 ∷ decimal (nat_abs z)
   unfolding signed_text

@@ -23,6 +23,7 @@ ghost use Rattle.std.proofs.Common.{rules};
 use line::{LONGEST_ANSWER, answer_line};
 use std::io;
 use stream::{LineAnswerer, answer_inputs};
+use text::TextBuffer;
 
 // One byte more than a line may have, so that one that is too long is seen to be.
 const KEPT: usize = 1048577;
@@ -62,13 +63,11 @@ impl LineAnswerer<KEPT, OUT> for Desk {
 
     fn start(&mut self, _from: ()) {}
 
-    fn answer_line(&mut self, out: &mut [u8], at: usize, _number: u64, line: &[u8]) -> usize {
-        answer_line(out, at, line, &mut self.numbers)
+    fn answer_line(&mut self, text: &mut TextBuffer, _number: u64, line: &[u8]) {
+        answer_line(text, line, &mut self.numbers);
     }
 
-    fn put_last_line(&self, _out: &mut [u8], at: usize) -> usize {
-        at
-    }
+    fn put_last_line(&self, _text: &mut TextBuffer) {}
 }
 
 fn new_desk() -> Desk {

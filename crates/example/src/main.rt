@@ -8,7 +8,7 @@ use side::{Run, begin, send, take};
 use state::{Side, answer, fresh};
 use std::io;
 use stock::{choose, choose_no};
-use text::{put_byte, put_bytes, put_numbers};
+use text::TextBuffer;
 
 // Set 0, HIGH, N = 8: what book_size, draw_size and input_size of crate settings give.
 const SHAPE: Shape = Shape {
@@ -78,9 +78,11 @@ fn show_answer(rt: &impl Print, side: Side) -> io::Result<()> {
     let mut numbers = [0u32; 8];
     let length = answer(side, &mut numbers).unwrap_or(0).min(numbers.len());
     let mut out = [0u8; SHOWN];
-    let word = put_bytes(&mut out, 0, b"answer");
-    let put = put_numbers(&mut out, word, &numbers[..length]);
-    let end = put_byte(&mut out, put, b'\n').min(out.len());
+    let mut text = TextBuffer::new(&mut out, 0);
+    text.put_bytes(b"answer");
+    text.put_numbers(&numbers[..length]);
+    text.put_byte(b'\n');
+    let end = text.at().min(SHOWN);
     rt.write_all(&out[..end])
 }
 

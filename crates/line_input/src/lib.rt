@@ -14,7 +14,7 @@ use lines::LineRunner;
 use std::io;
 use std::rt::{Env, Files};
 use stream::LineAnswerer;
-use text::{put_byte, put_number};
+use text::TextBuffer;
 
 // One byte more than a line may have, so that one that is too long is seen to be.
 const KEPT: usize = 1025;
@@ -53,17 +53,17 @@ impl LineAnswerer<KEPT, OUT> for LineInput {
         self.runner.state = from;
     }
 
-    fn answer_line(&mut self, out: &mut [u8], at: usize, number: u64, line: &[u8]) -> usize {
-        self.runner.answer_line(out, at, number, line)
+    fn answer_line(&mut self, text: &mut TextBuffer, number: u64, line: &[u8]) {
+        self.runner.answer_line(text, number, line);
     }
 
     // The generator's state in decimal. State 0 is no generator's: nothing is put.
-    fn put_last_line(&self, out: &mut [u8], at: usize) -> usize {
+    fn put_last_line(&self, text: &mut TextBuffer) {
         if self.runner.state == 0 {
-            return at;
+            return;
         }
-        let end = put_number(out, at, self.runner.state as u64);
-        put_byte(out, end, b'\n')
+        text.put_number(self.runner.state as u64);
+        text.put_byte(b'\n');
     }
 }
 

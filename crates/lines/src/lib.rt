@@ -8,7 +8,7 @@ ghost use Rattle.settings.specs.Questions.{shape_ok};
 ghost use Rattle.settings.specs.Refusals.{refused};
 ghost use Rattle.settings.specs.Sizes.{width, draw_length};
 ghost use Rattle.generator.specs.Step.{stepped, outputs};
-ghost use Rattle.text.specs.Text.{text_at, puts};
+ghost use Rattle.text.specs.Text.{Puts};
 ghost use Rattle.lines.specs.Plain.{settings_of, request_no, result_for, result_answer, line_result, line_answer, drawn_for, line_state};
 ghost use Rattle.lines.specs.Run.{terms_for, in_columns, count_for, numbers_for, numbers_in, answered_by, most_numbers};
 
@@ -18,7 +18,7 @@ use generator::{Generator, draw};
 use settings::{KEYS, Refusal, Settings, Shape, WIDTH, ask_settings, draw_length};
 use state::{Side, answer};
 use syntax::{Request, put_answer, read_line};
-use text::TOO_LARGE;
+use text::{TOO_LARGE, TextBuffer};
 
 // The most places of an answer.
 const ANSWER_PLACES: usize = 8;
@@ -190,16 +190,16 @@ fn run_request(
 // ---- The whole line
 
 // The output line of a line that gives this.
-fn put_result(out: &mut [u8], at: usize, number: u64, res: Result<LineAnswer, Refusal>) -> usize
-    ensures result_after { text_at out.new result ≡ puts (text_at out.old at) (result_answer number (numbers_in res)) }
+fn put_result(text: &mut TextBuffer, number: u64, res: Result<LineAnswer, Refusal>)
+    ensures text_after { Puts text.old text.new (result_answer number (numbers_in res)) }
     ensures res_len_bound { length (result_answer number (numbers_in res)) ≤ 112 }
 {
     match res {
         Ok(answer) => {
             let count = answer.length.min(ANSWER_PLACES);
-            put_answer(out, at, number, 0, &answer.numbers[..count])
+            put_answer(text, number, 0, &answer.numbers[..count]);
         }
-        Err(refusal) => put_answer(out, at, number, refusal.number(), &[]),
+        Err(refusal) => put_answer(text, number, refusal.number(), &[]),
     }
 }
 
@@ -247,13 +247,13 @@ impl LineRunner {
         )
     }
 
-    // The output line for an input line without its line end, put at a place of `out`: the place behind it.
-    pub fn answer_line(&mut self, out: &mut [u8], at: usize, number: u64, line: &[u8]) -> usize
-        ensures at_after { text_at out.new result ≡ puts (text_at out.old at) (line_answer number line.now) }
+    // Puts the output line for an input line without its line end.
+    pub fn answer_line(&mut self, text: &mut TextBuffer, number: u64, line: &[u8])
+        ensures text_after { Puts text.old text.new (line_answer number line.now) }
         ensures line_len_bound { length (line_answer number line.now) ≤ 112 }
         ensures state_value { self.new.state ≡ line_state number line.now self.old.state }
     {
         let result = self.line_result(number, line);
-        put_result(out, at, number, result)
+        put_result(text, number, result);
     }
 }

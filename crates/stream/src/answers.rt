@@ -3,9 +3,10 @@ ghost use Rattle.std.specs.Prelude.{◌≡◌, ℕ, List, [], ◌+◌, ◌≤◌
 ghost use Rattle.stream.specs.Stream.{next_line};
 ghost use Rattle.stream.specs.Theorems.{Handler, LooksAt, after_call, after_end};
 ghost use Rattle.stream.specs.Waiting.{standing, all_calls, closed_by};
-ghost use Rattle.text.specs.Text.{text_at, puts};
+ghost use Rattle.text.specs.Text.{text_at, puts, Puts};
 
 use crate::{Stream, is_left, next_line};
+use text::TextBuffer;
 
 // What a program does with the lines of an input, by the first KEPT bytes of each at most; answers wait in OUT bytes.
 pub trait LineAnswerer<const KEPT: usize, const OUT: usize> {
@@ -32,15 +33,15 @@ pub trait LineAnswerer<const KEPT: usize, const OUT: usize> {
     fn start(&mut self, from: Self::Carried)
         ensures { carried self.new ≡ from };
 
-    // Puts the output line for a line without its line end at a place of `out`: the place behind it.
-    fn answer_line(&mut self, out: &mut [u8], at: usize, number: u64, line: &[u8]) -> usize
-        ensures result_after { text_at out.new result ≡ puts (text_at out.old at) (handler.answer number line.now) }
+    // Puts the output line for a line without its line end.
+    fn answer_line(&mut self, text: &mut TextBuffer, number: u64, line: &[u8])
+        ensures text_after { Puts text.old text.new (handler.answer number line.now) }
         ensures answer_len_bound { length (handler.answer number line.now) ≤ LONGEST_ANSWER }
         ensures carried_after { carried self.new ≡ handler.carry number line.now (carried self.old) };
 
     // Behind the last output line: what tells that which is carried at the end of an input.
-    fn put_last_line(&self, out: &mut [u8], at: usize) -> usize
-        ensures result_after { text_at out.new result ≡ puts (text_at out.old at) (last_line (carried self.now)) }
+    fn put_last_line(&self, text: &mut TextBuffer)
+        ensures text_after { Puts text.old text.new (last_line (carried self.now)) }
         ensures last_len_bound { length (last_line (carried self.now)) ≤ LONGEST_LAST };
 
     ghost looks_at: { LooksAt Self.Carried KEPT handler };
@@ -54,6 +55,37 @@ pub struct Answered {
     pub used: usize,
     pub stream: Stream,
     pub waiting: usize,
+}
+
+// The output line for a line, put at a place of `out`: the place behind it.
+fn answer_at<const KEPT: usize, const OUT: usize, A: LineAnswerer<KEPT, OUT>>(
+    answerer: &mut A,
+    out: &mut [u8],
+    at: usize,
+    number: u64,
+    line: &[u8],
+) -> usize
+    ensures result_after { text_at out.new result ≡ puts (text_at out.old at) (A.handler.answer number line.now) }
+    ensures answer_len_bound { length (A.handler.answer number line.now) ≤ A.LONGEST_ANSWER }
+    ensures carried_after { A.carried answerer.new ≡ A.handler.carry number line.now (A.carried answerer.old) }
+{
+    let mut text = TextBuffer::new(out, at);
+    answerer.answer_line(&mut text, number, line);
+    text.at()
+}
+
+// What stands behind the answers, put at a place of `out`: the place behind it.
+fn last_line_at<const KEPT: usize, const OUT: usize, A: LineAnswerer<KEPT, OUT>>(
+    answerer: &A,
+    out: &mut [u8],
+    at: usize,
+) -> usize
+    ensures result_after { text_at out.new result ≡ puts (text_at out.old at) (A.last_line (A.carried answerer.now)) }
+    ensures last_len_bound { length (A.last_line (A.carried answerer.now)) ≤ A.LONGEST_LAST }
+{
+    let mut text = TextBuffer::new(out, at);
+    answerer.put_last_line(&mut text);
+    text.at()
 }
 
 // One call of next_line. A line that has ended is answered behind the bytes that wait.
@@ -80,7 +112,13 @@ fn answer_call<const KEPT: usize, const OUT: usize, A: LineAnswerer<KEPT, OUT>>(
             waiting,
         };
     }
-    let end = answerer.answer_line(out, waiting, here.number, &kept[..here.held]);
+    let end = answer_at(
+        answerer,
+        out,
+        waiting,
+        here.number,
+        &kept[..here.held],
+    );
     Answered {
         used: step.used,
         stream: here,
@@ -135,7 +173,7 @@ fn answer_left<const KEPT: usize, const OUT: usize, A: LineAnswerer<KEPT, OUT>>(
         return 0;
     }
     let n = stream.held.min(kept.len());
-    answerer.answer_line(out, 0, stream.number, &kept[..n])
+    answer_at(answerer, out, 0, stream.number, &kept[..n])
 }
 
 // When the input has ended: the answer to its last line, if that lacks its line end; and what stands behind the answers. How many bytes
@@ -150,5 +188,5 @@ pub fn put_last<const KEPT: usize, const OUT: usize, A: LineAnswerer<KEPT, OUT>>
     ensures upper_bound { result ≤ OUT }
 {
     let end = answer_left(answerer, stream, kept, out);
-    answerer.put_last_line(out, end)
+    last_line_at(answerer, out, end)
 }

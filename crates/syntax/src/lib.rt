@@ -2,7 +2,7 @@
 #![tactic(auto)]
 
 ghost use Rattle.std.specs.Prelude.{◌≡◌, ◌≤◌, length, set, IfSome};
-ghost use Rattle.text.specs.Text.{text_at, puts, Puts};
+ghost use Rattle.text.specs.Text.{Puts};
 ghost use Rattle.syntax.specs.Line.{kind_in, set_in, field_at, words, requested, line_of};
 ghost use Rattle.syntax.specs.Reading.{start_words, with_words, finish};
 ghost use Rattle.syntax.specs.Answer.{refusal_text, answer_part, answer_text};
@@ -153,19 +153,10 @@ fn put_result(text: &mut TextBuffer, refused: u32, numbers: &[u32])
 }
 
 // The output line for a line number. It is cut where there is no room for all of it.
-pub fn put_answer_line(text: &mut TextBuffer, number: u64, refused: u32, numbers: &[u32])
+pub fn put_answer(text: &mut TextBuffer, number: u64, refused: u32, numbers: &[u32])
     ensures { Puts text.old text.new (answer_text number refused numbers.now) }
 {
     text.put_number(number);
     put_result(text, refused, numbers);
     text.put_byte(b'\n');
-}
-
-// The same from a place of a slice on: the place behind the line. It goes when no crate calls it.
-pub fn put_answer(out: &mut [u8], at: usize, number: u64, refused: u32, numbers: &[u32]) -> usize
-    ensures { text_at out.new result ≡ puts (text_at out.old at) (answer_text number refused numbers.now) }
-{
-    let mut text = TextBuffer::new(out, at);
-    put_answer_line(&mut text, number, refused, numbers);
-    text.at()
 }

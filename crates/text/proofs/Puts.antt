@@ -28,10 +28,6 @@ pub puts_then : {s a b : TextBuffer} (xs ys : List ℕ) → Puts s a xs → Puts
 puts_then {s = s} xs ys p q =
     record { same_slice = q.same_slice ∙ p.same_slice; text = q.text ∙ ap (λ (t : Text). puts t ys) p.text ∙ puts_append (text_of s) xs ys }
 
--- the same of a slice and a place, until no crate above needs it
-pub put_then : {a b : Text} (s : Text) (xs ys : List ℕ) → a ≡ puts s xs → b ≡ puts a ys → b ≡ puts s (xs ++ ys)
-put_then s xs ys p q = q ∙ ap (λ (t : Text). puts t ys) p ∙ puts_append s xs ys
-
 -- ---- room
 
 put-length : (t : Text) (b : ℕ) → length (put t b).bytes ≡ length t.bytes

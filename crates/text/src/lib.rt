@@ -6,7 +6,7 @@ ghost use Rattle.std.specs.Prelude.{◌≡◌, [], ◌∷◌, ◌<◌, length};
 ghost use Rattle.std.specs.Option.{option_map_or};
 ghost use Rattle.text.specs.Decimal.{no_digits, with_digit, number_read, number_in};
 ghost use Rattle.text.specs.Numbers.{start_numbers, with_number_digit, numbers_ended, after_byte, after_bytes, stored, kept, kept_over};
-ghost use Rattle.text.specs.Text.{text_at, text_of, puts, Puts, last_digit, decimal_in, decimal, numbers_text, hex_digit, hex_byte, hex_bytes};
+ghost use Rattle.text.specs.Text.{text_at, text_of, Puts, last_digit, decimal_in, decimal, numbers_text, hex_digit, hex_byte, hex_bytes};
 
 // ---- A number in a word
 
@@ -281,51 +281,4 @@ fn hex_digit(digit: u8) -> u8
         return b'0' + digit;
     }
     b'a' - 10 + digit
-}
-
-// ---- The same from a place of a slice on: the place behind what is put. They go when no crate calls them.
-
-// One byte.
-pub fn put_byte(out: &mut [u8], at: usize, byte: u8) -> usize
-    ensures { text_at out.new result ≡ puts (text_at out.old at) (byte ∷ []) }
-{
-    let mut text = TextBuffer::new(out, at);
-    text.put_byte(byte);
-    text.at()
-}
-
-// Some bytes.
-pub fn put_bytes(out: &mut [u8], at: usize, bytes: &[u8]) -> usize
-    ensures { text_at out.new result ≡ puts (text_at out.old at) bytes.now }
-{
-    let mut text = TextBuffer::new(out, at);
-    text.put_bytes(bytes);
-    text.at()
-}
-
-// A number in decimal.
-pub fn put_number(out: &mut [u8], at: usize, number: u64) -> usize
-    ensures { text_at out.new result ≡ puts (text_at out.old at) (decimal number) }
-{
-    let mut text = TextBuffer::new(out, at);
-    text.put_number(number);
-    text.at()
-}
-
-// Numbers in decimal, a blank before each.
-pub fn put_numbers(out: &mut [u8], at: usize, numbers: &[u32]) -> usize
-    ensures { text_at out.new result ≡ puts (text_at out.old at) (numbers_text numbers.now) }
-{
-    let mut text = TextBuffer::new(out, at);
-    text.put_numbers(numbers);
-    text.at()
-}
-
-// Bytes in hexadecimal.
-pub fn put_hex(out: &mut [u8], at: usize, bytes: &[u8]) -> usize
-    ensures { text_at out.new result ≡ puts (text_at out.old at) (hex_bytes bytes.now) }
-{
-    let mut text = TextBuffer::new(out, at);
-    text.put_hex(bytes);
-    text.at()
 }

@@ -12,16 +12,15 @@ use Rattle.lists.specs.Lists.{fill}
 use Rattle.lists.proofs.Fill.{whole_is}
 use Rattle.lists.proofs.Lists.{list_to_cong, list_to_get_d}
 use Rattle.lists.proofs.Lists.{take_min}
-use Rattle.text.specs.Text.{Text, puts}
-use Rattle.text.proofs.Puts.{puts_append}
+use Rattle.text.specs.declared.TextBuffer.{TextBuffer}
+use Rattle.text.specs.Text.{Text, puts, Puts}
+use Rattle.text.proofs.Puts.{puts_append, puts_then}
 use Rattle.settings.specs.declared.Shape.{Shape}
 use Rattle.settings.specs.Schedule.{rounds}
 use Rattle.state.specs.declared.Side.{Side}
 use Rattle.state.specs.State.{AfterAnswer}
 use Rattle.execution.specs.declared.Party.TheVariants.{Server, Phone}
 use Rattle.transcript.specs.Transcript.{round_of, size_of, message_line, message_lines, answer_left, answer_or_refusal, answers_text}
--- one part behind another
-pub use Rattle.text.proofs.Puts.{put_then}
 
 -- ---- A list as far as there are so many members
 
@@ -83,7 +82,7 @@ lines_end a s t messages i from h e = let z : 2 * rounds - i ≡ 0 = omega arith
 
 -- ---- Answers
 
-module _ (server phone : Side) (a₀ : AfterAnswer) (e₀ : a₀ ≡ answer_left server) (s x : Text) (p : x ≡ puts s (answer_or_refusal Server a₀)) where
-  pub answer_both : (a₁ : AfterAnswer) → a₁ ≡ answer_left phone → (y : Text) → y ≡ puts x (answer_or_refusal Phone a₁) → y ≡ puts s (answers_text server phone)
+module _ (server phone : Side) (a₀ : AfterAnswer) (e₀ : a₀ ≡ answer_left server) {s x : TextBuffer} (p : Puts s x (answer_or_refusal Server a₀)) where
+  pub answer_both : (a₁ : AfterAnswer) → a₁ ≡ answer_left phone → {y : TextBuffer} → Puts x y (answer_or_refusal Phone a₁) → Puts s y (answers_text server phone)
   unfolding answers_text
-  answer_both a₁ e₁ y q = rw (← e₀, ← e₁) (put_then s _ _ p q)
+  answer_both a₁ e₁ q = rw (← e₀, ← e₁) (puts_then _ _ p q)

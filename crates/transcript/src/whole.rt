@@ -1,7 +1,7 @@
 // The whole text for an input: its terms, the run, and all lines of the transcript.
 ghost use Rattle.std.specs.Prelude.{◌≡◌, ◌+◌, ◌≤◌, length, take, drop};
 ghost use Rattle.settings.specs.Sizes.{key_count};
-ghost use Rattle.text.specs.Text.{text_at, puts};
+ghost use Rattle.text.specs.Text.{Puts};
 ghost use Rattle.execution.specs.Execution.{told};
 ghost use Rattle.transcript.specs.Transcript.{head_length, run_terms_in, result_text, run_text, transcript_of, text_for, out_length};
 
@@ -11,6 +11,7 @@ use execution::{
 };
 use settings::{KEYS, Settings, Shape, WIDTH};
 use state::Side;
+use text::TextBuffer;
 
 // Where the server's keys stand in an input, and the phone's; and how many numbers stand before the inputs and the draw, or the books.
 const KEYS0: usize = 5;
@@ -64,55 +65,65 @@ fn run_terms_in(numbers: &[u32]) -> RunTerms
 
 // Both answers, or the refusal of a call before them.
 #[tactic(auto, unfolding(crate::specs::Transcript::result_text))]
-fn put_end(
-    out: &mut [u8],
-    at: usize,
-    refused: Option<RefusedCall>,
-    server: Side,
-    phone: Side,
-) -> usize
-    ensures { text_at out.new result ≡ puts (text_at out.old at) (result_text (told refused) server phone) }
+fn put_end(text: &mut TextBuffer, refused: Option<RefusedCall>, server: Side, phone: Side)
+    ensures { Puts text.old text.new (result_text (told refused) server phone) }
 {
     match refused {
-        Some(call) => put_refusal_line(out, at, call),
-        None => put_answers(out, at, server, phone),
+        Some(call) => put_refusal_line(text, call),
+        None => put_answers(text, server, phone),
     }
 }
 
 // A run with its messages.
-fn put_run(out: &mut [u8], shape: Shape, x: Execution, messages: &[u8]) -> usize
-    ensures { text_at out.new result ≡ puts (text_at out.old 0) (run_text shape (told x.refused) x.server.side x.phone.side messages.now) }
+fn put_run(text: &mut TextBuffer, shape: Shape, x: Execution, messages: &[u8])
+    ensures { Puts text.old text.new (run_text shape (told x.refused) x.server.side x.phone.side messages.now) }
 {
     let server = x.server.side;
     let phone = x.phone.side;
-    let sent = put_messages(out, 0, shape, messages);
-    let result = put_end(out, sent, x.refused, server, phone);
-    let counted = put_openings(out, result, Party::Server, server);
-    put_openings(out, counted, Party::Phone, phone)
+    put_messages(text, shape, messages);
+    put_end(text, x.refused, server, phone);
+    put_openings(text, Party::Server, server);
+    put_openings(text, Party::Phone, phone);
 }
 
-// The transcript of an input's numbers, in front of `out`: how many bytes it has. The caller lends OUT_LENGTH bytes.
-fn transcript(numbers: &[u32], out: &mut [u8]) -> usize
-    requires { out_length ≤ length out.old }
-    ensures { (take result out.new ≡ transcript_of numbers.now) × (result ≤ length out.new) }
+// The transcript of an input's numbers.
+fn put_transcript(text: &mut TextBuffer, numbers: &[u32])
+    ensures text_after { Puts text.old text.new (transcript_of numbers.now) }
+    ensures len_bound { length (transcript_of numbers.now) ≤ out_length }
 {
     if numbers.len() < HEAD_LENGTH {
-        return put_malformed(out, 0);
+        put_malformed(text);
+        return;
     }
     let terms = run_terms_in(numbers);
     let mut space = RunSpace::new();
     let x = execute(terms, &numbers[HEAD_LENGTH..], &mut space);
     let length = x.length;
-    put_run(out, terms.settings.shape, x, &space.work.messages[..length])
+    put_run(
+        text,
+        terms.settings.shape,
+        x,
+        &space.work.messages[..length],
+    );
 }
 
-// The text for an input of so many numbers, or for one that has not its form, in front of `out`: how many bytes it has. The caller lends OUT_LENGTH bytes.
+// The text for an input of so many numbers, or for one that has not its form.
+fn put_text(text: &mut TextBuffer, count: Option<usize>, numbers: &[u32])
+    ensures text_after { Puts text.old text.new (text_for count numbers.now) }
+    ensures len_bound { length (text_for count numbers.now) ≤ out_length }
+{
+    match count {
+        Some(count) => put_transcript(text, &numbers[..count.min(numbers.len())]),
+        None => put_malformed(text),
+    }
+}
+
+// The same in front of `out`: how many bytes it has. The caller lends OUT_LENGTH bytes.
 pub fn text_for(count: Option<usize>, numbers: &[u32], out: &mut [u8]) -> usize
     requires { out_length ≤ length out.old }
     ensures { (take result out.new ≡ text_for count numbers.now) × (result ≤ length out.new) }
 {
-    match count {
-        Some(count) => transcript(&numbers[..count.min(numbers.len())], out),
-        None => put_malformed(out, 0),
-    }
+    let mut text = TextBuffer::new(out, 0);
+    put_text(&mut text, count, numbers);
+    text.at()
 }

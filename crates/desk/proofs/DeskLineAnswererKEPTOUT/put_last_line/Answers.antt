@@ -1,8 +1,6 @@
 -- Nothing stands behind the answers.
-use Rattle.std.proofs.Common.{refl}
-use Rattle.text.specs.Text.{puts}
+use Rattle.text.proofs.Puts.{puts_none}
 use Rattle.desk.proofs.DeskLineAnswererKEPTOUT.put_last_line.Goals as goal
 
-pub returns-clause-result_after : goal.returns-clause-result_after
-unfolding puts
-returns-clause-result_after c = refl
+pub returns-clause-text_after : goal.returns-clause-text_after
+returns-clause-text_after c = puts_none _

@@ -4,7 +4,7 @@ use borrow.Author.Tests.{ne_eqb}
 use Rattle.settings.specs.Refusals.{number_of}
 use Rattle.settings.proofs.Refused.{number_nonzero}
 use Rattle.desk.specs.Desk.{drawn_text}
-use Rattle.desk.proofs.Putting.{put_then}
+use Rattle.text.proofs.Puts.{puts_then}
 use Rattle.desk.proofs.calls.put_draw_in.Goals as goal
 
 pub returns-in-Err : goal.returns-in-Err
@@ -16,4 +16,4 @@ pub returns : goal.returns
 unfolding drawn_text
 returns c =
     rw (← c.in_default.ensures)
-    (put_then _ _ _ c.put_part-blank.ensures (put_then _ (32 ∷ []) _ c.put_byte-end.ensures c.put_number.ensures))
+    (puts_then _ _ c.put_part.ensures (puts_then (32 ∷ []) _ c.put_byte.ensures c.put_number.ensures))

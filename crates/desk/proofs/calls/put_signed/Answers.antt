@@ -1,16 +1,13 @@
 -- `calls::put_signed` meets its contract.
 use Rattle.std.proofs.Common.{[], ◌∷◌, ◌≡◌, ap, ◌∙◌}
 use Rattle.std.specs.Prelude.{nat_abs}
-use Rattle.desk.proofs.Putting.{put_then}
+use Rattle.text.proofs.Puts.{puts_then}
 use Rattle.desk.proofs.Signed.{read, text_below, text_above}
 use Rattle.desk.proofs.calls.put_signed.Goals as goal
-
-pub returns-then-value-lt0 : goal.returns-then-value-lt0
-returns-then-value-lt0 c =
-    let size : c.from-size.result ≡ nat_abs c.args.value = c.from-size.ensures ∙ c.unsigned_abs.ensures.value ∙ ap nat_abs (read c.args.value c.ranges.value) in
-    rw (text_below c.args.value c.ranges.value c.if-value-lt0.true, ← size) (put_then _ (45 ∷ []) _ c.put_byte-next.ensures c.put_number.ensures)
+use Rattle.desk.proofs.calls.put_signed.Goals.{then-value-lt0, else-value-lt0}
 
 pub returns : goal.returns
 returns c =
-    let size : c.from-size.result ≡ nat_abs c.args.value = c.from-size.ensures ∙ c.unsigned_abs.ensures.value ∙ ap nat_abs (read c.args.value c.ranges.value) in
-    rw (text_above c.args.value c.ranges.value c.if-value-lt0.false, ← size) c.put_number-2.ensures
+    let v = c.args.value in
+    let size : c.from-size.result ≡ nat_abs v = c.from-size.ensures ∙ c.unsigned_abs.ensures.value ∙ ap nat_abs (read v c.ranges.value) in
+    elim c.if-value-lt0.branch [ then-value-lt0 w ↦ rw (text_below v c.ranges.value w.if-value-lt0.true, ← size) (puts_then (45 ∷ []) _ w.put_byte.ensures (rw w.text-is at c.put_number.ensures)) | else-value-lt0 w ↦ rw (text_above v c.ranges.value w.if-value-lt0.false, ← size) (rw w.text-is at c.put_number.ensures) ]

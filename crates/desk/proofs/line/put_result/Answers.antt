@@ -6,25 +6,25 @@ use Rattle.desk.proofs.line.put_result.Goals as goal
 
 pub returns-then-line-gt-LONGEST_LINE : goal.returns-then-line-gt-LONGEST_LINE
 returns-then-line-gt-LONGEST_LINE c =
-    rw (← line_long c.args.line.now c.if-line-gt-LONGEST_LINE.true) (record { result_after = c.put_malformed.ensures; line_len_bound = length-malformed })
+    rw (← line_long c.args.line.now c.if-line-gt-LONGEST_LINE.true) (record { text_after = c.put_malformed.ensures; line_len_bound = length-malformed })
 
 pub returns-then-n-line : goal.returns-then-n-line
 returns-then-n-line c =
     let blank = c.length_before-n in
     let one = line_one c.args.line.now blank.result c.if-line-gt-LONGEST_LINE.false blank.ensures.0 c.if-n-line.true in
-    rw (← one) (record { result_after = c.put_malformed-then-n-line.ensures; line_len_bound = length-malformed })
+    rw (← one) (record { text_after = c.put_malformed-then-n-line.ensures; line_len_bound = length-malformed })
 
 pub returns-in_default : goal.returns-in_default
 returns-in_default c =
     let blank = c.length_before-n in
     let unknown = line_unknown c.args.line.now blank.result c.if-line-gt-LONGEST_LINE.false blank.ensures.0 c.in_default.ensures in
-    rw (← unknown) (record { result_after = c.put_malformed-in_default.ensures; line_len_bound = length-malformed })
+    rw (← unknown) (record { text_after = c.put_malformed-in_default.ensures; line_len_bound = length-malformed })
 
 pub returns-in_default-read_numbers : goal.returns-in_default-read_numbers
 returns-in_default-read_numbers c =
     let blank = c.length_before-n in
     let bad = line_bad c.args.line.now blank.result c.if-line-gt-LONGEST_LINE.false blank.ensures.0 (omega arith) _ c.in-Some.ensures _ c.in_default-read_numbers.ensures in
-    rw (← bad) (record { result_after = c.put_malformed-in_default-read_numbers.ensures; line_len_bound = length-malformed })
+    rw (← bad) (record { text_after = c.put_malformed-in_default-read_numbers.ensures; line_len_bound = length-malformed })
 
 pub returns : goal.returns
 returns c =
@@ -33,4 +33,4 @@ returns c =
     let numbers = c.read_numbers.new.numbers in
     let read = c.in-Some-read_numbers.ensures in
     let is = line_called c.args.line.now blank.result c.if-line-gt-LONGEST_LINE.false blank.ensures.0 (omega arith) _ c.in-Some.ensures count numbers read in
-    rw (← is) (record { result_after = c.put_call.ensures; line_len_bound = length-call _ _ (front_fits count numbers (search rules)) })
+    rw (← is) (record { text_after = c.put_call.ensures; line_len_bound = length-call _ _ (front_fits count numbers (search rules)) })

@@ -7,5 +7,4 @@ returns c =
     let a = c.args in
     let result₀ = c.answer-result0.ensures in
     let result₁ = c.answer-result1.ensures in
-    let put₀ = c.put_answer_line-next.ensures in
-    answer_both a.server a.phone _ result₀ _ _ put₀ _ result₁ _ c.put_answer_line.ensures
+    answer_both a.server a.phone _ result₀ c.put_answer_line.ensures _ result₁ c.put_answer_line-2.ensures

@@ -1,16 +1,16 @@
 -- `transcript::lines::put_numbers_line` meets its contract. Assumes nothing.
+use Rattle.text.proofs.Puts.{puts_then}
 use Rattle.transcript.specs.Transcript.{numbers_line}
-use Rattle.transcript.proofs.Putting.{put_then}
 use Rattle.transcript.proofs.lines.put_numbers_line.Goals as goal
 
 pub returns : goal.returns
 unfolding numbers_line
 returns c =
     rw (← c.number.ensures)
-    (put_then _ _ _
-    (put_then _ _ _
-    (put_then _ _ _
-    c.put_bytes-word.ensures
-    c.put_number-first.ensures)
-    c.put_numbers-second.ensures)
+    (puts_then _ _
+    (puts_then _ _
+    (puts_then _ _
+    c.put_bytes.ensures
+    c.put_number.ensures)
+    c.put_numbers.ensures)
     c.put_byte.ensures)

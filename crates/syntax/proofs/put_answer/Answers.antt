@@ -1,7 +1,7 @@
--- `syntax::put_answer_line` meets its contract.
+-- `syntax::put_answer` meets its contract.
 use Rattle.text.proofs.Puts.{puts_then}
 use Rattle.syntax.specs.Answer.{answer_text}
-use Rattle.syntax.proofs.put_answer_line.Goals as goal
+use Rattle.syntax.proofs.put_answer.Goals as goal
 
 pub returns : goal.returns
 unfolding answer_text
