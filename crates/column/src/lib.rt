@@ -293,8 +293,7 @@ fn gate_registers(next: &mut [u32], numbers: RoundNumbers, known: Context, tops:
     }
 }
 
-// The same, with the list of the set where the round reads one. It is taken once for all gates; the two lists are arrays of different
-// lengths, so that each is lent by a branch of its own.
+// The same, with the list of the set where the round reads one.
 fn digit_registers(next: &mut [u32], numbers: RoundNumbers, known: Context)
     requires ready { Ready known.settings × SplitsBelow known }
     requires round { (2 ≤ known.round) × (known.round ≤ 5) }

@@ -112,13 +112,7 @@ fn put_choice<'a>(
 }
 
 // The choice from stocks that stand one behind the other, the first of `count` numbers.
-fn put_stocks(
-    text: &mut TextBuffer,
-    shape: Shape,
-    last: u32,
-    count: usize,
-    stocks: &[u32],
-)
+fn put_stocks(text: &mut TextBuffer, shape: Shape, last: u32, count: usize, stocks: &[u32])
     ensures { Puts text.old text.new (stocks_text shape last count stocks.now) }
 {
     if count > stocks.len() {
@@ -141,22 +135,11 @@ fn put_choose(text: &mut TextBuffer, numbers: &[u32])
         kind: numbers[1],
         n: numbers[2],
     };
-    put_stocks(
-        text,
-        shape,
-        numbers[3],
-        numbers[4] as usize,
-        &numbers[5..],
-    );
+    put_stocks(text, shape, numbers[3], numbers[4] as usize, &numbers[5..]);
 }
 
 // The numbers of a generator's draw, made in a lent slice, and the state after it; or its refusal.
-fn put_draw_in(
-    text: &mut TextBuffer,
-    generator: &mut Generator,
-    shape: Shape,
-    numbers: &mut [u32],
-)
+fn put_draw_in(text: &mut TextBuffer, generator: &mut Generator, shape: Shape, numbers: &mut [u32])
     ensures { Puts text.old text.new (drawn_text (draw_call key_count generator.old.state shape numbers.old)) }
 {
     if let Err(no) = draw(generator, shape, numbers) {

@@ -112,13 +112,7 @@ fn answer_call<const KEPT: usize, const OUT: usize, A: LineAnswerer<KEPT, OUT>>(
             waiting,
         };
     }
-    let end = answer_at(
-        answerer,
-        out,
-        waiting,
-        here.number,
-        &kept[..here.held],
-    );
+    let end = answer_at(answerer, out, waiting, here.number, &kept[..here.held]);
     Answered {
         used: step.used,
         stream: here,
