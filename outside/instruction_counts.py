@@ -37,7 +37,7 @@ def one_input(rng, set_, kind, n, bound, secret, drawn):
 
 
 # Callgrind writes out what it has counted before and after each of these.
-CALLS = ('side::begin', 'execution::send_at', 'side::take')
+CALLS = ('execution::begin_at', 'execution::send_at', 'execution::take_at')
 
 
 def instructions(program, data):
