@@ -3,7 +3,7 @@ use Prim.Native.Nat.{ℕ, zero, suc, ◌+◌, ◌*◌, ◌-◌, ◌≤◌}
 use mathlib.Core.Path.{◌≡◌, refl, sym, ap, ◌∙◌}
 use mathlib.Core.List.{List, [], ◌∷◌, ◌++◌, append-nil}
 use native.Mathlib.Omega.{arith}
-use lib.ListN.{length, take, drop}
+use lib.ListN.{take, drop}
 use lib.Seq.{drop-drop}
 use borrow.Author.Tests.{eqb-true, ne_eqb}
 use Rattle.std.specs.Prelude.{Option, None, Some, Result, Ok, Err, cond, Bool, true, false}
@@ -13,10 +13,10 @@ use Rattle.settings.specs.Refusals.{number_of, refused}
 use Rattle.settings.proofs.Refused.{number_nonzero}
 use lib.Dec.{eqb}
 use Rattle.settings.specs.declared.Settings.{Settings}
-use Rattle.settings.specs.Sizes.{key_count, most_bytes}
+use Rattle.settings.specs.Sizes.{key_count}
 use Rattle.state.specs.declared.Side.{Side}
 use Rattle.side.specs.Side.{After, take_call}
-use Rattle.runs.specs.Records.{PartyInput, PartyState, JointState, Party as Role, Call, ScheduledCall, Outcome, outcome, step, begin_at}
+use Rattle.runs.specs.Records.{PartyInput, PartyState, JointState, Party as Role, Call, ScheduledCall, outcome, step, begin_at}
 use Rattle.runs.specs.Records.Party.{observer, peer}
 use Rattle.runs.specs.Records.Call.{begin, send, take_latest}
 use Rattle.runs.specs.Demands.{scheduled}
@@ -25,7 +25,7 @@ use Rattle.execution.specs.declared.CallKind.{CallKind}
 use Rattle.execution.specs.declared.Endpoint.{Endpoint}
 use Rattle.execution.specs.declared.Execution.{Execution}
 use Rattle.execution.specs.declared.WorkSpace.{WorkSpace}
-use Rattle.execution.specs.declared.CallKind.TheVariants.{Begin, Send, Take}
+use Rattle.execution.specs.declared.CallKind.TheVariants.{Begin, Take}
 use Rattle.execution.specs.Execution.{message_room, played_by, Refused, told, refused_call, refused_in, message_in, Carried, outcome_at, carry, carry_all, round_calls}
 use Rattle.execution.specs.Held.{party_of, carried_of, Stands, Fits, answer_at, LeftBy, SendsAt, Carries, RoundsRun}
 use Rattle.execution.proofs.Messages.{latest-kept}

@@ -23,7 +23,7 @@ use Rattle.side.specs.Side.{Sent, AfterSend, send_no, sent_side, after_send, sen
 use Rattle.side.proofs.Sending.{send-ready}
 use Rattle.runs.proofs.Laws.{message-sized}
 use Rattle.execution.specs.declared.Endpoint.{Endpoint}
-use Rattle.std.specs.Prelude.{Option, None, Some}
+use Rattle.std.specs.Prelude.{None, Some}
 use Rattle.execution.specs.declared.Party.{Party}
 use Rattle.execution.specs.declared.CallKind.TheVariants.{Send}
 use Rattle.execution.specs.Execution.{message_room, Refused, refused_call}

@@ -3,7 +3,7 @@ use Rattle.std.specs.Prelude.{ℕ, ◌+◌, ◌*◌, ◌-◌, ◌≤◌, min, �
 use Rattle.lists.specs.Lists.{in_front}
 use Rattle.settings.specs.declared.Shape.{Shape}
 use Rattle.settings.specs.declared.Settings.{Settings}
-use Rattle.settings.specs.Sizes.{key_count, width_of, most_bytes, book_size, input_size}
+use Rattle.settings.specs.Sizes.{key_count, width_of, most_bytes, work_length, book_size, input_size}
 use Rattle.settings.specs.declared.Refusal.{Refusal}
 use Rattle.settings.specs.Schedule.{rounds}
 use Rattle.dealer.specs.Deal.{deal_no}
@@ -11,7 +11,7 @@ use Rattle.state.specs.declared.Side.{Side}
 use Rattle.state.specs.State.{fresh_side}
 use Rattle.side.specs.declared.Run.{Run}
 use Rattle.side.specs.Side.{After, AfterSend, send_call}
-use Rattle.runs.specs.Records.{PartyInput, PartyState, JointState, ScheduledCall, run_of, book_of}
+use Rattle.runs.specs.Records.{PartyInput, PartyState, ScheduledCall, run_of, book_of}
 use Rattle.execution.specs.declared.RunTerms.{RunTerms}
 use Rattle.execution.specs.declared.Party.{Party}
 use Rattle.execution.specs.declared.Party.TheVariants.{Server, Phone}
@@ -19,6 +19,7 @@ use Rattle.execution.specs.declared.RefusedCall.{RefusedCall}
 use Rattle.execution.specs.declared.Endpoint.{Endpoint}
 use Rattle.execution.specs.declared.Execution.{Execution}
 use Rattle.execution.specs.declared.WorkSpace.{WorkSpace}
+use Rattle.execution.specs.declared.RunSpace.{RunSpace}
 use Rattle.execution.specs.declared.Cuts.{Cuts}
 use Rattle.execution.specs.declared.CallKind.{CallKind}
 use Rattle.execution.specs.declared.CallKind.TheVariants.{Deal, Send}
@@ -35,6 +36,10 @@ carried_of refused x w =
       parties = record { observer = party_of x.server w.server w.messages; peer = party_of x.phone w.phone w.messages };
       messages = take x.length w.messages;
     }
+
+-- what the slices hold that are lent to both sides
+abbrev pub held_in : List ℕ → List ℕ → List ℕ → WorkSpace
+held_in server phone messages = record { server = server; phone = phone; messages = messages }
 
 -- a message stands in front of `length`
 pub record Stands (from to length : ℕ) : Type 0 where
@@ -54,6 +59,14 @@ run_bytes = 2 * rounds * most_bytes key_count
 -- the numbers of a book, at most
 abbrev pub book_length : ℕ
 book_length = 1320 * width_of key_count
+
+-- a space before its first run: zeros throughout
+abbrev pub zero_space : RunSpace
+zero_space =
+    record {
+      books = record { server = replicate book_length 0; phone = replicate book_length 0 };
+      work = held_in (replicate (work_length key_count) 0) (replicate (work_length key_count) 0) (replicate run_bytes 0);
+    }
 
 -- ---- What a call of one party leaves, and whether it was refused
 

@@ -2,13 +2,13 @@
 // refusal. It gives back every message, both sides and the refusal.
 #![tactic(auto)]
 
-ghost use Rattle.std.specs.Prelude.{◌≡◌, ◌+◌, ◌*◌, ◌≤◌, length, slice_range, replicate};
+ghost use Rattle.std.specs.Prelude.{◌≡◌, ◌+◌, ◌*◌, ◌≤◌, length, slice_range};
 ghost use Rattle.std.specs.Result.{result_err};
 ghost use Rattle.settings.specs.Sizes.{key_count, most_bytes, work_length, book_size};
 ghost use Rattle.settings.specs.Schedule.{rounds};
 ghost use Rattle.side.specs.Side.{begin_call, take_call};
 ghost use Rattle.execution.specs.Execution.{side_number, told, draw_in, books_given, dealt_run, given_run, executed};
-ghost use Rattle.execution.specs.Held.{Stands, Fits, run_at, before_begin, answer_at, LeftBy, SendsAt, RoundsRun, Plays, book_length, CutsAt, Deals, EndsAs, Executes};
+ghost use Rattle.execution.specs.Held.{Stands, Fits, held_in, run_at, before_begin, answer_at, LeftBy, SendsAt, RoundsRun, Plays, run_bytes, book_length, zero_space, CutsAt, Deals, EndsAs, Executes};
 
 use dealer::deal;
 use settings::{
@@ -101,7 +101,7 @@ pub struct RunSpace {
 
 impl RunSpace {
     pub fn new() -> RunSpace
-        ensures { (result.work.server ≡ replicate (work_length key_count) 0) × (result.work.phone ≡ replicate (work_length key_count) 0) }
+        ensures { result ≡ zero_space }
     {
         RunSpace {
             books: Books {
@@ -280,49 +280,47 @@ impl Execution {
     }
 
     // One round: the server sends and the phone takes, then the phone sends and the server takes.
-    fn run_round(&mut self, space: &mut WorkSpace) -> Result<(), RefusedCall>
-        requires { Fits self.old space.old.messages 2 }
-        ensures { RoundsRun 1 self.old space.old (told (result_err result)) self.new space.new }
+    fn run_round(
+        &mut self,
+        server: &mut [u32],
+        phone: &mut [u32],
+        messages: &mut [u8],
+    ) -> Result<(), RefusedCall>
+        requires { Fits self.old messages.old 2 }
+        ensures { RoundsRun 1 self.old (held_in server.old phone.old messages.old) (told (result_err result)) self.new (held_in server.new phone.new messages.new) }
     {
         send_at(
             &mut self.server,
             Party::Server,
-            &space.server,
-            &mut space.messages,
+            server,
+            messages,
             &mut self.length,
         )?;
         let heard = self.server;
-        take_at(
-            &mut self.phone,
-            Party::Phone,
-            &mut space.phone,
-            heard,
-            &space.messages,
-        )?;
+        take_at(&mut self.phone, Party::Phone, phone, heard, messages)?;
         send_at(
             &mut self.phone,
             Party::Phone,
-            &space.phone,
-            &mut space.messages,
+            phone,
+            messages,
             &mut self.length,
         )?;
         let answered = self.phone;
-        take_at(
-            &mut self.server,
-            Party::Server,
-            &mut space.server,
-            answered,
-            &space.messages,
-        )
+        take_at(&mut self.server, Party::Server, server, answered, messages)
     }
 
     // The seven rounds.
-    fn run_rounds(&mut self, space: &mut WorkSpace) -> Result<(), RefusedCall>
-        requires { Fits self.old space.old.messages (2 * rounds) }
-        ensures { RoundsRun rounds self.old space.old (told (result_err result)) self.new space.new }
+    fn run_rounds(
+        &mut self,
+        server: &mut [u32],
+        phone: &mut [u32],
+        messages: &mut [u8],
+    ) -> Result<(), RefusedCall>
+        requires { Fits self.old messages.old (2 * rounds) }
+        ensures { RoundsRun rounds self.old (held_in server.old phone.old messages.old) (told (result_err result)) self.new (held_in server.new phone.new messages.new) }
     {
         for _ in 0..ROUNDS {
-            self.run_round(space)?;
+            self.run_round(server, phone, messages)?;
         }
         Ok(())
     }
@@ -334,10 +332,12 @@ impl Execution {
         numbers: &[u32],
         book0: &[u32],
         book1: &[u32],
-        space: &mut WorkSpace,
+        server: &mut [u32],
+        phone: &mut [u32],
+        messages: &mut [u8],
     ) -> Result<(), RefusedCall>
-        requires { Fits self.old space.old.messages (2 * rounds) }
-        ensures { Plays terms numbers.now book0.now book1.now self.old space.old (told (result_err result)) self.new space.new }
+        requires { Fits self.old messages.old (2 * rounds) }
+        ensures { Plays terms numbers.now book0.now book1.now self.old (held_in server.old phone.old messages.old) (told (result_err result)) self.new (held_in server.new phone.new messages.new) }
     {
         let cuts = cuts_of(terms.settings.shape, numbers.len());
         let first = cuts.phone;
@@ -348,7 +348,7 @@ impl Execution {
             run_at(terms, Party::Server),
             &numbers[..first],
             book0,
-            &mut space.server,
+            server,
         )?;
         begin_at(
             &mut self.phone,
@@ -356,9 +356,9 @@ impl Execution {
             run_at(terms, Party::Phone),
             &numbers[first..second],
             book1,
-            &mut space.phone,
+            phone,
         )?;
-        self.run_rounds(space)
+        self.run_rounds(server, phone, messages)
     }
 
     // The deal, and the run with its books.
@@ -366,22 +366,28 @@ impl Execution {
         &mut self,
         terms: RunTerms,
         numbers: &[u32],
-        books: &mut Books,
-        space: &mut WorkSpace,
+        book0: &mut [u32],
+        book1: &mut [u32],
+        server: &mut [u32],
+        phone: &mut [u32],
+        messages: &mut [u8],
     ) -> Result<(), RefusedCall>
-        requires { Fits self.old space.old.messages (2 * rounds) }
-        ensures { self.old ≡ before_begin → EndsAs (dealt_run terms numbers.now space.old.server space.old.phone) (told (result_err result)) self.new space.old.messages space.new.messages }
+        requires books { (book_length ≤ length book0.old) × (book_length ≤ length book1.old) }
+        requires room { (self.old ≡ before_begin) × (run_bytes ≤ length messages.old) }
+        ensures { EndsAs (dealt_run terms numbers.now server.old phone.old) (told (result_err result)) self.new messages.old messages.new }
     {
         let shape = terms.settings.shape;
         let size = book_size(shape);
         let draw = cuts_of(shape, numbers.len()).draw;
-        deal_at(terms, &numbers[draw..], &mut books.server, &mut books.phone)?;
+        deal_at(terms, &numbers[draw..], book0, book1)?;
         self.play(
             terms,
             numbers,
-            &books.server[..size],
-            &books.phone[..size],
-            space,
+            &book0[..size],
+            &book1[..size],
+            server,
+            phone,
+            messages,
         )
     }
 }
@@ -390,14 +396,19 @@ impl Execution {
 fn execute_dealt(
     terms: RunTerms,
     numbers: &[u32],
-    books: &mut Books,
-    space: &mut WorkSpace,
+    book0: &mut [u32],
+    book1: &mut [u32],
+    work0: &mut [u32],
+    work1: &mut [u32],
+    messages: &mut [u8],
 ) -> Execution
-    ensures run { Executes (dealt_run terms numbers.now space.old.server space.old.phone) result space.old.messages space.new.messages }
-    ensures work_size { (length space.old.server ≡ work_length key_count) × (length space.old.phone ≡ work_length key_count) }
+    requires { (book_length ≤ length book0.old) × (book_length ≤ length book1.old) × (run_bytes ≤ length messages.old) }
+    ensures { Executes (dealt_run terms numbers.now work0.old work1.old) result messages.old messages.new }
 {
     let mut x = Execution::new();
-    x.refused = x.deal_and_play(terms, numbers, books, space).err();
+    x.refused = x
+        .deal_and_play(terms, numbers, book0, book1, work0, work1, messages)
+        .err();
     x
 }
 
@@ -415,10 +426,15 @@ fn books_given(shape: Shape, numbers: &[u32]) -> bool
 }
 
 // The run with the books that stand among the numbers.
-fn execute_given(terms: RunTerms, numbers: &[u32], space: &mut WorkSpace) -> Execution
-    requires { length (draw_in terms.settings.shape numbers.now) ≡ 2 * book_size terms.settings.shape }
-    ensures run { Executes (given_run terms numbers.now space.old.server space.old.phone) result space.old.messages space.new.messages }
-    ensures work_size { (length space.old.server ≡ work_length key_count) × (length space.old.phone ≡ work_length key_count) }
+fn execute_given(
+    terms: RunTerms,
+    numbers: &[u32],
+    work0: &mut [u32],
+    work1: &mut [u32],
+    messages: &mut [u8],
+) -> Execution
+    requires { (length (draw_in terms.settings.shape numbers.now) ≡ 2 * book_size terms.settings.shape) × (run_bytes ≤ length messages.old) }
+    ensures { Executes (given_run terms numbers.now work0.old work1.old) result messages.old messages.new }
 {
     let shape = terms.settings.shape;
     let first = cuts_of(shape, numbers.len()).draw;
@@ -426,7 +442,9 @@ fn execute_given(terms: RunTerms, numbers: &[u32], space: &mut WorkSpace) -> Exe
     let book0 = &numbers[first..second];
     let book1 = &numbers[second..];
     let mut x = Execution::new();
-    x.refused = x.play(terms, numbers, book0, book1, space).err();
+    x.refused = x
+        .play(terms, numbers, book0, book1, work0, work1, messages)
+        .err();
     x
 }
 
@@ -434,13 +452,41 @@ fn execute_given(terms: RunTerms, numbers: &[u32], space: &mut WorkSpace) -> Exe
 
 // The run of these terms. The numbers are the server's inputs, the phone's inputs and the draw; where exactly as many are left as two books
 // have, the server's book and the phone's, and nothing is dealt. Where some are missing, the calls are handed what there is. At the end all
-// messages stand in front of `space.work.messages`, one behind the other.
-pub fn execute(terms: RunTerms, numbers: &[u32], space: &mut RunSpace) -> Execution
+// messages stand in front of `messages`, one behind the other; the caller lends RUN_BYTES bytes.
+//
+// The books are dealt into the front of two lent slices of BOOK_LENGTH numbers, and each side works in a lent slice of WORK_LENGTH (its begin
+// refuses any other length). All may hold anything before, as in a `RunSpace`. (Two slices that a struct holds by `&mut` cannot be lent at a
+// time: hence a parameter for each.)
+pub fn execute(
+    terms: RunTerms,
+    numbers: &[u32],
+    book0: &mut [u32],
+    book1: &mut [u32],
+    work0: &mut [u32],
+    work1: &mut [u32],
+    messages: &mut [u8],
+) -> Execution
+    requires { (book_length ≤ length book0.old) × (book_length ≤ length book1.old) × (run_bytes ≤ length messages.old) }
+    ensures { Executes (executed terms numbers.now work0.old work1.old) result messages.old messages.new }
+{
+    if books_given(terms.settings.shape, numbers) {
+        return execute_given(terms, numbers, work0, work1, messages);
+    }
+    execute_dealt(terms, numbers, book0, book1, work0, work1, messages)
+}
+
+// The same in a space of the lengths that a run needs: at the end all messages stand in front of `space.work.messages`.
+pub fn execute_in(terms: RunTerms, numbers: &[u32], space: &mut RunSpace) -> Execution
     ensures run { Executes (executed terms numbers.now space.old.work.server space.old.work.phone) result space.old.work.messages space.new.work.messages }
     ensures work_size { (length space.old.work.server ≡ work_length key_count) × (length space.old.work.phone ≡ work_length key_count) }
 {
-    if books_given(terms.settings.shape, numbers) {
-        return execute_given(terms, numbers, &mut space.work);
-    }
-    execute_dealt(terms, numbers, &mut space.books, &mut space.work)
+    execute(
+        terms,
+        numbers,
+        &mut space.books.server,
+        &mut space.books.phone,
+        &mut space.work.server,
+        &mut space.work.phone,
+        &mut space.work.messages,
+    )
 }

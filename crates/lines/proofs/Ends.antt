@@ -12,7 +12,7 @@ use lib.Seq.{take_all, take_at, drop_at}
 use borrow.Rule.Slice.PartMut.{mid_of, post_of, put_mid}
 use borrow.Author.Tests.{ltb-true, eq-eqb}
 use Rattle.lists.specs.Answers.{ask}
-use Rattle.lists.specs.Lists.{all_below, in_front}
+use Rattle.lists.specs.Lists.{all_below}
 use Rattle.lists.proofs.Questions.{passed, both_yes}
 use Rattle.field.specs.Field.{q}
 use Rattle.settings.specs.declared.Settings.{Settings}
@@ -36,7 +36,7 @@ use Rattle.execution.proofs.Given.{draw_is_dealt}
 use Rattle.generator.specs.Step.{outputs}
 use Rattle.generator.proofs.Steps.{outputs_length, outputs_below, outputs_zero}
 use Rattle.lines.specs.Plain.{settings_of, secret_of, request_no, result_for, drawn_for}
-use Rattle.lines.specs.Run.{ones, terms_for, in_columns, inputs_for, count_for, numbers_for, answered_by}
+use Rattle.lines.specs.Run.{ones, terms_for, in_columns, inputs_for, count_for, numbers_for, answered_by, most_numbers, RoomForRun, LentToLine}
 use Rattle.lines.proofs.Handed.{settings_pass_all, ones_ok, columns_long, columns_below, missing_none, behind-zeros, length_front}
 
 -- ---- The answer of a side that has ended
@@ -272,3 +272,19 @@ module _ (state : ℕ) (o : Request) (room : o.count ≤ length o.numbers) where
 
     pub cleared_again : (zeros cleared : List ℕ) → zeros ≡ replicate (count_for o) 0 → cleared ≡ replicate (length filled) 0 → cleared ≡ zeros
     cleared_again zeros cleared f g = g ∙ ap (λ (n : ℕ). replicate n 0) filled_long ∙ sym f
+
+-- lent slices that hold something else have the same room
+pub same-room : (a b c d e a' b' c' d' e' : List ℕ) → RoomForRun a b c d e → length a' ≡ length a → length b' ≡ length b → length c' ≡ length c
+    → length d' ≡ length d → length e' ≡ length e → RoomForRun a' b' c' d' e'
+same-room a b c d e a' b' c' d' e' r f g h i j =
+    record {
+      server_book = omega (arith, r.server_book, f);
+      phone_book = omega (arith, r.phone_book, g);
+      server_work = h ∙ r.server_work;
+      phone_work = i ∙ r.phone_work;
+      bytes = omega (arith, r.bytes, j);
+    }
+
+-- so many numbers are lent
+pub zeros_many : {n a b c d e : List ℕ} → LentToLine n a b c d e → length n ≡ most_numbers
+zeros_many l = ap length l.zeros ∙ length-replicate {A = ℕ} most_numbers 0

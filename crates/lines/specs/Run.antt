@@ -1,15 +1,16 @@
 -- The run of a line: what its deal, its begins and its answer are handed.
-use Rattle.std.specs.Prelude.{ℕ, ◌+◌, ◌*◌, ◌/◌, cond, Result, Ok, Err, List, ◌++◌, eqb, length, get_or, take, replicate}
+use Rattle.std.specs.Prelude.{ℕ, ◌+◌, ◌*◌, ◌/◌, ◌≤◌, ◌≡◌, cond, Result, Ok, Err, List, ◌++◌, eqb, length, get_or, take, replicate}
 use Rattle.lists.specs.Lists.{list_to}
 use Rattle.field.specs.Field.{q}
 use Rattle.settings.specs.declared.Refusal.{Refusal}
 use Rattle.settings.specs.Refusals.{Outcome, Gives, No, number_of}
-use Rattle.settings.specs.Sizes.{key_count, width}
+use Rattle.settings.specs.Sizes.{key_count, width, work_length}
 use Rattle.generator.specs.Step.{outputs}
 use Rattle.state.specs.declared.Side.{Side}
 use Rattle.state.specs.State.{answer_call}
 use Rattle.syntax.specs.declared.Request.{Request}
 use Rattle.execution.specs.declared.RunTerms.{RunTerms}
+use Rattle.execution.specs.Held.{run_bytes, book_length}
 use Rattle.lines.specs.declared.LineAnswer.{LineAnswer}
 use Rattle.lines.specs.Plain.{settings_of, secret_of, drawn_for}
 
@@ -47,6 +48,21 @@ abbrev pub numbers_in : Result LineAnswer Refusal → Outcome (List ℕ)
 numbers_in (Ok a) = Gives (take a.length a.numbers)
 numbers_in (Err refusal) = No (number_of refusal)
 
+-- ---- What is lent to a line
+
 -- the numbers of a run, at most
 abbrev pub most_numbers : ℕ
 most_numbers = 2 * 8 * width + 1320 * width + 144
+
+-- books, working slices and messages with room for any run, whatever they hold
+pub record RoomForRun (book0 book1 work0 work1 messages : List ℕ) : Type 0 where
+  pub server_book : book_length ≤ length book0
+  pub phone_book : book_length ≤ length book1
+  pub server_work : length work0 ≡ work_length key_count
+  pub phone_work : length work1 ≡ work_length key_count
+  pub bytes : run_bytes ≤ length messages
+
+-- and zeros for the numbers; a line leaves all so for the next
+pub record LentToLine (numbers book0 book1 work0 work1 messages : List ℕ) : Type 0 where
+  pub zeros : numbers ≡ replicate most_numbers 0
+  pub room : RoomForRun book0 book1 work0 work1 messages

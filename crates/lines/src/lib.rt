@@ -9,8 +9,9 @@ ghost use Rattle.settings.specs.Refusals.{refused};
 ghost use Rattle.settings.specs.Sizes.{width, draw_length};
 ghost use Rattle.generator.specs.Step.{stepped, outputs};
 ghost use Rattle.text.specs.Text.{Puts};
+ghost use Rattle.execution.specs.Held.{zero_space};
 ghost use Rattle.lines.specs.Plain.{settings_of, request_no, result_for, result_answer, line_result, line_answer, drawn_for, line_state};
-ghost use Rattle.lines.specs.Run.{terms_for, in_columns, count_for, numbers_for, numbers_in, answered_by, most_numbers};
+ghost use Rattle.lines.specs.Run.{terms_for, in_columns, count_for, numbers_for, numbers_in, answered_by, most_numbers, RoomForRun, LentToLine};
 
 use execution::{RunSpace, RunTerms, execute};
 use field::all_below_q;
@@ -24,7 +25,7 @@ use text::{TOO_LARGE, TextBuffer};
 const ANSWER_PLACES: usize = 8;
 
 // The most numbers of a run: the inputs of both sides, and the draw.
-const RUN_NUMBERS: usize = 2 * 8 * WIDTH + 1320 * WIDTH + 144;
+pub const RUN_NUMBERS: usize = 2 * 8 * WIDTH + 1320 * WIDTH + 144;
 
 // What a line that asks for no run is refused with.
 const MALFORMED: Refusal = Refusal::Fields;
@@ -152,18 +153,24 @@ fn run_in(
     serial: u32,
     request: Request,
     numbers: &mut [u32],
-    space: &mut RunSpace,
+    book0: &mut [u32],
+    book1: &mut [u32],
+    work0: &mut [u32],
+    work1: &mut [u32],
+    messages: &mut [u8],
 ) -> Result<LineAnswer, Refusal>
     requires request_value { request_no serial request ≡ 0 }
     requires numbers_value { numbers.old ≡ replicate (count_for request) 0 }
+    requires room_for_run { RoomForRun book0.old book1.old work0.old work1.old messages.old }
     ensures result_value { numbers_in result ≡ result_for serial request }
     ensures state_value { state.new ≡ stepped (drawn_for request) state.old }
     ensures numbers_unchanged { numbers.new ≡ numbers.old }
+    ensures room_for_run_2 { RoomForRun book0.new book1.new work0.new work1.new messages.new }
 {
     let before = *state;
     *state = fill_run(before, request, numbers);
     let terms = terms_of(serial, request);
-    let end = execute(terms, numbers, space);
+    let end = execute(terms, numbers, book0, book1, work0, work1, messages);
     clear_run(before, request.count as usize * WIDTH, numbers);
     answered_by(end.server.side)
 }
@@ -174,20 +181,64 @@ fn run_request(
     serial: u32,
     request: Request,
     numbers: &mut [u32],
-    space: &mut RunSpace,
+    book0: &mut [u32],
+    book1: &mut [u32],
+    work0: &mut [u32],
+    work1: &mut [u32],
+    messages: &mut [u8],
 ) -> Result<LineAnswer, Refusal>
     requires request_value { request_no serial request ≡ 0 }
-    requires numbers_value { numbers.old ≡ replicate most_numbers 0 }
+    requires lent_to_line { LentToLine numbers.old book0.old book1.old work0.old work1.old messages.old }
     ensures result_value { numbers_in result ≡ result_for serial request }
     ensures state_value { state.new ≡ stepped (drawn_for request) state.old }
-    ensures numbers_unchanged { numbers.new ≡ numbers.old }
+    ensures lent_to_line_2 { LentToLine numbers.new book0.new book1.new work0.new work1.new messages.new }
 {
     let drawn = draw_length(settings_of(request).shape);
     let size = 2 * (request.count as usize * WIDTH) + drawn;
-    run_in(state, serial, request, &mut numbers[..size], space)
+    run_in(
+        state,
+        serial,
+        request,
+        &mut numbers[..size],
+        book0,
+        book1,
+        work0,
+        work1,
+        messages,
+    )
 }
 
 // ---- The whole line
+
+// What a line gives. A refused one draws nothing.
+fn line_result(
+    state: &mut u32,
+    number: u64,
+    line: &[u8],
+    numbers: &mut [u32],
+    book0: &mut [u32],
+    book1: &mut [u32],
+    work0: &mut [u32],
+    work1: &mut [u32],
+    messages: &mut [u8],
+) -> Result<LineAnswer, Refusal>
+    requires { LentToLine numbers.old book0.old book1.old work0.old work1.old messages.old }
+    ensures result_value { numbers_in result ≡ line_result number line.now }
+    ensures state_value { state.new ≡ line_state number line.now state.old }
+    ensures lent_to_line { LentToLine numbers.new book0.new book1.new work0.new work1.new messages.new }
+{
+    if number >= TOO_LARGE {
+        return Err(MALFORMED);
+    }
+    let Some(request) = read_line(line) else {
+        return Err(MALFORMED);
+    };
+    let serial = number as u32;
+    ask_request(serial, request)?;
+    run_request(
+        state, serial, request, numbers, book0, book1, work0, work1, messages,
+    )
+}
 
 // The output line of a line that gives this.
 fn put_result(text: &mut TextBuffer, number: u64, res: Result<LineAnswer, Refusal>)
@@ -203,6 +254,36 @@ fn put_result(text: &mut TextBuffer, number: u64, res: Result<LineAnswer, Refusa
     }
 }
 
+// Puts the output line for an input line without its line end. Its number is the serial of its run; a line beyond the last serial is malformed.
+// Its draw is that of a generator in the state handed in; state 0 is the all-zero draw.
+//
+// Lent for the run, so that none of it is made anew for each line: RUN_NUMBERS zeros, which are left as zeros; and the slices of crate
+// execution, whatever they hold. Each is a parameter of its own for the reason given at `execute`: two slices that a struct holds by `&mut`
+// cannot be lent at a time.
+pub fn answer_line(
+    state: &mut u32,
+    text: &mut TextBuffer,
+    number: u64,
+    line: &[u8],
+    numbers: &mut [u32],
+    book0: &mut [u32],
+    book1: &mut [u32],
+    work0: &mut [u32],
+    work1: &mut [u32],
+    messages: &mut [u8],
+)
+    requires { LentToLine numbers.old book0.old book1.old work0.old work1.old messages.old }
+    ensures text_after { Puts text.old text.new (line_answer number line.now) }
+    ensures line_len_bound { length (line_answer number line.now) ≤ 112 }
+    ensures state_value { state.new ≡ line_state number line.now state.old }
+    ensures lent_to_line { LentToLine numbers.new book0.new book1.new work0.new work1.new messages.new }
+{
+    let result = line_result(
+        state, number, line, numbers, book0, book1, work0, work1, messages,
+    );
+    put_result(text, number, result);
+}
+
 // What goes from line to line: a generator's state, where 0 is the all-zero draw; and what a line's run needs, which is made once. The numbers
 // of a run are lent as zeros and left so.
 #[derive(Drop)]
@@ -215,7 +296,9 @@ pub struct LineRunner {
 
 impl LineRunner {
     pub fn new(state: u32) -> LineRunner
-        ensures { result.state ≡ state }
+        ensures state_value { result.state ≡ state }
+        ensures numbers_value { result.numbers ≡ replicate most_numbers 0 }
+        ensures space_value { result.space ≡ zero_space }
     {
         LineRunner {
             state,
@@ -224,36 +307,23 @@ impl LineRunner {
         }
     }
 
-    // What a line without its line end gives. Its number is the serial of its run; a line beyond the last serial is malformed, and a refused one
-    // draws nothing.
-    fn line_result(&mut self, number: u64, line: &[u8]) -> Result<LineAnswer, Refusal>
-        ensures result_value { numbers_in result ≡ line_result number line.now }
-        ensures state_value { self.new.state ≡ line_state number line.now self.old.state }
-    {
-        if number >= TOO_LARGE {
-            return Err(MALFORMED);
-        }
-        let Some(request) = read_line(line) else {
-            return Err(MALFORMED);
-        };
-        let serial = number as u32;
-        ask_request(serial, request)?;
-        run_request(
-            &mut self.state,
-            serial,
-            request,
-            &mut self.numbers,
-            &mut self.space,
-        )
-    }
-
     // Puts the output line for an input line without its line end.
     pub fn answer_line(&mut self, text: &mut TextBuffer, number: u64, line: &[u8])
         ensures text_after { Puts text.old text.new (line_answer number line.now) }
         ensures line_len_bound { length (line_answer number line.now) ≤ 112 }
         ensures state_value { self.new.state ≡ line_state number line.now self.old.state }
     {
-        let result = self.line_result(number, line);
-        put_result(text, number, result);
+        answer_line(
+            &mut self.state,
+            text,
+            number,
+            line,
+            &mut self.numbers,
+            &mut self.space.books.server,
+            &mut self.space.books.phone,
+            &mut self.space.work.server,
+            &mut self.space.work.phone,
+            &mut self.space.work.messages,
+        );
     }
 }

@@ -7,7 +7,7 @@ ghost use Rattle.transcript.specs.Transcript.{head_length, run_terms_in, result_
 
 use crate::lines::{put_answers, put_malformed, put_messages, put_openings, put_refusal_line};
 use execution::{
-    BOOK_LENGTH, Execution, Party, RUN_BYTES, RefusedCall, RunSpace, RunTerms, execute,
+    BOOK_LENGTH, Execution, Party, RUN_BYTES, RefusedCall, RunSpace, RunTerms, execute_in,
 };
 use settings::{KEYS, Settings, Shape, WIDTH};
 use state::Side;
@@ -97,7 +97,7 @@ fn put_transcript(text: &mut TextBuffer, numbers: &[u32])
     }
     let terms = run_terms_in(numbers);
     let mut space = RunSpace::new();
-    let x = execute(terms, &numbers[HEAD_LENGTH..], &mut space);
+    let x = execute_in(terms, &numbers[HEAD_LENGTH..], &mut space);
     let length = x.length;
     put_run(
         text,

@@ -6,14 +6,14 @@ use Rattle.execution.proofs.execute.Goals as goal
 pub execute_given-requires : goal.execute_given-requires
 execute_given-requires c =
     let a = c.args in
-    as_many a.terms.settings.shape a.numbers.now (sym c.books_given.ensures ∙ c.if-books_given.true)
+    (as_many a.terms.settings.shape a.numbers.now (sym c.books_given.ensures ∙ c.if-books_given.true), c.requires.2)
 
-pub returns-then-books_given-clause-run : goal.returns-then-books_given-clause-run
-returns-then-books_given-clause-run c =
+pub returns-then-books_given : goal.returns-then-books_given
+returns-then-books_given c =
     let a = c.args in
-    rw (runs-given a.terms a.numbers.now a.space.now.work.server a.space.now.work.phone (sym c.books_given.ensures ∙ c.if-books_given.true)) c.execute_given.ensures.run
+    rw (runs-given a.terms a.numbers.now a.work0.now a.work1.now (sym c.books_given.ensures ∙ c.if-books_given.true)) c.execute_given.ensures
 
-pub returns-clause-run : goal.returns-clause-run
-returns-clause-run c =
+pub returns : goal.returns
+returns c =
     let a = c.args in
-    rw (runs-dealt a.terms a.numbers.now a.space.now.work.server a.space.now.work.phone (sym c.books_given.ensures ∙ c.if-books_given.false)) c.execute_dealt.ensures.run
+    rw (runs-dealt a.terms a.numbers.now a.work0.now a.work1.now (sym c.books_given.ensures ∙ c.if-books_given.false)) c.execute_dealt.ensures

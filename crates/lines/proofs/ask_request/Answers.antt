@@ -1,12 +1,10 @@
 -- `lines::ask_request` meets its contract.
-use mathlib.Core.Path.{◌≡◌, sym, refl, ◌∙◌, ap}
+use mathlib.Core.Path.{sym, refl, ◌∙◌}
 use native.Mathlib.Omega.{arith}
 use borrow.Author.Tests.{lt-ltb, le-ltb}
 use Rattle.std.proofs.lemmas.Result.{err_from_is_err_and}
 use Rattle.lists.proofs.Questions.{stop, skip}
 use Rattle.settings.proofs.Ready.{settings-ready, settings_yes, settings_refused}
-use Rattle.settings.specs.declared.Settings.{Settings}
-use Rattle.settings.specs.Questions.{ask_settings}
 use Rattle.lines.specs.Plain.{request_no, settings_of}
 use Rattle.lines.proofs.ask_request.Goals as goal
 

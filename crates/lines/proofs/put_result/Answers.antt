@@ -1,11 +1,11 @@
 -- `lines::put_result` meets its contract: the line is short enough.
 use borrow.Author.Rules.{rules}
-use Prim.Native.Nat.{ℕ, ◌≤◌, ◌<◌}
+use Prim.Native.Nat.{ℕ}
 use mathlib.Core.Path.{◌≡◌}
 use mir.Val.{Fits}
 use mir.Syntax.{w32}
 use native.Mathlib.Omega.{arith}
-use lib.ListN.{length, get_or, take, length-take}
+use lib.ListN.{length, get_or, length-take}
 use lib.Dec.{lit<}
 use Rattle.syntax.proofs.Answers.{length-answer}
 use Rattle.lines.proofs.Handed.{front_below, none_below}

@@ -2,11 +2,10 @@
 use Prim.Native.Nat.{ℕ, ◌+◌, ◌*◌}
 use mathlib.Core.Path.{◌≡◌, ap, ◌∙◌}
 use native.Mathlib.Omega.{arith}
-use mathlib.Core.List.{List}
-use lib.ListN.{length, take, replicate, length-replicate}
+use lib.ListN.{take, replicate}
 use Rattle.lists.proofs.Lists.{front-zeros}
 use Rattle.lines.proofs.Handed.{length_front}
-use Rattle.lines.proofs.Ends.{request_ready}
+use Rattle.lines.proofs.Ends.{request_ready, zeros_many}
 use Rattle.settings.specs.Sizes.{width}
 use Rattle.lines.specs.Run.{count_for, most_numbers}
 use Rattle.lines.specs.Plain.{drawn_for}
@@ -14,10 +13,6 @@ use Rattle.settings.specs.declared.Settings.{Settings}
 use Rattle.settings.specs.Settings.{params_in}
 use Rattle.settings.specs.Sizes.{draw_length}
 use Rattle.lines.proofs.run_request.Goals as goal
-
--- so many zeros are lent
-many : (l : List ℕ) → l ≡ replicate most_numbers 0 → length l ≡ most_numbers
-many l e = ap length e ∙ length-replicate {A = ℕ} most_numbers 0
 
 pub draw_length-drawn-requires : goal.draw_length-drawn-requires
 draw_length-drawn-requires c =
@@ -29,13 +24,13 @@ pub slice_bounds-run_in-end : goal.slice_bounds-run_in-end
 slice_bounds-run_in-end c =
     let a = c.args in
     let p = c.requires in
-    omega (arith, (request_ready a.serial a.request p.request_value).shape.most, c.draw_length-drawn.ensures.1, many _ p.numbers_value)
+    omega (arith, (request_ready a.serial a.request p.request_value).shape.most, c.draw_length-drawn.ensures.1, zeros_many p.lent_to_line)
 
 pub slice_bounds-run_in-end-2 : goal.slice_bounds-run_in-end-2
 slice_bounds-run_in-end-2 c =
     let a = c.args in
     let p = c.requires in
-    length_front _ _ (omega (arith, (request_ready a.serial a.request p.request_value).shape.most, c.draw_length-drawn.ensures.1, many _ p.numbers_value))
+    length_front _ _ (omega (arith, (request_ready a.serial a.request p.request_value).shape.most, c.draw_length-drawn.ensures.1, zeros_many p.lent_to_line))
 
 pub run_in-requires : goal.run_in-requires
 run_in-requires c =
@@ -48,7 +43,8 @@ run_in-requires c =
     let size : 2 * (a.request.count * width) + draw-length.result ≡ count_for a.request = omega (arith, drawn) in
     record {
       request_value = p.request_value;
-      numbers_value = ap (take (2 * (a.request.count * width) + draw-length.result)) p.numbers_value
+      numbers_value = ap (take (2 * (a.request.count * width) + draw-length.result)) p.lent_to_line.zeros
           ∙ front-zeros (2 * (a.request.count * width) + draw-length.result) most_numbers (omega (arith, ready.shape.most, draw-length.ensures.1))
           ∙ ap (λ (n : ℕ). replicate n 0) size;
+      room_for_run = p.lent_to_line.room;
     }

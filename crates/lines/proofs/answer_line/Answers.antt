@@ -1,6 +1,6 @@
--- `lines::LineRunner::answer_line` meets its contract.
+-- `lines::answer_line` meets its contract.
 use Rattle.lines.specs.Plain.{line_answer}
-use Rattle.lines.proofs.LineRunner.answer_line.Goals as goal
+use Rattle.lines.proofs.answer_line.Goals as goal
 
 pub returns-clause-text_after : goal.returns-clause-text_after
 unfolding line_answer
