@@ -1,12 +1,13 @@
 -- Decimals: from their last digit, and how many digits they have.
-use Prim.Native.Nat.{ℕ, zero, suc, ◌*◌, ◌-◌, ◌/◌, ◌≤◌, ◌<◌}
-use mathlib.Core.Path.{◌≡◌, refl}
+use Prim.Native.Nat.{ℕ, zero, suc, ◌+◌, ◌*◌, ◌-◌, ◌/◌, ◌≤◌, ◌<◌}
+use mathlib.Core.Path.{◌≡◌, refl, sym, ◌∙◌}
 use mathlib.Core.Bool.{Bool, true, false, cond}
-use mathlib.Core.List.{List, [], ◌∷◌, ◌++◌}
+use mathlib.Core.List.{List, [], ◌∷◌, ◌++◌, append-nil, append_assoc}
 use native.Mathlib.Omega.{arith}
 use lib.Dec.{ltb}
 use borrow.Author.Tests.{lt-ltb, le-ltb}
-use lib.ListN.{length, get_or, length-append}
+use lib.ListN.{length, get_or, set, drop, length-append, drop_of_length-le}
+use Rattle.std.proofs.lemmas.List.{drop-set}
 use Rattle.text.specs.Decimal.{too_large}
 use Rattle.text.specs.Text.{decimal_in, decimal, last_digit, numbers_text}
 
@@ -24,6 +25,26 @@ pub decimal-more : (k n : ℕ) → (k ≡ 0 → ⊥) → 10 ≤ n → decimal_in
 unfolding decimal_in
 decimal-more zero n h l = absurd (h refl)
 decimal-more (suc k) n h l = let e : suc k - 1 ≡ k = omega arith in rw (e, le-ltb n 10 l) refl
+
+-- the digits from place k on, where what is left of the number is n
+module _ (digits : List ℕ) (k n number : ℕ) (some : 1 ≤ k) (long : k ≤ length digits) (written : decimal_in (k - 1) n ++ drop k digits ≡ decimal number) where
+  one_more : drop (k - 1) (set digits (k - 1) (last_digit n)) ≡ last_digit n ∷ drop k digits
+  one_more =
+      let e : k - 1 + 1 ≡ k = omega arith in
+      rw e at (drop-set digits (k - 1) (last_digit n) (omega arith))
+
+  -- its last digit is its first
+  pub digit_last : decimal_in (k - 1) n ≡ last_digit n ∷ [] → drop (k - 1) (set digits (k - 1) (last_digit n)) ≡ decimal number
+  digit_last e = one_more ∙ rw e at written
+
+  pub digit_more : 1 < k → 10 ≤ n → decimal_in (k - 1 - 1) (n / 10) ++ drop (k - 1) (set digits (k - 1) (last_digit n)) ≡ decimal number
+  digit_more h l =
+      rw one_more
+      (sym (append_assoc (decimal_in (k - 1 - 1) (n / 10)) (last_digit n ∷ []) (drop k digits)) ∙ rw (decimal-more (k - 1) n (λ z. omega (arith, z)) l) at written)
+
+pub digits_none : (digits : List ℕ) (number : ℕ) → length digits ≡ 20 → decimal_in 19 number ++ drop 20 digits ≡ decimal number
+unfolding decimal
+digits_none digits number e = rw (drop_of_length-le digits {i = 20} (omega (arith, e))) (append-nil (decimal_in 19 number))
 
 -- 10^(k + 1)
 unfoldable pub tens : ℕ → ℕ

@@ -2,11 +2,11 @@
 // slice.
 #![tactic(auto)]
 
-ghost use Rattle.std.specs.Prelude.{◌≡◌, [], ◌∷◌, ◌<◌, length};
+ghost use Rattle.std.specs.Prelude.{◌≡◌, [], ◌∷◌, ◌<◌, length, drop};
 ghost use Rattle.std.specs.Option.{option_map_or};
 ghost use Rattle.text.specs.Decimal.{no_digits, with_digit, number_read, number_in};
 ghost use Rattle.text.specs.Numbers.{start_numbers, with_number_digit, numbers_ended, after_byte, after_bytes, stored, kept, kept_over};
-ghost use Rattle.text.specs.Text.{text_at, text_of, Puts, last_digit, decimal_in, decimal, numbers_text, hex_digit, hex_byte, hex_bytes};
+ghost use Rattle.text.specs.Text.{text_at, text_of, Puts, decimal, numbers_text, hex_digit, hex_byte, hex_bytes};
 
 // ---- A number in a word
 
@@ -173,6 +173,25 @@ pub fn feed_numbers(read: NumbersRead, bytes: &[u8], numbers: &mut [u32]) -> Opt
 
 // ---- Putting
 
+// The most digits of a number.
+const DIGITS: usize = 20;
+
+// Writes a number in decimal to the end of the array, the last digit first: each is what is left of the number modulo 10. The place of the first.
+fn write_decimal(digits: &mut [u8; DIGITS], number: u64) -> usize
+    ensures { (drop result digits.new ≡ decimal number) × (result < 20) }
+{
+    let mut rest = number;
+    for k in (1..DIGITS).rev() {
+        digits[k] = b'0' + (rest % 10) as u8;
+        if rest < 10 {
+            return k;
+        }
+        rest /= 10;
+    }
+    digits[0] = b'0' + (rest % 10) as u8;
+    0
+}
+
 // Text that is put into a lent slice: the slice, and the place of the next byte. What finds no room is left out.
 #[derive(Drop)]
 pub struct TextBuffer<'a> {
@@ -216,30 +235,13 @@ impl<'a> TextBuffer<'a> {
         }
     }
 
-    fn put_last_digit(&mut self, number: u64)
-        ensures { Puts self.old self.new (last_digit number ∷ []) }
-    {
-        self.put_byte(b'0' + (number % 10) as u8);
-    }
-
-    // A number in decimal, of at most `more` digits more than one.
-    fn put_digits(&mut self, number: u64, more: u32)
-        ensures { Puts self.old self.new (decimal_in more number) }
-    {
-        if more == 0 || number < 10 {
-            self.put_last_digit(number);
-            return;
-        }
-        self.put_digits(number / 10, more - 1);
-        self.put_last_digit(number);
-    }
-
     // A number in decimal.
-    #[tactic(auto, unfolding(crate::specs::Text::decimal))]
     pub fn put_number(&mut self, number: u64)
         ensures { Puts self.old self.new (decimal number) }
     {
-        self.put_digits(number, 19);
+        let mut digits = [0u8; DIGITS];
+        let first = write_decimal(&mut digits, number);
+        self.put_bytes(&digits[first..]);
     }
 
     // Numbers in decimal, a blank before each.
