@@ -1,5 +1,6 @@
 -- Laws of bits, of messages and of the form test.
 pub mod Numbers
+pub mod Bytes
 pub mod Packing
 pub mod Reading
 pub mod Writing

@@ -109,14 +109,16 @@ fn get_number(bytes: &[u8]) -> u64
     x
 }
 
-// Fills up to eight bytes with the last bytes of a number.
+// Fills up to eight bytes with the last bytes of a number: the last first, so that each is what is left of it modulo 256.
 fn write_number(out: &mut [u8], x: u64)
     requires { length out.old ≤ 8 }
     ensures { out.new ≡ fill out.old 0 (length out.old) (byte_of (length out.old) x) }
 {
     let count = out.len();
-    for (k, byte) in out.iter_mut().enumerate() {
-        *byte = ((x >> (8 * (count - 1 - k))) % 256) as u8;
+    let mut rest = x;
+    for k in (0..count).rev() {
+        out[k] = (rest % 256) as u8;
+        rest /= 256;
     }
 }
 
