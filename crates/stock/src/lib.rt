@@ -1,10 +1,10 @@
 // Choice of a book from two lent stocks, the one with the least serial above the last; and its questions.
 #![tactic(auto)]
 
-ghost use Rattle.std.specs.Prelude.{◌≡◌, ◌&&◌, ◌%◌, ◌≤◌, ◌<◌, eqb, length, option_map, IfOk};
+ghost use Rattle.std.specs.Prelude.{◌≡◌, ◌&&◌, ◌%◌, ◌≤◌, ◌<◌, eqb, length, option_map};
 ghost use Rattle.settings.specs.Refusals.{refused};
 ghost use Rattle.settings.specs.Sizes.{key_count};
-ghost use Rattle.stock.specs.Stock.{stocked_size, books_of, serial_of, ask_stocks, choose_no, chosen};
+ghost use Rattle.stock.specs.Stock.{stocked_size, books_of, serial_of, is_above, both_stocks, some_of, ask_stocks, choose_no, chosen};
 ghost use Rattle.stock.specs.Scan.{better, scanned};
 
 use settings::{Refusal, Shape, WIDTH, ask_shape, shared_of};
@@ -82,29 +82,22 @@ fn ask_stocks(shape: Shape, first: &[u32], second: &[u32]) -> Result<(), Refusal
     Ok(())
 }
 
-// The book with the least serial above the last, from its serial on.
-fn find<'a>(
-    shape: Shape,
-    first: &'a [u32],
-    second: &'a [u32],
-    last: u32,
-) -> Result<&'a [u32], Refusal>
-    ensures no { refused result ≡ choose_no key_count shape first.now second.now last }
-    ensures book { IfOk result (λ part. part.now ≡ chosen key_count shape first.now second.now last) }
+// Has either stock a serial above the last? The second is looked at only where the first has none.
+fn some_above(size: usize, first: &[u32], second: &[u32], last: u32) -> bool
+    requires { 1 ≤ size }
+    ensures { result ≡ some_of (is_above last) (both_stocks size first.now second.now) }
 {
-    ask_stocks(shape, first, second)?;
-    let size = stocked_size(shape);
-    match scan(last, size, second, scan(last, size, first, None)) {
-        Some(book) => Ok(book.part),
-        None => Err(Refusal::NoBook),
-    }
+    scan(last, size, first, None).is_some() || scan(last, size, second, None).is_some()
 }
 
 // May choose give a book?
 pub fn choose_no(shape: Shape, first: &[u32], second: &[u32], last: u32) -> Result<(), Refusal>
     ensures { refused result ≡ choose_no key_count shape first.now second.now last }
 {
-    find(shape, first, second, last)?;
+    ask_stocks(shape, first, second)?;
+    if !some_above(stocked_size(shape), first, second, last) {
+        return Err(Refusal::NoBook);
+    }
     Ok(())
 }
 
@@ -112,5 +105,12 @@ pub fn choose_no(shape: Shape, first: &[u32], second: &[u32], last: u32) -> Resu
 pub fn choose<'a>(shape: Shape, first: &'a [u32], second: &'a [u32], last: u32) -> &'a [u32]
     ensures { result.now ≡ chosen key_count shape first.now second.now last }
 {
-    find(shape, first, second, last).unwrap_or(&second[..0])
+    if ask_stocks(shape, first, second).is_err() {
+        return &second[..0];
+    }
+    let size = stocked_size(shape);
+    match scan(last, size, second, scan(last, size, first, None)) {
+        Some(book) => book.part,
+        None => &second[..0],
+    }
 }
