@@ -8,8 +8,9 @@ use native.Mathlib.Omega.{arith}
 use lib.Dec.{eqb}
 use lib.ListN.{length, get_or}
 use borrow.Author.Tests.{eqb-true, ne_eqb}
-use Rattle.lists.specs.Lists.{all_below}
-use Rattle.lists.proofs.Lists.{length-list_from, get_d_list_to}
+use Rattle.lists.specs.Lists.{fill, all_below}
+use Rattle.lists.proofs.Fill.{whole_is}
+use Rattle.lists.proofs.Lists.{length-list_from, get_d_list_to, list_to_get_d}
 use Rattle.lists.proofs.Every.{below_at}
 use Rattle.lists.proofs.Questions.{passed, both_yes}
 use Rattle.field.specs.Field.{q, mul}
@@ -41,6 +42,10 @@ pointwise-low w u v e =
   where
     entry : ℕ → ℕ
     entry i = mul q (get_or u i 0) (get_or v i 0)
+
+-- a row that is copied number by number
+pub copied : (out row now : List ℕ) (i : ℕ) → length out ≡ 256 → length row ≡ 256 → i ≡ 256 → now ≡ fill out 0 i (λ (k : ℕ). get_or row k 0) → now ≡ row
+copied out row now i long whole all e = rw (e, all, whole_is out 256 (λ (k : ℕ). get_or row k 0) long, ← whole) (list_to_get_d row)
 
 -- a call by its first no
 pub refuses : (e : Refusal) (refusal : ℕ) (result out : List ℕ) → number_of e ≡ refusal → record { refused = number_of e; out = out } ≡ called refusal result out

@@ -445,13 +445,24 @@ fn multiply(u: &[u32; SIZE], v: &mut [u32; SIZE])
     }
 }
 
+// The transform of a row of 256 numbers below q, not reduced. The row is copied number by number: a copy of the whole array would be a call of
+// memcpy, which the phone's archive would then need from outside.
+fn unreduced(row: &[u32; SIZE], out: &mut [u32; SIZE])
+    requires { Below q row.now }
+    ensures { out.new ≡ lazy_to 8 row.now }
+{
+    for (i, x) in out.iter_mut().enumerate() {
+        *x = row[i];
+    }
+    forward(out);
+}
+
 // The product of a row and of what `left` is the transform of, reduced or not.
 fn product_with(left: &[u32; SIZE], row: &[u32; SIZE], out: &mut [u32; SIZE])
     requires { Below q row.now }
     ensures { out.new ≡ inverse_ntt (pointwise left.now (ntt row.now)) }
 {
-    *out = *row;
-    forward(out);
+    unreduced(row, out);
     multiply(left, out);
     inverse(out);
 }
@@ -461,8 +472,8 @@ fn product(public: &[u32; SIZE], row: &[u32; SIZE], out: &mut [u32; SIZE])
     requires { Below q public.now × Below q row.now }
     ensures { out.new ≡ product_of public.now row.now }
 {
-    let mut left = *public;
-    forward(&mut left);
+    let mut left = [0u32; SIZE];
+    unreduced(public, &mut left);
     product_with(&left, row, out);
 }
 
@@ -530,8 +541,7 @@ pub fn ring_transform(public: &[u32], out: &mut [u32]) -> Result<(), Refusal>
 {
     ask_transform(public, out)?;
     let out = out.as_mut_array().unwrap();
-    *out = *whole(public);
-    forward(out);
+    unreduced(whole(public), out);
     reduce(out);
     Ok(())
 }

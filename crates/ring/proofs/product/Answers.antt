@@ -10,6 +10,6 @@ use Rattle.ring.proofs.product.Goals as goal
 pub returns : goal.returns
 returns c =
     c.product_with.ensures
-    ∙ ap (λ (l : List ℕ). inverse_ntt (pointwise l (ntt c.args.row.now))) c.forward.ensures
+    ∙ ap (λ (l : List ℕ). inverse_ntt (pointwise l (ntt c.args.row.now))) c.unreduced.ensures
     ∙ ap inverse_ntt (on_the_left c.args.public.now (omega arith) c.requires.0 (ntt c.args.row.now))
     ∙ product-same c.args.public.now c.args.row.now (omega arith) (omega arith)

@@ -13,4 +13,4 @@ pub returns : goal.returns
 returns c =
     c.inverse.ensures
     ∙ ap inverse_ntt
-    (c.multiply.ensures ∙ ap (pointwise c.args.left.now) c.forward.ensures ∙ on_the_right c.args.row.now (omega arith) c.requires c.args.left.now)
+    (c.multiply.ensures ∙ ap (pointwise c.args.left.now) c.unreduced.ensures ∙ on_the_right c.args.row.now (omega arith) c.requires c.args.left.now)

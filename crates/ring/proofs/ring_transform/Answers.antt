@@ -17,4 +17,4 @@ pub returns : goal.returns
 unfolding transform_call
 returns c =
     goes _ _ _ _ c.in_ok-ask_transform.ensures.asked
-    (c.reduce.ensures ∙ ap reduced (c.forward.ensures ∙ ap (lazy_to 8) c.whole.ensures) ∙ reduced-is _ c.in_ok-ask_transform.ensures.ready.0.0 c.in_ok-ask_transform.ensures.ready.0.1)
+    (c.reduce.ensures ∙ ap reduced (c.unreduced.ensures ∙ ap (lazy_to 8) c.whole.ensures) ∙ reduced-is _ c.in_ok-ask_transform.ensures.ready.0.0 c.in_ok-ask_transform.ensures.ready.0.1)
