@@ -1,5 +1,6 @@
 -- What the calls give, by what their questions say.
 use mathlib.Core.Path.{◌≡◌, refl, sym, ap, ◌∙◌}
+use mathlib.Core.Bool.{Bool, true, false, cond}
 use mathlib.Core.List.{List}
 use Prim.Native.Nat.{ℕ, ◌<◌}
 use lib.Dec.{eqb}
@@ -16,7 +17,7 @@ use Rattle.settings.specs.Refusals.{Outcome, Gives, No, outcome}
 use Rattle.settings.specs.declared.Refusal.{Refusal}
 use Rattle.generator.specs.declared.Generator.{Generator}
 use Rattle.generator.specs.Step.{stepped, outputs}
-use Rattle.generator.specs.Calls.{seed_call, draw_no, draw_call}
+use Rattle.generator.specs.Calls.{Drew, seed_call, draw_no, draw_call}
 
 module _ (k state : ℕ) (a : Shape) (out : List ℕ) where
   -- a refusal leaves the state and the lent draw as they were
@@ -36,6 +37,18 @@ module _ (k state : ℕ) (a : Shape) (out : List ℕ) where
 
   pub drawn-all : draw_no k a out ≡ 0 → draw_call k state a out ≡ record { refused = 0; state = stepped (length out) state; out = outputs q state (length out) }
   drawn-all e = sym (drew (stepped (length out) state) (outputs q state (length out)) (sym e) refl refl)
+
+  -- a plain state is given back by a draw that is refused, and so is the draw
+  pub stays : (code after : ℕ) (out' : List ℕ) → ◌≡◌ {A = Drew} (record { refused = code; state = after; out = out' }) (draw_call k state a out) → ¬ (code ≡ 0)
+      → record { refused = code; state = state; out = out' } ≡ draw_call k state a out
+  unfolding draw_call
+  stays code after out' e h = by (draw_no k a out) (eqb (draw_no k a out) 0) refl e
+    where
+      by : (n : ℕ) (b : Bool) → eqb n 0 ≡ b
+          → ◌≡◌ {A = Drew} (record { refused = code; state = after; out = out' }) (cond b (record { refused = 0; state = stepped (draw_length (params_of a) (width_of k)) state; out = outputs q state (draw_length (params_of a) (width_of k)) }) (record { refused = n; state = state; out = out }))
+          → ◌≡◌ {A = Drew} (record { refused = code; state = state; out = out' }) (cond b (record { refused = 0; state = stepped (draw_length (params_of a) (width_of k)) state; out = outputs q state (draw_length (params_of a) (width_of k)) }) (record { refused = n; state = state; out = out }))
+      by n true z f = absurd (h (ap (λ (d : Drew). d.refused) f))
+      by n false z f = rw (ap (λ (d : Drew). d.refused) f, ap (λ (d : Drew). d.out) f) refl
 
 -- ---- a generator that is made
 

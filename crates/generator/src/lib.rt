@@ -2,6 +2,7 @@
 #![tactic(auto)]
 
 ghost use Rattle.std.specs.Prelude.{◌≡◌, length};
+ghost use Rattle.std.specs.Result.{result_unwrap_or};
 ghost use Rattle.field.specs.Field.{q};
 ghost use Rattle.settings.specs.Refusals.{refused, outcome};
 ghost use Rattle.settings.specs.Sizes.{key_count};
@@ -78,4 +79,13 @@ pub fn draw(generator: &mut Generator, shape: Shape, out: &mut [u32]) -> Result<
     ask_draw(shape, out)?;
     fill_outputs(generator, out);
     Ok(())
+}
+
+// The same, for a caller that keeps the state as a plain number: the state after the draw.
+pub fn draw_by(state: u32, shape: Shape, out: &mut [u32]) -> Result<u32, Refusal>
+    ensures { record { refused = refused result; state = result_unwrap_or result state; out = out.new } ≡ draw_call key_count state shape out.old }
+{
+    let mut generator = Generator { state };
+    draw(&mut generator, shape, out)?;
+    Ok(generator.state)
 }
